@@ -1,0 +1,3 @@
+pub mod boxed
+pub mod list
+pub mod text_map

@@ -1,0 +1,102 @@
+ghost use Rattle.std.specs.Prelude.{◌≡◌, IfOk};
+ghost use Rattle.std.specs.Option.{option_copied};
+
+use crate::boxed::Boxed;
+use crate::list::{List, item_at};
+use crate::memory::Memory;
+use crate::text::Text;
+use crate::text_map::TextMap;
+use std::alloc::Global;
+
+/// Trees under distinct keys, in the order of their first puts.
+pub type Map = TextMap<Tree>;
+
+/// A step from a tree to one that it holds.
+#[derive(Debug, PartialEq, Eq, Drop)]
+pub enum Step {
+    Key(Text),
+    /// A place in a sequence, from 0.
+    Index(u32),
+}
+
+/// Steps from a tree to one deep in it.
+pub type Path = List<Step>;
+
+/// A tree of text, as a YAML text spells it. `Reset` and `Override` are the Compose Specification's marks
+/// `!reset` and `!override`, which merging takes away.
+#[derive(Drop)]
+pub enum Tree {
+    Null,
+    Scalar(Text),
+    Map(Map),
+    Seq(List<Tree>),
+    Reset,
+    Override(Boxed<Tree>),
+}
+
+impl Tree {
+    ghost use Rattle.tree_base.specs.Paths.{child_at, tree_at};
+
+    /// A copy, which equals the tree.
+    #[cycle(copy)]
+    pub fn copy(&self, alloc: Global) -> Result<Tree, Memory>
+        ensures { IfOk result (λ t. t ≡ self.now) }
+    {
+        match self {
+            Tree::Null => Ok(Tree::Null),
+            Tree::Scalar(text) => Ok(Tree::Scalar(text.copy(alloc)?)),
+            Tree::Map(entries) => Ok(Tree::Map(Tree::copy_entries(entries, alloc)?)),
+            Tree::Seq(items) => Ok(Tree::Seq(Tree::copy_all(items.as_slice(), alloc)?)),
+            Tree::Reset => Ok(Tree::Reset),
+            Tree::Override(inner) => {
+                Ok(Tree::Override(Boxed::new(alloc, inner.get().copy(alloc)?)?))
+            }
+        }
+    }
+
+    #[cycle(copy)]
+    fn copy_all(items: &[Tree], alloc: Global) -> Result<List<Tree>, Memory>
+        ensures { IfOk result (λ l. l ≡ items.now) }
+    {
+        let mut copies = List::new(alloc);
+        for item in items {
+            copies.push(item.copy(alloc)?)?;
+        }
+        Ok(copies)
+    }
+
+    #[cycle(copy)]
+    fn copy_entries(entries: &Map, alloc: Global) -> Result<Map, Memory>
+        ensures { IfOk result (λ m. m ≡ entries.now) }
+    {
+        let values = Tree::copy_all(entries.values(), alloc)?;
+        entries.with_values(alloc, values)
+    }
+
+    /// The tree that one step leads to; None exactly where it leads nowhere. No memory.
+    pub fn child(&self, step: &Step) -> Option<&Tree>
+        ensures { option_copied result ≡ child_at self.now step.now }
+    {
+        match step {
+            Step::Key(key) => match self {
+                Tree::Map(entries) => entries.get(key),
+                _ => None,
+            },
+            Step::Index(at) => match self {
+                Tree::Seq(items) => item_at(items.as_slice(), *at as usize),
+                _ => None,
+            },
+        }
+    }
+
+    /// The tree that a path leads to; None exactly where it leads nowhere. No memory.
+    pub fn at(&self, path: &Path) -> Option<&Tree>
+        ensures { option_copied result ≡ tree_at self.now path.now }
+    {
+        let mut tree = self;
+        for step in path.as_slice() {
+            tree = tree.child(step)?;
+        }
+        Some(tree)
+    }
+}

@@ -1,0 +1,69 @@
+ghost use Rattle.std.specs.Prelude.{◌≡◌, IfOk};
+
+use crate::list::List;
+use crate::memory::Memory;
+use crate::text::Text;
+use crate::text_map::TextMap;
+use crate::tree::{Step, Tree};
+use std::alloc::Global;
+
+/// What can be copied where there is memory. A copy equals the value that it copies.
+pub trait TryCopy {
+    /// A copy with memory of its own.
+    fn copy(&self, alloc: Global) -> Result<Self, Memory>
+        ensures { IfOk result (λ c. c ≡ self.now) };
+}
+
+impl TryCopy for Text {
+    fn copy(&self, alloc: Global) -> Result<Text, Memory> {
+        Text::copy(self, alloc)
+    }
+}
+
+impl TryCopy for Tree {
+    fn copy(&self, alloc: Global) -> Result<Tree, Memory> {
+        Tree::copy(self, alloc)
+    }
+}
+
+impl TryCopy for Step {
+    fn copy(&self, alloc: Global) -> Result<Step, Memory> {
+        match self {
+            Step::Key(key) => Ok(Step::Key(key.copy(alloc)?)),
+            Step::Index(at) => Ok(Step::Index(*at)),
+        }
+    }
+}
+
+impl<T: TryCopy + Drop> TryCopy for Option<T> {
+    fn copy(&self, alloc: Global) -> Result<Option<T>, Memory> {
+        match self {
+            None => Ok(None),
+            Some(value) => Ok(Some(value.copy(alloc)?)),
+        }
+    }
+}
+
+impl<T: TryCopy + Drop> TryCopy for List<T> {
+    fn copy(&self, alloc: Global) -> Result<List<T>, Memory> {
+        copy_slice(alloc, self.as_slice())
+    }
+}
+
+impl<V: TryCopy + Drop> TryCopy for TextMap<V> {
+    fn copy(&self, alloc: Global) -> Result<TextMap<V>, Memory> {
+        let values = copy_slice(alloc, self.values())?;
+        self.with_values(alloc, values)
+    }
+}
+
+/// Copies of all items of a slice.
+pub fn copy_slice<T: TryCopy + Drop>(alloc: Global, items: &[T]) -> Result<List<T>, Memory>
+    ensures { IfOk result (λ l. l ≡ items.now) }
+{
+    let mut copies = List::new(alloc);
+    for item in items {
+        copies.push(item.copy(alloc)?)?;
+    }
+    Ok(copies)
+}
