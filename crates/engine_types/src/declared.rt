@@ -1,0 +1,78 @@
+use crate::container::ContainerSpec;
+use crate::resource::{NetworkSpec, VolumeSpec};
+use tree_base::{List, Text};
+
+/// What a project declares: its slots in byte order of service, then by number, its networks and volumes
+/// in byte order of name.
+#[derive(Debug, Drop)]
+pub struct Declared {
+    pub project: Text,
+    pub slots: List<Slot>,
+    pub networks: List<NetworkSpec>,
+    pub volumes: List<VolumeSpec>,
+}
+
+/// A place for one container of a service.
+#[derive(Debug, Drop)]
+pub struct Slot {
+    pub service: Text,
+    /// From 1.
+    pub number: u32,
+    /// The container's name.
+    pub name: Text,
+    pub image: Text,
+    pub policy: Policy,
+    pub has_build: bool,
+    /// The configuration's hash, in lower hexadecimal.
+    pub hash: Text,
+    pub spec: ContainerSpec,
+    /// In order of the network's name.
+    pub attach: List<Attach>,
+    /// In order of the needed slot.
+    pub needs: List<Need>,
+    pub goal: Condition,
+    /// The seconds that a stop waits before it kills.
+    pub stop_seconds: u64,
+}
+
+/// A network that a slot's container is on: its place among the declared networks.
+#[derive(Debug, Drop)]
+pub struct Attach {
+    pub network: u32,
+    pub aliases: List<Text>,
+}
+
+/// What a slot's start waits for: a condition on another slot, by its place.
+#[derive(Debug, Clone, Copy, PartialEq, Eq)]
+pub struct Need {
+    pub slot: u32,
+    pub condition: Condition,
+    pub required: bool,
+}
+
+/// What is asked of a container: the conditions of the Compose Specification's `depends_on`, and `Running`.
+#[derive(Debug, Clone, Copy, PartialEq, Eq)]
+pub enum Condition {
+    Started,
+    Healthy,
+    Completed,
+    Running,
+}
+
+/// When an image is pulled: the Compose Specification's `pull_policy`.
+#[derive(Debug, Clone, Copy, PartialEq, Eq)]
+pub enum Policy {
+    Always,
+    Missing,
+    Never,
+}
+
+/// The kinds of things that a project names.
+#[derive(Debug, Clone, Copy, PartialEq, Eq)]
+pub enum Kind {
+    Service,
+    Network,
+    Volume,
+    Secret,
+    Config,
+}

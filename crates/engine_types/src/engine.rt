@@ -1,0 +1,29 @@
+use crate::container::ContainerSpec;
+use crate::reply::{ImageRow, NetRow, Report};
+use crate::resource::Pairs;
+use tree_base::{List, Text};
+
+/// What an Engine holds.
+#[derive(Debug, Drop)]
+pub struct Engine {
+    pub containers: List<ContainerRow>,
+    pub networks: List<NetRow>,
+    /// The names of the volumes.
+    pub volumes: List<Text>,
+    pub images: List<ImageRow>,
+    /// The number that the next id spells.
+    pub next: u64,
+}
+
+/// A container of an Engine.
+#[derive(Debug, Drop)]
+pub struct ContainerRow {
+    pub id: Text,
+    pub name: Text,
+    pub spec: ContainerSpec,
+    pub labels: Pairs,
+    pub image_id: Text,
+    /// The ids of its networks.
+    pub networks: List<Text>,
+    pub report: Report,
+}

@@ -1,0 +1,30 @@
+use tree_base::List;
+
+/// What a run has to do: its actions, numbered by their places.
+#[derive(Debug, Drop)]
+pub struct Plan {
+    pub actions: List<Action>,
+}
+
+/// An action with the numbers of those that it needs.
+#[derive(Debug, Drop)]
+pub struct Action {
+    pub kind: ActionKind,
+    pub needs: List<u32>,
+}
+
+/// What an action does. Slots, networks and volumes are places in the declared set, containers places
+/// among those that were seen.
+#[derive(Debug, Clone, Copy, PartialEq, Eq)]
+pub enum ActionKind {
+    MakeVolume { volume: u32 },
+    MakeNetwork { network: u32 },
+    StopContainer { container: u64 },
+    RemoveContainer { container: u64 },
+    CreateSlot { slot: u32 },
+    /// `attach` is a place among the slot's attaches.
+    ConnectSlot { slot: u32, attach: u32 },
+    StartSlot { slot: u32 },
+    RemoveNetwork { network: u32 },
+    RemoveVolume { volume: u32 },
+}
