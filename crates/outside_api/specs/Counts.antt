@@ -1,0 +1,6 @@
+-- Counts that never fall, and stand still at the greatest number of 64 bits.
+use Rattle.std.specs.Prelude.{ℕ, ◌<◌, ◌≤◌, ◌⊎◌, ◌≡◌}
+
+-- a count rose in a call; it counts as risen too where it stood at its greatest number
+abbrev pub Rose : ℕ → ℕ → Type 0
+Rose old new = (old < new) ⊎ (18446744073709551615 ≤ old)

@@ -1,0 +1,8 @@
+pub mod Clock
+pub mod Counts
+pub mod Files
+pub mod Hands
+pub mod Pipes
+pub mod Plugs
+pub mod Sinks
+pub mod Wires

@@ -1,0 +1,72 @@
+ghost use Rattle.std.specs.Prelude.{◌≡◌, ◌⊎◌, None};
+ghost use Rattle.outside_api.specs.Counts.{Rose};
+ghost use Rattle.outside_api.specs.declared.FileAnswer.TheVariants.{Failed};
+
+use crate::files::{FileAnswer, Files};
+use std::alloc::Global;
+use std::io::{Error, ErrorKind, Read};
+use std::{fs, rt};
+use tree_base::{List, Text};
+
+/// The files of the disk. It tells no content, and counts each read that failed.
+#[derive(Drop)]
+pub struct DiskFiles<'r, R: rt::Files> {
+    rt: &'r R,
+    failed: u64,
+}
+
+impl<'r, R: rt::Files> DiskFiles<'r, R> {
+    /// The files that the runtime reaches. No memory.
+    pub fn new(rt: &'r R) -> DiskFiles<'r, R> {
+        DiskFiles { rt, failed: 0 }
+    }
+
+    fn answer_to(&mut self, error: Error) -> FileAnswer
+        ensures failed { result ≡ Failed → Rose self.old.failed self.new.failed }
+        ensures kept { (self.new.failed ≡ self.old.failed) ⊎ Rose self.old.failed self.new.failed }
+    {
+        match error.kind() {
+            ErrorKind::NotFound => FileAnswer::Missing,
+            ErrorKind::OutOfMemory => FileAnswer::Memory,
+            _ => {
+                self.failed = self.failed.saturating_add(1);
+                FileAnswer::Failed
+            }
+        }
+    }
+}
+
+impl<'r, R: rt::Files> Files for DiskFiles<'r, R> {
+    ghost told = { λ _. None };
+
+    ghost faults = { λ files. files.failed };
+
+    fn read(&mut self, alloc: Global, path: &Text, limit: u64) -> FileAnswer {
+        let mut file = match fs::open(self.rt, path.as_str()) {
+            Ok(file) => file,
+            Err(error) => return self.answer_to(error),
+        };
+        match read_within(alloc, &mut file, limit) {
+            Ok(Some(bytes)) => FileAnswer::Bytes(bytes),
+            Ok(None) => FileAnswer::Longer,
+            Err(error) => self.answer_to(error),
+        }
+    }
+}
+
+/// All bytes of a reader, or None where there are more than the limit.
+fn read_within<F: Read>(alloc: Global, file: &mut F, limit: u64) -> Result<Option<List<u8>>, Error> {
+    let mut bytes = Vec::new(alloc);
+    let mut room = [0u8; 16384];
+    for _ in 0..u64::MAX {
+        let taken = file.read(&mut room)?;
+        if taken == 0 {
+            break;
+        }
+        if taken as u64 > limit.saturating_sub(bytes.len() as u64) {
+            return Ok(None);
+        }
+        bytes.extend_from_slice(&room[..taken])?;
+    }
+    Ok(Some(List::from_vec(bytes)))
+}

@@ -1,0 +1,50 @@
+ghost use Rattle.std.specs.Prelude.{◌≡◌, ℕ, ◌+◌, ◌<◌, ◌≤◌, ◌^◌, [], Option, ForSome};
+ghost use Rattle.engine_types.specs.declared.Engine.{Engine};
+ghost use Rattle.outside_api.specs.Clock.{new_clock};
+ghost use Rattle.outside_api.specs.Counts.{Rose};
+ghost use Rattle.outside_api.specs.Hands.{BeginsWith};
+ghost use Rattle.outside_api.specs.Plugs.{CountsDial};
+
+use crate::hand::Hand;
+use crate::wire::DialAnswer;
+use std::alloc::Global;
+use tree_base::Text;
+
+/// The Engine that hands are to speak with.
+#[derive(Debug, Drop)]
+pub enum Target {
+    /// The one behind a socket at a path.
+    Socket(Text),
+    InMemory,
+}
+
+/// Makes hands.
+pub trait Plug: Drop {
+    type Hand: Hand;
+
+    /// The Engine that new hands begin with, where it is told.
+    ghost engine: { Self → Option Engine };
+
+    /// How many hands were made, where it is told.
+    ghost dialled: { Self → Option ℕ };
+
+    /// How many dials failed.
+    ghost faults: { Self → ℕ };
+
+    /// Makes the hand of a worker, by its number. The hand's log is empty, and its clock was never used.
+    fn dial(
+        &mut self,
+        alloc: Global,
+        target: &Target,
+        stop_file: Option<&Text>,
+        number: u32,
+    ) -> DialAnswer<Self::Hand>
+        requires { ForSome (dialled self.old) (λ n. n < 2 ^ 62) }
+        ensures counted { faults self.old ≤ faults self.new }
+        ensures failed { result ≡ DialAnswer.Failed → Rose (faults self.old) (faults self.new) }
+        ensures dialled { CountsDial (dialled self.old) (dialled self.new) result }
+        ensures log { (hand : Self.Hand) → result ≡ DialAnswer.Dialled hand → Self.Hand.log hand ≡ [] }
+        ensures clock { (hand : Self.Hand) → result ≡ DialAnswer.Dialled hand → Self.Hand.clock hand ≡ new_clock }
+        ensures faults { (hand : Self.Hand) → result ≡ DialAnswer.Dialled hand → Self.Hand.faults hand ≡ 0 }
+        ensures engine { (hand : Self.Hand) → result ≡ DialAnswer.Dialled hand → BeginsWith (engine self.old) (Self.Hand.engine hand) };
+}
