@@ -113,6 +113,17 @@ impl<T: Drop> List<T> {
     }
 }
 
+impl<T: Copy> List<T> {
+    /// Puts all items of a slice last.
+    pub fn extend_from_slice(&mut self, items: &[T]) -> Result<(), Memory>
+        ensures ok { OnOk result (self.new ≡ self.old ++ items.now) }
+        ensures err { OnErr result (self.new ≡ self.old) }
+    {
+        self.items.extend_from_slice(items)?;
+        Ok(())
+    }
+}
+
 /// The item of a slice at a place, as one equation. No memory.
 pub fn item_at<T>(items: &[T], at: usize) -> Option<&T>
     ensures { option_copied result ≡ slice_get items.now at }

@@ -35,6 +35,42 @@ impl TryCopy for Step {
     }
 }
 
+impl TryCopy for u8 {
+    fn copy(&self, _: Global) -> Result<u8, Memory> {
+        Ok(*self)
+    }
+}
+
+impl TryCopy for u16 {
+    fn copy(&self, _: Global) -> Result<u16, Memory> {
+        Ok(*self)
+    }
+}
+
+impl TryCopy for u32 {
+    fn copy(&self, _: Global) -> Result<u32, Memory> {
+        Ok(*self)
+    }
+}
+
+impl TryCopy for u64 {
+    fn copy(&self, _: Global) -> Result<u64, Memory> {
+        Ok(*self)
+    }
+}
+
+impl TryCopy for i64 {
+    fn copy(&self, _: Global) -> Result<i64, Memory> {
+        Ok(*self)
+    }
+}
+
+impl TryCopy for bool {
+    fn copy(&self, _: Global) -> Result<bool, Memory> {
+        Ok(*self)
+    }
+}
+
 impl<T: TryCopy + Drop> TryCopy for Option<T> {
     fn copy(&self, alloc: Global) -> Result<Option<T>, Memory> {
         match self {
