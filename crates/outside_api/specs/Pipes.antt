@@ -1,8 +1,8 @@
 -- What is told of a connection, and what a read on it may answer.
 use Rattle.std.specs.Prelude.{◌≡◌, ℕ, ◌<◌, ◌≤◌, ◌==◌, ◌||◌, Bool, true, false, List, ◌++◌, length, take, Option, Some, None}
 use Rattle.outside_api.specs.Counts.{Rose}
-use Rattle.outside_api.specs.declared.PipeAnswer.{PipeAnswer}
-use Rattle.outside_api.specs.declared.PipeAnswer.TheVariants.{Got, Failed}
+use Rattle.outside_api.specs.declared.pipe.PipeAnswer.{PipeAnswer}
+use Rattle.outside_api.specs.declared.pipe.PipeAnswer.TheVariants.{Got, Failed}
 
 -- what was written on a connection, what was read from it, and whether a read found its end
 pub record Talk : Type 0 where

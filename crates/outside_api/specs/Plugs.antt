@@ -1,6 +1,6 @@
 -- How a plug counts the hands that it made.
 use Rattle.std.specs.Prelude.{◌≡◌, ℕ, ◌+◌, Option, Some, None}
-use Rattle.outside_api.specs.declared.DialAnswer.{DialAnswer}
+use Rattle.outside_api.specs.declared.wire.DialAnswer.{DialAnswer}
 
 -- the count rises by one exactly where a hand was made
 abbrev pub CountsDial : {T : Type 0} → Option ℕ → Option ℕ → DialAnswer T → Type 0

@@ -2,7 +2,7 @@
 use Rattle.std.specs.Prelude.{◌≡◌, ◌⊎◌, ℕ, zero, suc, ◌+◌, ◌<◌, List, [], ◌∷◌, ◌++◌, Option, Some, None}
 use Rattle.outside_api.specs.Counts.{Rose}
 use Rattle.outside_api.specs.Pipes.{Talk}
-use Rattle.outside_api.specs.declared.DialAnswer.{DialAnswer}
+use Rattle.outside_api.specs.declared.wire.DialAnswer.{DialAnswer}
 
 -- a dial that succeeds is counted by one, and one that fails counts a fault
 abbrev pub Dials : {T : Type 0} → ℕ → ℕ → ℕ → ℕ → DialAnswer T → Type 0

@@ -1,6 +1,6 @@
-ghost use Rattle.std.specs.Prelude.{◌≡◌, ◌⊎◌, None};
+ghost use Rattle.std.specs.Prelude.{◌≡◌, ◌≤◌, None};
 ghost use Rattle.outside_api.specs.Counts.{Rose};
-ghost use Rattle.outside_api.specs.declared.FileAnswer.TheVariants.{Failed};
+ghost use Rattle.outside_api.specs.declared.files.FileAnswer.TheVariants.{Failed};
 
 use crate::files::{FileAnswer, Files};
 use std::alloc::Global;
@@ -23,7 +23,7 @@ impl<'r, R: rt::Files> DiskFiles<'r, R> {
 
     fn answer_to(&mut self, error: Error) -> FileAnswer
         ensures failed { result ≡ Failed → Rose self.old.failed self.new.failed }
-        ensures kept { (self.new.failed ≡ self.old.failed) ⊎ Rose self.old.failed self.new.failed }
+        ensures never_falls { self.old.failed ≤ self.new.failed }
     {
         match error.kind() {
             ErrorKind::NotFound => FileAnswer::Missing,
@@ -55,7 +55,11 @@ impl<'r, R: rt::Files> Files for DiskFiles<'r, R> {
 }
 
 /// All bytes of a reader, or None where there are more than the limit.
-fn read_within<F: Read>(alloc: Global, file: &mut F, limit: u64) -> Result<Option<List<u8>>, Error> {
+fn read_within<F: Read>(
+    alloc: Global,
+    file: &mut F,
+    limit: u64,
+) -> Result<Option<List<u8>>, Error> {
     let mut bytes = Vec::new(alloc);
     let mut room = [0u8; 16384];
     for _ in 0..u64::MAX {

@@ -1,4 +1,4 @@
-ghost use Rattle.std.specs.Prelude.{◌≡◌, [], false, MatchBool};
+ghost use Rattle.std.specs.Prelude.{◌≡◌, ◌≤◌, [], false, MatchBool};
 ghost use Rattle.outside_api.specs.Counts.{Rose};
 
 use tree_base::List;
@@ -29,6 +29,7 @@ impl Failing {
     pub fn next_fails(&mut self) -> bool
         ensures fails { self.new.fails ≡ self.old.fails }
         ensures counted { MatchBool result (Rose self.old.failed self.new.failed) (self.new.failed ≡ self.old.failed) }
+        ensures never_falls { self.old.failed ≤ self.new.failed }
         ensures none { self.old.fails ≡ [] → result ≡ false }
     {
         self.calls = self.calls.saturating_add(1);
@@ -43,6 +44,7 @@ impl Failing {
     pub fn count_fault(&mut self)
         ensures fails { self.new.fails ≡ self.old.fails }
         ensures counted { Rose self.old.failed self.new.failed }
+        ensures never_falls { self.old.failed ≤ self.new.failed }
     {
         self.failed = self.failed.saturating_add(1);
     }

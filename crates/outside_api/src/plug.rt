@@ -1,4 +1,5 @@
-ghost use Rattle.std.specs.Prelude.{◌≡◌, ℕ, ◌+◌, ◌<◌, ◌≤◌, ◌^◌, [], Option, ForSome};
+ghost use Rattle.std.specs.Prelude.{◌≡◌, ℕ, ◌+◌, ◌<◌, ◌≤◌, ◌^◌, [], Option};
+ghost use Rattle.std.specs.Option.{ForSome};
 ghost use Rattle.engine_types.specs.declared.Engine.{Engine};
 ghost use Rattle.outside_api.specs.Clock.{new_clock};
 ghost use Rattle.outside_api.specs.Counts.{Rose};
