@@ -1,0 +1,3 @@
+pub mod Directories
+pub mod OneServiceTexts
+pub mod ProjectNames
