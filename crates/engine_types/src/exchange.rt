@@ -1,11 +1,24 @@
+ghost use Rattle.std.specs.Prelude.{◌≡◌, IfOk};
+
 use crate::reply::Reply;
 use crate::request::Request;
+use std::alloc::Global;
+use tree_base::{Memory, TryCopy};
 
 /// A request with what came of it.
 #[derive(Debug, Drop)]
 pub struct Exchange {
     pub request: Request,
     pub outcome: Outcome,
+}
+
+impl TryCopy for Exchange {
+    fn copy(&self, alloc: Global) -> Result<Exchange, Memory> {
+        Ok(Exchange {
+            request: self.request.copy(alloc)?,
+            outcome: self.outcome.copy(alloc)?,
+        })
+    }
 }
 
 /// What came of a request. After Lost or Memory it may have taken effect.
@@ -15,6 +28,17 @@ pub enum Outcome {
     Lost(WireEnd),
     NotSent,
     Memory,
+}
+
+impl TryCopy for Outcome {
+    fn copy(&self, alloc: Global) -> Result<Outcome, Memory> {
+        match self {
+            Outcome::Answered(reply) => Ok(Outcome::Answered(reply.copy(alloc)?)),
+            Outcome::Lost(cause) => Ok(Outcome::Lost(*cause)),
+            Outcome::NotSent => Ok(Outcome::NotSent),
+            Outcome::Memory => Ok(Outcome::Memory),
+        }
+    }
 }
 
 /// Why a response is none.
@@ -27,4 +51,10 @@ pub enum WireEnd {
     Encoded,
     TooLarge,
     BadBody,
+}
+
+impl TryCopy for WireEnd {
+    fn copy(&self, _: Global) -> Result<WireEnd, Memory> {
+        Ok(*self)
+    }
 }

@@ -1,4 +1,7 @@
-use tree_base::List;
+ghost use Rattle.std.specs.Prelude.{◌≡◌, IfOk};
+
+use std::alloc::Global;
+use tree_base::{List, Memory, TryCopy};
 
 /// What a run has to do: its actions, numbered by their places.
 #[derive(Debug, Drop)]
@@ -6,11 +9,34 @@ pub struct Plan {
     pub actions: List<Action>,
 }
 
+impl TryCopy for Plan {
+    fn copy(&self, alloc: Global) -> Result<Plan, Memory> {
+        Ok(Plan {
+            actions: self.actions.copy(alloc)?,
+        })
+    }
+}
+
 /// An action with the numbers of those that it needs.
 #[derive(Debug, Drop)]
 pub struct Action {
     pub kind: ActionKind,
     pub needs: List<u32>,
+}
+
+impl TryCopy for Action {
+    fn copy(&self, alloc: Global) -> Result<Action, Memory> {
+        Ok(Action {
+            kind: self.kind,
+            needs: copy_numbers(alloc, self.needs.as_slice())?,
+        })
+    }
+}
+
+fn copy_numbers(alloc: Global, numbers: &[u32]) -> Result<List<u32>, Memory>
+    ensures { IfOk result (λ l. l ≡ numbers.now) }
+{
+    Ok(List::from_vec(numbers.to_vec(alloc)?))
 }
 
 /// What an action does. Slots, networks and volumes are places in the declared set, containers places
@@ -27,4 +53,10 @@ pub enum ActionKind {
     StartSlot { slot: u32 },
     RemoveNetwork { network: u32 },
     RemoveVolume { volume: u32 },
+}
+
+impl TryCopy for ActionKind {
+    fn copy(&self, _: Global) -> Result<ActionKind, Memory> {
+        Ok(*self)
+    }
 }

@@ -1,5 +1,8 @@
+ghost use Rattle.std.specs.Prelude.{◌≡◌, IfOk};
+
 use crate::resource::Pairs;
-use tree_base::{List, Text};
+use std::alloc::Global;
+use tree_base::{List, Memory, Text, TryCopy};
 
 /// What the Engine answers.
 #[derive(Debug, Drop)]
@@ -21,6 +24,27 @@ pub enum Reply {
     Refused { status: u16, message: Text },
 }
 
+impl TryCopy for Reply {
+    fn copy(&self, alloc: Global) -> Result<Reply, Memory> {
+        match self {
+            Reply::Containers(rows) => Ok(Reply::Containers(rows.copy(alloc)?)),
+            Reply::State(report) => Ok(Reply::State(*report)),
+            Reply::Made(id) => Ok(Reply::Made(id.copy(alloc)?)),
+            Reply::Done => Ok(Reply::Done),
+            Reply::Already => Ok(Reply::Already),
+            Reply::Networks(rows) => Ok(Reply::Networks(rows.copy(alloc)?)),
+            Reply::Volumes(names) => Ok(Reply::Volumes(names.copy(alloc)?)),
+            Reply::ImageId(id) => Ok(Reply::ImageId(id.copy(alloc)?)),
+            Reply::Pulled => Ok(Reply::Pulled),
+            Reply::PullFailed(message) => Ok(Reply::PullFailed(message.copy(alloc)?)),
+            Reply::Refused { status, message } => Ok(Reply::Refused {
+                status: *status,
+                message: message.copy(alloc)?,
+            }),
+        }
+    }
+}
+
 /// A container as a listing shows it.
 #[derive(Debug, Drop)]
 pub struct Listed {
@@ -31,6 +55,19 @@ pub struct Listed {
     pub state: ContainerState,
     /// The names of its networks.
     pub networks: List<Text>,
+}
+
+impl TryCopy for Listed {
+    fn copy(&self, alloc: Global) -> Result<Listed, Memory> {
+        Ok(Listed {
+            id: self.id.copy(alloc)?,
+            name: self.name.copy(alloc)?,
+            image_id: self.image_id.copy(alloc)?,
+            labels: self.labels.copy(alloc)?,
+            state: self.state,
+            networks: self.networks.copy(alloc)?,
+        })
+    }
 }
 
 /// The state of a container: the Engine API's words for `State.Status`.
@@ -45,6 +82,12 @@ pub enum ContainerState {
     Dead,
 }
 
+impl TryCopy for ContainerState {
+    fn copy(&self, _: Global) -> Result<ContainerState, Memory> {
+        Ok(*self)
+    }
+}
+
 /// The health of a container: the Engine API's words for `State.Health.Status`, `Absent` for `none` or
 /// no health.
 #[derive(Debug, Clone, Copy, PartialEq, Eq)]
@@ -55,12 +98,24 @@ pub enum Health {
     Unhealthy,
 }
 
+impl TryCopy for Health {
+    fn copy(&self, _: Global) -> Result<Health, Memory> {
+        Ok(*self)
+    }
+}
+
 /// What an inspection reports of a container.
 #[derive(Debug, Clone, Copy, PartialEq, Eq)]
 pub struct Report {
     pub state: ContainerState,
     pub exit_code: i64,
     pub health: Health,
+}
+
+impl TryCopy for Report {
+    fn copy(&self, _: Global) -> Result<Report, Memory> {
+        Ok(*self)
+    }
 }
 
 /// A network as a listing shows it.
@@ -71,9 +126,28 @@ pub struct NetRow {
     pub labels: Pairs,
 }
 
+impl TryCopy for NetRow {
+    fn copy(&self, alloc: Global) -> Result<NetRow, Memory> {
+        Ok(NetRow {
+            id: self.id.copy(alloc)?,
+            name: self.name.copy(alloc)?,
+            labels: self.labels.copy(alloc)?,
+        })
+    }
+}
+
 /// An image with its id.
 #[derive(Debug, Drop)]
 pub struct ImageRow {
     pub name: Text,
     pub id: Text,
+}
+
+impl TryCopy for ImageRow {
+    fn copy(&self, alloc: Global) -> Result<ImageRow, Memory> {
+        Ok(ImageRow {
+            name: self.name.copy(alloc)?,
+            id: self.id.copy(alloc)?,
+        })
+    }
 }

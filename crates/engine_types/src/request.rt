@@ -1,6 +1,9 @@
+ghost use Rattle.std.specs.Prelude.{◌≡◌, IfOk};
+
 use crate::container::ContainerSpec;
 use crate::resource::{NetworkSpec, VolumeSpec};
-use tree_base::{List, Text};
+use std::alloc::Global;
+use tree_base::{List, Memory, Text, TryCopy};
 
 /// What is asked of the Engine: one call of the Docker Engine API v1.43 each.
 #[derive(Debug, Drop)]
@@ -65,4 +68,60 @@ pub enum Request {
     Pull {
         name: Text,
     },
+}
+
+impl TryCopy for Request {
+    fn copy(&self, alloc: Global) -> Result<Request, Memory> {
+        match self {
+            Request::ListContainers { project } => Ok(Request::ListContainers {
+                project: project.copy(alloc)?,
+            }),
+            Request::Inspect { id } => Ok(Request::Inspect {
+                id: id.copy(alloc)?,
+            }),
+            Request::Create { name, spec } => Ok(Request::Create {
+                name: name.copy(alloc)?,
+                spec: spec.copy(alloc)?,
+            }),
+            Request::Start { id } => Ok(Request::Start {
+                id: id.copy(alloc)?,
+            }),
+            Request::Stop { id, seconds } => Ok(Request::Stop {
+                id: id.copy(alloc)?,
+                seconds: *seconds,
+            }),
+            Request::Remove { id } => Ok(Request::Remove {
+                id: id.copy(alloc)?,
+            }),
+            Request::ListNetworks => Ok(Request::ListNetworks),
+            Request::MakeNetwork { spec } => Ok(Request::MakeNetwork {
+                spec: spec.copy(alloc)?,
+            }),
+            Request::Connect {
+                network,
+                container,
+                aliases,
+            } => Ok(Request::Connect {
+                network: network.copy(alloc)?,
+                container: container.copy(alloc)?,
+                aliases: aliases.copy(alloc)?,
+            }),
+            Request::RemoveNetwork { id } => Ok(Request::RemoveNetwork {
+                id: id.copy(alloc)?,
+            }),
+            Request::ListVolumes => Ok(Request::ListVolumes),
+            Request::MakeVolume { spec } => Ok(Request::MakeVolume {
+                spec: spec.copy(alloc)?,
+            }),
+            Request::RemoveVolume { name } => Ok(Request::RemoveVolume {
+                name: name.copy(alloc)?,
+            }),
+            Request::Image { name } => Ok(Request::Image {
+                name: name.copy(alloc)?,
+            }),
+            Request::Pull { name } => Ok(Request::Pull {
+                name: name.copy(alloc)?,
+            }),
+        }
+    }
 }

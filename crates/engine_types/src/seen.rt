@@ -1,8 +1,11 @@
+ghost use Rattle.std.specs.Prelude.{◌≡◌, IfOk};
+
 use crate::declared::Kind;
 use crate::exchange::{Exchange, WireEnd};
 use crate::reply::{ImageRow, Listed, NetRow};
 use crate::request::Request;
-use tree_base::{List, Text};
+use std::alloc::Global;
+use tree_base::{List, Memory, Text, TryCopy};
 
 /// What an observation saw of the Engine.
 #[derive(Debug, Drop)]
@@ -14,11 +17,28 @@ pub struct Seen {
     pub images: List<ImageRow>,
 }
 
+impl TryCopy for Seen {
+    fn copy(&self, alloc: Global) -> Result<Seen, Memory> {
+        Ok(Seen {
+            containers: self.containers.copy(alloc)?,
+            networks: self.networks.copy(alloc)?,
+            volumes: self.volumes.copy(alloc)?,
+            images: self.images.copy(alloc)?,
+        })
+    }
+}
+
 /// What an observation is made for.
 #[derive(Debug, Clone, Copy, PartialEq, Eq)]
 pub enum Purpose {
     Up,
     Down,
+}
+
+impl TryCopy for Purpose {
+    fn copy(&self, _: Global) -> Result<Purpose, Memory> {
+        Ok(*self)
+    }
 }
 
 /// An observation: its exchanges in order, and how it ended.
@@ -28,11 +48,29 @@ pub struct Observed {
     pub end: SeenEnd,
 }
 
+impl TryCopy for Observed {
+    fn copy(&self, alloc: Global) -> Result<Observed, Memory> {
+        Ok(Observed {
+            exchanges: self.exchanges.copy(alloc)?,
+            end: self.end.copy(alloc)?,
+        })
+    }
+}
+
 /// How an observation ended.
 #[derive(Debug, Drop)]
 pub enum SeenEnd {
     Good(Seen),
     Bad(SeenFault),
+}
+
+impl TryCopy for SeenEnd {
+    fn copy(&self, alloc: Global) -> Result<SeenEnd, Memory> {
+        match self {
+            SeenEnd::Good(seen) => Ok(SeenEnd::Good(seen.copy(alloc)?)),
+            SeenEnd::Bad(fault) => Ok(SeenEnd::Bad(fault.copy(alloc)?)),
+        }
+    }
 }
 
 /// Why nothing can be planned.
@@ -74,4 +112,53 @@ pub enum SeenFault {
         count: u64,
     },
     Memory,
+}
+
+impl TryCopy for SeenFault {
+    fn copy(&self, alloc: Global) -> Result<SeenFault, Memory> {
+        match self {
+            SeenFault::RequestFailed {
+                request,
+                status,
+                message,
+            } => Ok(SeenFault::RequestFailed {
+                request: request.copy(alloc)?,
+                status: *status,
+                message: message.copy(alloc)?,
+            }),
+            SeenFault::PullFailed { image, message } => Ok(SeenFault::PullFailed {
+                image: image.copy(alloc)?,
+                message: message.copy(alloc)?,
+            }),
+            SeenFault::Lost { request, cause } => Ok(SeenFault::Lost {
+                request: request.copy(alloc)?,
+                cause: *cause,
+            }),
+            SeenFault::NotSent { request } => Ok(SeenFault::NotSent {
+                request: request.copy(alloc)?,
+            }),
+            SeenFault::NetworkTwice {
+                name,
+                first,
+                second,
+            } => Ok(SeenFault::NetworkTwice {
+                name: name.copy(alloc)?,
+                first: first.copy(alloc)?,
+                second: second.copy(alloc)?,
+            }),
+            SeenFault::ForeignNetwork { name, id } => Ok(SeenFault::ForeignNetwork {
+                name: name.copy(alloc)?,
+                id: id.copy(alloc)?,
+            }),
+            SeenFault::ExternalMissing { kind, name } => Ok(SeenFault::ExternalMissing {
+                kind: *kind,
+                name: name.copy(alloc)?,
+            }),
+            SeenFault::NeedsBuild { service } => Ok(SeenFault::NeedsBuild {
+                service: service.copy(alloc)?,
+            }),
+            SeenFault::TooManyActions { count } => Ok(SeenFault::TooManyActions { count: *count }),
+            SeenFault::Memory => Ok(SeenFault::Memory),
+        }
+    }
 }

@@ -1,0 +1,26 @@
+//! The labels by which containers, networks and volumes are known to belong to a project: those that Docker
+//! Compose writes.
+
+/// The name of the project.
+pub const PROJECT: &str = "com.docker.compose.project";
+
+/// The name of the container's service.
+pub const SERVICE: &str = "com.docker.compose.service";
+
+/// The container's number among those of its service, in decimal.
+pub const NUMBER: &str = "com.docker.compose.container-number";
+
+/// The configuration's hash that the container was made with, in lower hexadecimal.
+pub const HASH: &str = "com.docker.compose.config-hash";
+
+/// Whether the container was made for one run of a command.
+pub const ONEOFF: &str = "com.docker.compose.oneoff";
+
+/// The value of `ONEOFF` for a container that wasn't.
+pub const NOT_ONEOFF: &str = "False";
+
+/// The key of the network.
+pub const NETWORK: &str = "com.docker.compose.network";
+
+/// The key of the volume.
+pub const VOLUME: &str = "com.docker.compose.volume";
