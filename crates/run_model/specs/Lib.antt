@@ -3,3 +3,10 @@ pub mod EngineRules
 pub mod Labels
 pub mod Observation
 pub mod Plans
+pub mod Journals
+pub mod Requests
+pub mod Conditions
+pub mod Legal
+pub mod Ending
+pub mod Logs
+pub mod Lines
