@@ -10,3 +10,7 @@ pub mod Legal
 pub mod Ending
 pub mod Logs
 pub mod Lines
+pub mod Worlds
+pub mod Exact
+pub mod Cuts
+pub mod OneService

@@ -7,7 +7,9 @@
 #![tactic(auto)]
 
 mod laws;
+mod rows;
 mod verdict;
 
 pub use laws::refusal_changes_nothing;
+pub use rows::one_service_comes_up;
 pub use verdict::Verdict;
