@@ -14,3 +14,4 @@ pub mod Worlds
 pub mod Exact
 pub mod Cuts
 pub mod OneService
+pub mod ThreeServices

@@ -11,5 +11,8 @@ mod rows;
 mod verdict;
 
 pub use laws::refusal_changes_nothing;
-pub use rows::one_service_comes_up;
+pub use rows::{
+    failed_condition_is_refused, missing_image_is_refused, name_in_use_is_refused,
+    one_service_comes_up,
+};
 pub use verdict::Verdict;

@@ -1,9 +1,10 @@
-ghost use Rattle.std.specs.Prelude.{◌≡◌, [], ◌∷◌, reverse, codes};
+ghost use Rattle.std.specs.Prelude.{◌≡◌, [], ◌∷◌, length, reverse, codes, option_map};
 ghost use Rattle.engine_types.specs.declared.ActionKind.{ActionKind};
 ghost use Rattle.run_model.specs.Ending.{IsFinal, first_fault, status_of};
 ghost use Rattle.run_model.specs.Legal.{IsLegal};
 ghost use Rattle.run_model.specs.Lines.{fault_text, report_text};
 ghost use Rattle.run_model.specs.OneService.{comes_up, name_in_use, no_image, shop, up_of};
+ghost use Rattle.run_model.specs.ThreeServices as three;
 
 /// One service comes up on a fresh Engine: its container is created and started.
 pub fn one_service_comes_up()
@@ -12,4 +13,33 @@ pub fn one_service_comes_up()
     ensures over { IsFinal (up_of shop (reverse comes_up)) (reverse comes_up) }
     ensures status { status_of (up_of shop (reverse comes_up)) (reverse comes_up) ≡ 0 }
     ensures report { report_text (up_of shop (reverse comes_up)) (reverse comes_up) ≡ codes "container shop-web-1 created\ncontainer shop-web-1 started\n" }
+{}
+
+/// Where another container has the name, the create is refused and the start is never sent.
+pub fn name_in_use_is_refused()
+    ensures legal { IsLegal (up_of shop (reverse name_in_use)) (reverse name_in_use) }
+    ensures over { IsFinal (up_of shop (reverse name_in_use)) (reverse name_in_use) }
+    ensures status { status_of (up_of shop (reverse name_in_use)) (reverse name_in_use) ≡ 3 }
+    ensures report { report_text (up_of shop (reverse name_in_use)) (reverse name_in_use) ≡ [] }
+    ensures fault { option_map fault_text (first_fault (up_of shop (reverse name_in_use)) (reverse name_in_use))
+        ≡ Some (codes "compose: refused: create container shop-web-1: 409 conflict\n") }
+{}
+
+/// Where the image can't be pulled, the observation ends badly and nothing follows it.
+pub fn missing_image_is_refused()
+    ensures legal { IsLegal (up_of shop (reverse no_image)) (reverse no_image) }
+    ensures over { IsFinal (up_of shop (reverse no_image)) (reverse no_image) }
+    ensures status { status_of (up_of shop (reverse no_image)) (reverse no_image) ≡ 3 }
+    ensures fault { option_map fault_text (first_fault (up_of shop (reverse no_image)) (reverse no_image))
+        ≡ Some (codes "compose: refused: pull nginx:1.25: 404 not found\n") }
+{}
+
+/// Where a healthy container falls ill before the other condition of a start is met, the start is never sent.
+pub fn failed_condition_is_refused()
+    ensures entries { length three.falls_ill ≡ 18 }
+    ensures legal { IsLegal (up_of three.shop (reverse three.falls_ill)) (reverse three.falls_ill) }
+    ensures over { IsFinal (up_of three.shop (reverse three.falls_ill)) (reverse three.falls_ill) }
+    ensures status { status_of (up_of three.shop (reverse three.falls_ill)) (reverse three.falls_ill) ≡ 4 }
+    ensures fault { option_map fault_text (first_fault (up_of three.shop (reverse three.falls_ill)) (reverse three.falls_ill))
+        ≡ Some (codes "compose: condition failed: shop-db-1 Healthy Running 0 Unhealthy\n") }
 {}
