@@ -127,7 +127,7 @@ blocked_within zero setup past a = false
 blocked_within (suc n) setup past a =
     is_free (standing setup past a)
     && (list_any (is_lost setup past (blocked_within n setup past)) (needs_of setup.actions a)
-    || list_any (is_need_lost setup past (blocked_within n setup past)) (slot_needs setup.basis.declared (kind_of setup.actions a)))
+    || list_any (is_need_lost setup past (blocked_within n setup past)) (slot_needs setup.declared (kind_of setup.actions a)))
 
 -- whether an action is blocked: no chain is longer than the plan
 abbrev pub is_blocked : Setup → List Entry → ℕ → Bool
@@ -144,7 +144,7 @@ lets setup past need =
 abbrev pub is_allowed : Setup → List Entry → ℕ → Bool
 is_allowed setup past a =
     is_free (standing setup past a) && list_all (λ b. is_well (standing setup past b)) (needs_of setup.actions a)
-    && list_all (lets setup past) (slot_needs setup.basis.declared (kind_of setup.actions a))
+    && list_all (lets setup past) (slot_needs setup.declared (kind_of setup.actions a))
 
 -- whether an action is still to come: it is neither claimed nor blocked
 abbrev pub is_pending : Setup → List Entry → ℕ → Bool
@@ -152,7 +152,7 @@ is_pending setup past a = is_free (standing setup past a) && not (is_blocked set
 
 -- a slot's goal
 abbrev pub goal_of : Setup → ℕ → Condition
-goal_of setup s = option_map_or (λ slot. slot.goal) (slot_at setup.basis.declared s) Condition.Running
+goal_of setup s = option_map_or (λ slot. slot.goal) (slot_at setup.declared s) Condition.Running
 
 -- whether a slot has a goal that is neither met nor failed: slots have goals where the run waits for them
 abbrev pub is_goal_open : Setup → List Entry → ℕ → Bool
@@ -171,7 +171,7 @@ asks_for setup past s need = (need.slot == s) && is_reported need.condition && n
 -- whether some start that is still to come asks for a report on a slot
 abbrev pub is_needed : Setup → List Entry → ℕ → Bool
 is_needed setup past s = list_any
-    (λ a. is_pending setup past a && list_any (asks_for setup past s) (slot_needs setup.basis.declared (kind_of setup.actions a)))
+    (λ a. is_pending setup past a && list_any (asks_for setup past s) (slot_needs setup.declared (kind_of setup.actions a)))
     (places setup.actions)
 
 -- whether a slot is watched: a start asks for its report, or its goal is open, and its reports count

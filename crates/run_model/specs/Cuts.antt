@@ -12,29 +12,30 @@ use Rattle.run_model.specs.Journals.{Setup}
 use Rattle.run_model.specs.Labels.{is_of_slot}
 use Rattle.run_model.specs.Legal.{IsLegal}
 use Rattle.run_model.specs.Observation.{is_asked, is_up, observed}
-use Rattle.run_model.specs.Plans.{planned}
+use Rattle.run_model.specs.Plans.{Aim, planned}
 use Rattle.run_model.specs.Worlds.{Changed, Did, FitsSeen, Move, Took, World, entries_of, seen_effects}
 
 -- a run, whole or cut: what it is of, and its moves, newest first. What the Engine and the requests that are left do before the
 -- next run begins are its latest moves
 pub record Ran : Type 0 where
+  pub aim : Aim
   pub setup : Setup
   pub moves : List Move
 
 -- a run that was cut inside its observation: its effects are those of the first exchanges of one, of which the last may be
 -- open and then counts as one that met want of memory
-pub record IsCutSeeing (setup : Setup) (moves : List Move) : Type 0 where
+pub record IsCutSeeing (aim : Aim) (setup : Setup) (moves : List Move) : Type 0 where
   pub exchanges : List Exchange
-  pub asked : is_asked (observed setup.basis.declared setup.basis.purpose exchanges) ≡ true
+  pub asked : is_asked (observed setup.declared aim.purpose exchanges) ≡ true
   pub effects : FitsSeen (reverse exchanges) (seen_effects moves)
 
 -- the journal of a run that may have been cut: nothing yet, in the midst of its observation, or the first entries of a legal one
-abbrev pub IsCutJournal : Setup → List Move → Type 0
-IsCutJournal setup moves = Stands (entries_of moves)
+abbrev pub IsCutJournal : Aim → Setup → List Move → Type 0
+IsCutJournal aim setup moves = Stands (entries_of moves)
   where
     Stands : List Entry → Type 0
-    Stands [] = IsCutSeeing setup moves
-    Stands past = IsLegal setup past
+    Stands [] = IsCutSeeing aim setup moves
+    Stands past = IsLegal aim setup past
 
 -- the moves agree with these ids of images: each good reply to a look at an image tells its one id
 abbrev pub TellsImages : (List ℕ → List ℕ) → List Move → Type 0
@@ -44,10 +45,10 @@ TellsImages images (_ ∷ moves) = TellsImages images moves
 
 -- a run of `up` over the declared set, whole or cut, from one Engine to another
 pub record IsRan (declared : Declared) (images : List ℕ → List ℕ) (first : Engine) (ran : Ran) (last : Engine) : Type 0 where
-  pub declares : ran.setup.basis.declared ≡ declared
-  pub up : is_up ran.setup.basis.purpose ≡ true
-  pub plan : ran.setup.actions ≡ planned ran.setup.basis
-  pub journal : IsCutJournal ran.setup ran.moves
+  pub declares : ran.setup.declared ≡ declared
+  pub up : is_up ran.aim.purpose ≡ true
+  pub plan : ran.setup.actions ≡ planned (record { declared = ran.setup.declared; seen = ran.setup.seen; aim = ran.aim })
+  pub journal : IsCutJournal ran.aim ran.setup ran.moves
   pub told : TellsImages images ran.moves
   pub world : World ran.setup first ran.moves last
 

@@ -47,7 +47,7 @@ pub record IsRunOver (setup : Setup) (past : List Entry) : Type 0 where
   pub left : list_any (has_left past) (workers setup) ≡ true
   pub over : (is_ending past ≡ true)
       ⊎ ((list_all (is_over setup past) (places setup.actions) ≡ true)
-      × (list_all (is_goal_over setup past) (places setup.basis.declared.slots) ≡ true))
+      × (list_all (is_goal_over setup past) (places setup.declared.slots) ≡ true))
 
 -- a final journal: its observation ended badly, or its run came to its end
 abbrev pub IsFinal : Setup → List Entry → Type 0
@@ -71,13 +71,13 @@ pub record Failing : Type 0 where
 
 -- the required needs of the starts that are still to come, by the start's number, and then the goals
 abbrev pub wanted_conditions : Setup → List Entry → List Failing
-wanted_conditions setup past = flat_map of_start (places setup.actions) ++ (if setup.limits.wait then map of_goal (places setup.basis.declared.slots) else [])
+wanted_conditions setup past = flat_map of_start (places setup.actions) ++ (if setup.limits.wait then map of_goal (places setup.declared.slots) else [])
   where
     of_need : Need → List Failing
     of_need need = if need.required then record { slot = need.slot; condition = need.condition } ∷ [] else []
 
     of_start : ℕ → List Failing
-    of_start a = if is_pending setup past a then flat_map of_need (slot_needs setup.basis.declared (kind_of setup.actions a)) else []
+    of_start a = if is_pending setup past a then flat_map of_need (slot_needs setup.declared (kind_of setup.actions a)) else []
 
     of_goal : ℕ → Failing
     of_goal s = record { slot = s; condition = goal_of setup s }
@@ -89,7 +89,7 @@ fails_now setup past entry failing =
 
 -- the name of a slot's container
 abbrev pub slot_name : Setup → ℕ → List ℕ
-slot_name setup s = option_map_or (λ slot. slot.name) (slot_at setup.basis.declared s) []
+slot_name setup s = option_map_or (λ slot. slot.name) (slot_at setup.declared s) []
 
 -- the fault of a report: the first wanted condition that it makes fail
 abbrev pub report_fault : Setup → List Entry → Entry → Report → Option RunFault

@@ -10,11 +10,12 @@ use Rattle.engine_types.specs.declared.Reply.{Reply}
 use Rattle.engine_types.specs.declared.RunLimits.{RunLimits}
 use Rattle.engine_types.specs.declared.Seen.{Seen}
 use Rattle.engine_types.specs.declared.SeenEnd.{SeenEnd}
-use Rattle.run_model.specs.Plans.{Basis, kind_of, planned}
+use Rattle.run_model.specs.Plans.{kind_of}
 
--- what a run is of: what its plan is made from, the actions with their needs, and the limits
+-- what a run is of: the declared set, what was seen, the plan's actions with their needs, and the limits
 pub record Setup : Type 0 where
-  pub basis : Basis
+  pub declared : Declared
+  pub seen : Seen
   pub actions : List Action
   pub limits : RunLimits
 

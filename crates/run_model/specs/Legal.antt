@@ -14,7 +14,7 @@ use Rattle.engine_types.specs.declared.SeenFault.{SeenFault}
 use Rattle.run_model.specs.Conditions.{is_allowed, is_watched}
 use Rattle.run_model.specs.Journals.{Holding, Nothing, Setup, has_left, has_stopped, holding, is_ending, is_open, is_watch_of, polls, seen_in}
 use Rattle.run_model.specs.Observation.{Asks, Ends, Onward, Strays, is_asked, observed}
-use Rattle.run_model.specs.Plans.{Basis, action_count, is_too_long, planned}
+use Rattle.run_model.specs.Plans.{Aim, Basis, action_count, is_too_long, planned}
 use Rattle.run_model.specs.Tests.{numbers_from, places}
 
 -- what an ask is answered: the journal is full, there is nothing left, an action, a poll of a slot, or there is nothing to do yet
@@ -48,11 +48,11 @@ may_poll setup past s = is_watched setup past s && not (is_looked_at setup past 
 -- whether a slot was polled at most as often as each that may be polled
 abbrev pub has_fewest_polls : Setup → List Entry → ℕ → Bool
 has_fewest_polls setup past s =
-    list_all (λ t. not (may_poll setup past t) || nat_le (polls past s) (polls past t)) (places setup.basis.declared.slots)
+    list_all (λ t. not (may_poll setup past t) || nat_le (polls past s) (polls past t)) (places setup.declared.slots)
 
 -- the slot to poll next: of those that may be polled one with the fewest polls, and of these the least
 abbrev pub next_poll : Setup → List Entry → Option ℕ
-next_poll setup past = find (λ s. may_poll setup past s && has_fewest_polls setup past s) (places setup.basis.declared.slots)
+next_poll setup past = find (λ s. may_poll setup past s && has_fewest_polls setup past s) (places setup.declared.slots)
 
 -- whether another worker's permit is out
 abbrev pub is_other_out : Setup → List Entry → ℕ → Bool
@@ -80,62 +80,60 @@ pub record IsReady (setup : Setup) (past : List Entry) (w : ℕ) : Type 0 where
   pub idle : holding past w ≡ Nothing
   pub here : has_left past w ≡ false
 
--- the same basis, where this was seen
-abbrev pub on_seen : Basis → Seen → Basis
-on_seen basis seen = record basis { seen = seen }
-
--- the end of an observation whose exchanges are complete: a plan that is too long is its last fault
-abbrev pub whole_end : Basis → SeenEnd → SeenEnd
-whole_end basis (SeenEnd.Good seen) =
-    if is_too_long (on_seen basis seen) then SeenEnd.Bad (SeenFault.TooManyActions (action_count (on_seen basis seen))) else SeenEnd.Good seen
-whole_end basis (SeenEnd.Bad fault) = SeenEnd.Bad fault
+-- the end of an observation that its exchanges give: a plan that is too long is its last fault
+abbrev pub whole_end : Declared → Aim → SeenEnd → SeenEnd
+whole_end declared aim (SeenEnd.Good seen) = if is_too_long basis then SeenEnd.Bad (SeenFault.TooManyActions (action_count basis)) else SeenEnd.Good seen
+  where
+    basis : Basis
+    basis = record { declared = declared; seen = seen; aim = aim }
+whole_end declared aim (SeenEnd.Bad fault) = SeenEnd.Bad fault
 
 -- the end that an observation of these exchanges has; none where exchanges are missing, or aren't those of an observation
-abbrev pub seen_end : Basis → List Exchange → Option SeenEnd
-seen_end basis exchanges = of (observed basis.declared basis.purpose exchanges)
+abbrev pub seen_end : Declared → Aim → List Exchange → Option SeenEnd
+seen_end declared aim exchanges = of (observed declared aim.purpose exchanges)
   where
     of : Onward → Option SeenEnd
-    of (Ends end) = Some (whole_end basis end)
+    of (Ends end) = Some (whole_end declared aim end)
     of (Asks request) = None
     of Strays = None
 
 -- an observation: it ended as its exchanges say, or for want of memory after any of them
-abbrev pub IsObserved : Basis → Observed → Type 0
-IsObserved basis observation =
-    (seen_end basis observation.exchanges ≡ Some observation.end)
-    ⊎ ((observation.end ≡ SeenEnd.Bad SeenFault.Memory) × (is_asked (observed basis.declared basis.purpose observation.exchanges) ≡ true))
+abbrev pub IsObserved : Declared → Aim → Observed → Type 0
+IsObserved declared aim observation =
+    (seen_end declared aim observation.exchanges ≡ Some observation.end)
+    ⊎ ((observation.end ≡ SeenEnd.Bad SeenFault.Memory) × (is_asked (observed declared aim.purpose observation.exchanges) ≡ true))
 
--- what the observation saw is what the run's plan is made from
-abbrev pub SeesBasis : Basis → SeenEnd → Type 0
-SeesBasis basis (SeenEnd.Good seen) = seen ≡ basis.seen
-SeesBasis basis (SeenEnd.Bad fault) = Unit {0}
+-- where the observation ended well, it saw this
+abbrev pub Saw : SeenEnd → Seen → Type 0
+Saw (SeenEnd.Good seen) expected = seen ≡ expected
+Saw (SeenEnd.Bad fault) expected = Unit {0}
 
--- whether an entry may stand after these
-abbrev pub MayStand : Setup → List Entry → Entry → Type 0
-MayStand setup past (Entry.Seen observation) = (past ≡ []) × IsObserved setup.basis observation × SeesBasis setup.basis observation.end
-MayStand setup past (Entry.Claim w a) = IsReady setup past w × (decision setup past w ≡ Take a)
-MayStand setup past (Entry.Poll w s) = IsReady setup past w × (decision setup past w ≡ Look s)
-MayStand setup past (Entry.Ended w outcome) = is_open (holding past w) ≡ true
-MayStand setup past (Entry.Idle w) = IsReady setup past w × (decision setup past w ≡ Pause)
-MayStand setup past (Entry.Leave w) = IsReady setup past w × (decision setup past w ≡ Go)
-MayStand setup past (Entry.Stop w) = IsReady setup past w × (has_stopped past w ≡ false)
-MayStand setup past (Entry.Late w (LateWhy.Deadline reading)) =
+-- an entry may stand after these
+abbrev pub MayStand : Aim → Setup → List Entry → Entry → Type 0
+MayStand aim setup past (Entry.Seen observation) = (past ≡ []) × IsObserved setup.declared aim observation × Saw observation.end setup.seen
+MayStand aim setup past (Entry.Claim w a) = IsReady setup past w × (decision setup past w ≡ Take a)
+MayStand aim setup past (Entry.Poll w s) = IsReady setup past w × (decision setup past w ≡ Look s)
+MayStand aim setup past (Entry.Ended w outcome) = is_open (holding past w) ≡ true
+MayStand aim setup past (Entry.Idle w) = IsReady setup past w × (decision setup past w ≡ Pause)
+MayStand aim setup past (Entry.Leave w) = IsReady setup past w × (decision setup past w ≡ Go)
+MayStand aim setup past (Entry.Stop w) = IsReady setup past w × (has_stopped past w ≡ false)
+MayStand aim setup past (Entry.Late w (LateWhy.Deadline reading)) =
     IsReady setup past w × (has_stopped past w ≡ false) × IsSomeAnd setup.limits.deadline (λ deadline. deadline ≤ reading)
-MayStand setup past (Entry.Late w LateWhy.Entries) = IsReady setup past w × (decision setup past w ≡ Full)
-MayStand setup past (Entry.Short w) = IsReady setup past w × (length past < entries_limit)
+MayStand aim setup past (Entry.Late w LateWhy.Entries) = IsReady setup past w × (decision setup past w ≡ Full)
+MayStand aim setup past (Entry.Short w) = IsReady setup past w × (length past < entries_limit)
 
--- a legal journal, newest entry first: each entry may stand after those before it
-abbrev pub IsLegal : Setup → List Entry → Type 0
-IsLegal setup [] = Unit {0}
-IsLegal setup (entry ∷ past) = IsLegal setup past × MayStand setup past entry
+-- a legal journal of a run, newest entry first: each entry may stand after those before it
+abbrev pub IsLegal : Aim → Setup → List Entry → Type 0
+IsLegal aim setup [] = Unit {0}
+IsLegal aim setup (entry ∷ past) = IsLegal aim setup past × MayStand aim setup past entry
 
 -- nothing seen
 abbrev pub unseen : Seen
 unseen = record { containers = []; networks = []; volumes = []; images = [] }
 
 -- what a run is of, by its journal: the plan is made from what the journal's observation saw
-abbrev pub setup_of : Declared → Purpose → Bool → Bool → RunLimits → List Entry → Setup
-setup_of declared purpose orphans volumes limits past = record { basis = basis; actions = planned basis; limits = limits }
+abbrev pub setup_of : Declared → Aim → RunLimits → List Entry → Setup
+setup_of declared aim limits past = record { declared = declared; seen = seen; actions = planned (record { declared = declared; seen = seen; aim = aim }); limits = limits }
   where
-    basis : Basis
-    basis = record { declared = declared; purpose = purpose; seen = unwrap_or (seen_in past) unseen; orphans = orphans; volumes = volumes }
+    seen : Seen
+    seen = unwrap_or (seen_in past) unseen

@@ -22,19 +22,19 @@ use Rattle.run_model.specs.Plans.{kind_of, network_name, slot_at}
 
 -- the name of a seen container
 abbrev pub container_name : Setup → ℕ → List ℕ
-container_name setup c = option_map_or (λ row. row.name) (slice_get setup.basis.seen.containers c) []
+container_name setup c = option_map_or (λ row. row.name) (slice_get setup.seen.containers c) []
 
 -- the name of a declared network
 abbrev pub declared_network : Setup → ℕ → List ℕ
-declared_network setup n = option_map_or (λ network. network.name) (slice_get setup.basis.declared.networks n) []
+declared_network setup n = option_map_or (λ network. network.name) (slice_get setup.declared.networks n) []
 
 -- the name of a declared volume
 abbrev pub declared_volume : Setup → ℕ → List ℕ
-declared_volume setup v = option_map_or (λ volume. volume.name) (slice_get setup.basis.declared.volumes v) []
+declared_volume setup v = option_map_or (λ volume. volume.name) (slice_get setup.declared.volumes v) []
 
 -- the name of the network that a slot's attach joins
 abbrev pub attached_network : Setup → ℕ → ℕ → List ℕ
-attached_network setup s k = option_map_or (λ slot. option_map_or (network_name setup.basis.declared) (slice_get slot.attach k) []) (slot_at setup.basis.declared s) []
+attached_network setup s k = option_map_or (λ slot. option_map_or (network_name setup.declared) (slice_get slot.attach k) []) (slot_at setup.declared s) []
 
 -- the words of an action that ended well
 abbrev pub done_words : Setup → ActionKind → List ℕ

@@ -19,6 +19,7 @@ use Rattle.engine_types.specs.declared.SeenFault.{SeenFault}
 use Rattle.engine_types.specs.declared.Slot.{Slot}
 use Rattle.run_model.specs.Journals.{Setup}
 use Rattle.run_model.specs.Legal.{setup_of}
+use Rattle.run_model.specs.Plans.{Aim}
 
 -- the labels of a service's first container in the project `shop`
 abbrev pub labels_of : List ℕ → List ℕ → List Var
@@ -110,9 +111,13 @@ shop = record { project = codes "shop"; slots = web ∷ []; networks = []; volum
 abbrev pub plain_limits : RunLimits
 plain_limits = record { workers = 1; deadline = None; wait = false; stop_seconds = None }
 
+-- to bring the project up, and leave orphans alone
+abbrev pub to_up : Aim
+to_up = record { purpose = Purpose.Up; orphans = false; volumes = false }
+
 -- a run of `up` with this journal, newest entry first
 abbrev pub up_of : Declared → List Entry → Setup
-up_of declared past = setup_of declared Purpose.Up false false plain_limits past
+up_of declared past = setup_of declared to_up plain_limits past
 
 -- an exchange that was answered
 abbrev pub answered : Request → Reply → Exchange

@@ -23,45 +23,55 @@ use Rattle.run_model.specs.Labels.{agrees, has_slot_service, names_service, name
 use Rattle.run_model.specs.Observation.{is_up}
 use Rattle.run_model.specs.Tests.{by_key, is_before, least_by, places}
 
--- what a plan is made from: the declared set, what was seen, and what was asked for
+-- what a run is for: to bring a project up or down, and whether orphans go, and whether `down` takes volumes too
+pub record Aim : Type 0 where
+  pub purpose : Purpose
+  pub orphans : Bool
+  pub volumes : Bool
+
+-- what a plan is made from
 pub record Basis : Type 0 where
   pub declared : Declared
-  pub purpose : Purpose
   pub seen : Seen
-  -- whether orphans are removed too
-  pub orphans : Bool
-  -- whether `down` removes volumes too
-  pub volumes : Bool
+  pub aim : Aim
+
+-- what a plan of `up` is made from
+abbrev pub up_basis : Declared → Seen → Bool → Basis
+up_basis declared seen orphans = record { declared = declared; seen = seen; aim = record { purpose = Purpose.Up; orphans = orphans; volumes = false } }
+
+-- what a plan of `down` is made from
+abbrev pub down_basis : Declared → Seen → Bool → Bool → Basis
+down_basis declared seen orphans volumes = record { declared = declared; seen = seen; aim = record { purpose = Purpose.Down; orphans = orphans; volumes = volumes } }
 
 abbrev pub slot_at : Declared → ℕ → Option Slot
 slot_at declared s = slice_get declared.slots s
 
 -- the id that was seen of a slot's image
-abbrev pub seen_image : Basis → Slot → Option (List ℕ)
-seen_image basis slot = option_map (λ row. row.id) (find (λ row. bytes_eq row.name slot.image) basis.seen.images)
+abbrev pub seen_image : Seen → Slot → Option (List ℕ)
+seen_image seen slot = option_map (λ row. row.id) (find (λ row. bytes_eq row.name slot.image) seen.images)
 
 -- whether a container was seen to agree with a slot
-abbrev pub agrees_seen : Basis → Slot → Listed → Bool
-agrees_seen basis slot row = agrees basis.declared.project slot (seen_image basis slot) row.labels row.image_id row.state
+abbrev pub agrees_seen : Declared → Seen → Slot → Listed → Bool
+agrees_seen declared seen slot row = agrees declared.project slot (seen_image seen slot) row.labels row.image_id row.state
 
 -- the container that a slot keeps: of those that agree with it, the one with the least id
-abbrev pub kept_of : Basis → Slot → Option Listed
-kept_of basis slot = least_by (λ row. row.id) (filter (agrees_seen basis slot) basis.seen.containers)
+abbrev pub kept_of : Declared → Seen → Slot → Option Listed
+kept_of declared seen slot = least_by (λ row. row.id) (filter (agrees_seen declared seen slot) seen.containers)
 
 -- the container that the slot with this number keeps
-abbrev pub kept : Basis → ℕ → Option Listed
-kept basis s = option_and_then (kept_of basis) (slot_at basis.declared s)
+abbrev pub kept : Declared → Seen → ℕ → Option Listed
+kept declared seen s = option_and_then (kept_of declared seen) (slot_at declared s)
 
 -- whether some slot keeps a container
-abbrev pub is_kept : Basis → Listed → Bool
-is_kept basis row = list_any (λ slot. option_map_or (λ other. bytes_eq other.id row.id) (kept_of basis slot) false) basis.declared.slots
+abbrev pub is_kept : Declared → Seen → Listed → Bool
+is_kept declared seen row = list_any (λ slot. option_map_or (λ other. bytes_eq other.id row.id) (kept_of declared seen slot) false) declared.slots
 
 -- whether a container is to go: it is of the project, and an orphan where these are asked for, else one of a slot's
 -- service that `up` doesn't keep
 abbrev pub is_removed : Basis → Listed → Bool
 is_removed basis row =
     is_of_project basis.declared.project row.labels
-    && (if has_slot_service basis.declared row.labels then not (is_up basis.purpose && is_kept basis row) else basis.orphans)
+    && (if has_slot_service basis.declared row.labels then not (is_up basis.aim.purpose && is_kept basis.declared basis.seen row) else basis.aim.orphans)
 
 -- whether a network with this name was seen
 abbrev pub is_network_seen : Seen → List ℕ → Bool
@@ -77,7 +87,7 @@ network_name declared attach = option_map_or (λ network. network.name) (slice_g
 
 -- whether a slot's attach is still to be made: the create makes the first one, and a kept container has those that were seen
 abbrev pub is_unattached : Basis → Slot → ℕ → Bool
-is_unattached basis slot k = option_map_or (λ attach. of attach (kept_of basis slot)) (slice_get slot.attach k) false
+is_unattached basis slot k = option_map_or (λ attach. of attach (kept_of basis.declared basis.seen slot)) (slice_get slot.attach k) false
   where
     of : Attach → Option Listed → Bool
     of attach (Some row) = not (list_any (bytes_eq (network_name basis.declared attach)) row.networks)
@@ -85,22 +95,22 @@ is_unattached basis slot k = option_map_or (λ attach. of attach (kept_of basis 
 
 -- whether a slot's container is to be started: no live one is kept
 abbrev pub is_unstarted : Basis → Slot → Bool
-is_unstarted basis slot = option_map_or (λ row. not (is_live row.state)) (kept_of basis slot) true
+is_unstarted basis slot = option_map_or (λ row. not (is_live row.state)) (kept_of basis.declared basis.seen slot) true
 
 -- whether the plan has an action
 abbrev pub is_wanted : Basis → ActionKind → Bool
-is_wanted basis (MakeVolume v) = is_up basis.purpose
+is_wanted basis (MakeVolume v) = is_up basis.aim.purpose
     && option_map_or (λ volume. not volume.external && not (is_volume_seen basis.seen volume.name)) (slice_get basis.declared.volumes v) false
-is_wanted basis (MakeNetwork n) = is_up basis.purpose
+is_wanted basis (MakeNetwork n) = is_up basis.aim.purpose
     && option_map_or (λ network. not network.external && not (is_network_seen basis.seen network.name)) (slice_get basis.declared.networks n) false
 is_wanted basis (StopContainer c) = option_map_or (is_removed basis) (slice_get basis.seen.containers c) false
 is_wanted basis (RemoveContainer c) = option_map_or (is_removed basis) (slice_get basis.seen.containers c) false
-is_wanted basis (CreateSlot s) = is_up basis.purpose && option_map_or (λ slot. not (is_some (kept_of basis slot))) (slot_at basis.declared s) false
-is_wanted basis (ConnectSlot s k) = is_up basis.purpose && option_map_or (λ slot. is_unattached basis slot k) (slot_at basis.declared s) false
-is_wanted basis (StartSlot s) = is_up basis.purpose && option_map_or (is_unstarted basis) (slot_at basis.declared s) false
-is_wanted basis (RemoveNetwork n) = not (is_up basis.purpose)
+is_wanted basis (CreateSlot s) = is_up basis.aim.purpose && option_map_or (λ slot. not (is_some (kept_of basis.declared basis.seen slot))) (slot_at basis.declared s) false
+is_wanted basis (ConnectSlot s k) = is_up basis.aim.purpose && option_map_or (λ slot. is_unattached basis slot k) (slot_at basis.declared s) false
+is_wanted basis (StartSlot s) = is_up basis.aim.purpose && option_map_or (is_unstarted basis) (slot_at basis.declared s) false
+is_wanted basis (RemoveNetwork n) = not (is_up basis.aim.purpose)
     && option_map_or (λ network. not network.external && is_network_seen basis.seen network.name) (slice_get basis.declared.networks n) false
-is_wanted basis (RemoveVolume v) = not (is_up basis.purpose) && basis.volumes
+is_wanted basis (RemoveVolume v) = not (is_up basis.aim.purpose) && basis.aim.volumes
     && option_map_or (λ volume. not volume.external && is_volume_seen basis.seen volume.name) (slice_get basis.declared.volumes v) false
 
 -- whether a container is made with a volume: the part of a bind before its first colon is the volume's name
@@ -124,7 +134,7 @@ is_in_way slot row = names_slot slot row.labels || bytes_eq row.name slot.name
 
 -- whether an action needs another one to have ended well
 abbrev pub is_needed_by : Basis → ActionKind → ActionKind → Bool
-is_needed_by basis (StopContainer c) (RemoveContainer d) = not (is_up basis.purpose)
+is_needed_by basis (StopContainer c) (RemoveContainer d) = not (is_up basis.aim.purpose)
     && option_map_or (λ row. option_map_or (λ other. depends_on basis.declared other row) (slice_get basis.seen.containers d) false)
     (slice_get basis.seen.containers c) false
 is_needed_by basis (RemoveContainer c) (StopContainer d) = c == d

@@ -23,7 +23,7 @@ made_id _ = None
 
 -- the id of a slot's container: that of the kept one, or what its create was told
 abbrev pub slot_id : Setup → List Entry → ℕ → Option (List ℕ)
-slot_id setup past s = of (kept setup.basis s)
+slot_id setup past s = of (kept setup.declared setup.seen s)
   where
     of : Option Listed → Option (List ℕ)
     of (Some row) = Some row.id
@@ -31,7 +31,7 @@ slot_id setup past s = of (kept setup.basis s)
 
 -- the id that was seen of the network with a name
 abbrev pub seen_network_id : Setup → List ℕ → Option (List ℕ)
-seen_network_id setup name = option_map (λ row. row.id) (find (λ row. bytes_eq row.name name) setup.basis.seen.networks)
+seen_network_id setup name = option_map (λ row. row.id) (find (λ row. bytes_eq row.name name) setup.seen.networks)
 
 -- the id of a declared network: what its make was told, or the one that was seen
 abbrev pub network_id : Setup → List Entry → ℕ → Option (List ℕ)
@@ -39,12 +39,12 @@ network_id setup past n = of (make_of setup.actions n)
   where
     of : Option ℕ → Option (List ℕ)
     of (Some a) = made_id (standing setup past a)
-    of None = option_and_then (λ network. seen_network_id setup network.name) (slice_get setup.basis.declared.networks n)
+    of None = option_and_then (λ network. seen_network_id setup network.name) (slice_get setup.declared.networks n)
 
 -- how long a stop waits: as asked for the run, else as the slot of the container's labels says, else 10 seconds
 abbrev pub stop_seconds : Setup → Listed → ℕ
 stop_seconds setup row = unwrap_or setup.limits.stop_seconds
-    (option_map_or (λ slot. slot.stop_seconds) (find (λ slot. names_slot slot row.labels) setup.basis.declared.slots) 10)
+    (option_map_or (λ slot. slot.stop_seconds) (find (λ slot. names_slot slot row.labels) setup.declared.slots) 10)
 
 -- the connect of a slot's container to the network of one of its attaches
 abbrev pub connect_request : Setup → List Entry → ℕ → Attach → Option Request
@@ -53,16 +53,16 @@ connect_request setup past s attach =
 
 -- the request of an action of this kind, by what the entries told so far
 abbrev pub request_of : Setup → List Entry → ActionKind → Option Request
-request_of setup past (MakeVolume v) = option_map (λ spec. Request.MakeVolume spec) (slice_get setup.basis.declared.volumes v)
-request_of setup past (MakeNetwork n) = option_map (λ spec. Request.MakeNetwork spec) (slice_get setup.basis.declared.networks n)
-request_of setup past (StopContainer c) = option_map (λ row. Request.Stop row.id (stop_seconds setup row)) (slice_get setup.basis.seen.containers c)
-request_of setup past (RemoveContainer c) = option_map (λ row. Request.Remove row.id) (slice_get setup.basis.seen.containers c)
-request_of setup past (CreateSlot s) = option_map (λ slot. Request.Create slot.name slot.spec) (slot_at setup.basis.declared s)
+request_of setup past (MakeVolume v) = option_map (λ spec. Request.MakeVolume spec) (slice_get setup.declared.volumes v)
+request_of setup past (MakeNetwork n) = option_map (λ spec. Request.MakeNetwork spec) (slice_get setup.declared.networks n)
+request_of setup past (StopContainer c) = option_map (λ row. Request.Stop row.id (stop_seconds setup row)) (slice_get setup.seen.containers c)
+request_of setup past (RemoveContainer c) = option_map (λ row. Request.Remove row.id) (slice_get setup.seen.containers c)
+request_of setup past (CreateSlot s) = option_map (λ slot. Request.Create slot.name slot.spec) (slot_at setup.declared s)
 request_of setup past (ConnectSlot s k) =
-    option_and_then (λ slot. option_and_then (connect_request setup past s) (slice_get slot.attach k)) (slot_at setup.basis.declared s)
+    option_and_then (λ slot. option_and_then (connect_request setup past s) (slice_get slot.attach k)) (slot_at setup.declared s)
 request_of setup past (StartSlot s) = option_map (λ id. Request.Start id) (slot_id setup past s)
 request_of setup past (RemoveNetwork n) = option_map (λ id. Request.RemoveNetwork id) (network_id setup past n)
-request_of setup past (RemoveVolume v) = option_map (λ spec. Request.RemoveVolume spec.name) (slice_get setup.basis.declared.volumes v)
+request_of setup past (RemoveVolume v) = option_map (λ spec. Request.RemoveVolume spec.name) (slice_get setup.declared.volumes v)
 
 -- the request of the action with this number
 abbrev pub action_request : Setup → List Entry → ℕ → Option Request
@@ -104,4 +104,4 @@ source_of past w = of (holding past w)
 -- the request of a worker's latest claim or poll; each has one, and a listing stands where there is none
 abbrev pub request_out : Setup → List Entry → ℕ → Request
 request_out setup past w =
-    unwrap_or (option_and_then (asked setup past) (source_of past w)) (Request.ListContainers setup.basis.declared.project)
+    unwrap_or (option_and_then (asked setup past) (source_of past w)) (Request.ListContainers setup.declared.project)

@@ -3,13 +3,13 @@ ghost use Rattle.engine_types.specs.declared.ActionKind.{ActionKind};
 ghost use Rattle.run_model.specs.Ending.{IsFinal, first_fault, status_of};
 ghost use Rattle.run_model.specs.Legal.{IsLegal};
 ghost use Rattle.run_model.specs.Lines.{fault_text, report_text};
-ghost use Rattle.run_model.specs.OneService.{comes_up, name_in_use, no_image, shop, up_of};
+ghost use Rattle.run_model.specs.OneService.{comes_up, name_in_use, no_image, shop, to_up, up_of};
 ghost use Rattle.run_model.specs.ThreeServices as three;
 
 /// One service comes up on a fresh Engine: its container is created and started.
 pub fn one_service_comes_up()
     ensures plan { (up_of shop (reverse comes_up)).actions ≡ record { kind = ActionKind.CreateSlot 0; needs = [] } ∷ record { kind = ActionKind.StartSlot 0; needs = 0 ∷ [] } ∷ [] }
-    ensures legal { IsLegal (up_of shop (reverse comes_up)) (reverse comes_up) }
+    ensures legal { IsLegal to_up (up_of shop (reverse comes_up)) (reverse comes_up) }
     ensures over { IsFinal (up_of shop (reverse comes_up)) (reverse comes_up) }
     ensures status { status_of (up_of shop (reverse comes_up)) (reverse comes_up) ≡ 0 }
     ensures report { report_text (up_of shop (reverse comes_up)) (reverse comes_up) ≡ codes "container shop-web-1 created\ncontainer shop-web-1 started\n" }
@@ -17,7 +17,7 @@ pub fn one_service_comes_up()
 
 /// Where another container has the name, the create is refused and the start is never sent.
 pub fn name_in_use_is_refused()
-    ensures legal { IsLegal (up_of shop (reverse name_in_use)) (reverse name_in_use) }
+    ensures legal { IsLegal to_up (up_of shop (reverse name_in_use)) (reverse name_in_use) }
     ensures over { IsFinal (up_of shop (reverse name_in_use)) (reverse name_in_use) }
     ensures status { status_of (up_of shop (reverse name_in_use)) (reverse name_in_use) ≡ 3 }
     ensures report { report_text (up_of shop (reverse name_in_use)) (reverse name_in_use) ≡ [] }
@@ -27,7 +27,7 @@ pub fn name_in_use_is_refused()
 
 /// Where the image can't be pulled, the observation ends badly and nothing follows it.
 pub fn missing_image_is_refused()
-    ensures legal { IsLegal (up_of shop (reverse no_image)) (reverse no_image) }
+    ensures legal { IsLegal to_up (up_of shop (reverse no_image)) (reverse no_image) }
     ensures over { IsFinal (up_of shop (reverse no_image)) (reverse no_image) }
     ensures status { status_of (up_of shop (reverse no_image)) (reverse no_image) ≡ 3 }
     ensures fault { option_map fault_text (first_fault (up_of shop (reverse no_image)) (reverse no_image))
@@ -37,7 +37,7 @@ pub fn missing_image_is_refused()
 /// Where a healthy container falls ill before the other condition of a start is met, the start is never sent.
 pub fn failed_condition_is_refused()
     ensures entries { length three.falls_ill ≡ 18 }
-    ensures legal { IsLegal (up_of three.shop (reverse three.falls_ill)) (reverse three.falls_ill) }
+    ensures legal { IsLegal to_up (up_of three.shop (reverse three.falls_ill)) (reverse three.falls_ill) }
     ensures over { IsFinal (up_of three.shop (reverse three.falls_ill)) (reverse three.falls_ill) }
     ensures status { status_of (up_of three.shop (reverse three.falls_ill)) (reverse three.falls_ill) ≡ 4 }
     ensures fault { option_map fault_text (first_fault (up_of three.shop (reverse three.falls_ill)) (reverse three.falls_ill))

@@ -4,7 +4,7 @@ use Rattle.engine_types.specs.declared.Entry.{Entry}
 use Rattle.run_model.specs.Journals.{Nothing, Setup, holding}
 use Rattle.run_model.specs.Legal.{IsLegal}
 use Rattle.run_model.specs.Ending.{IsFinal}
-use Rattle.run_model.specs.OneService.{up_of}
+use Rattle.run_model.specs.OneService.{to_up, up_of}
 use Rattle.run_model.specs.ThreeServices.{falls_ill, shop}
 use Rattle.run_model.proofs.Ready.{ready}
 use Rattle.run_model.proofs.rows.failed_condition_is_refused.Goals as goal
@@ -15,7 +15,7 @@ past = reverse falls_ill
 abbrev setup : Setup
 setup = up_of shop past
 
-legal : IsLegal setup past
+legal : IsLegal to_up setup past
 legal = ((((((((((((((((((tt, (refl, inl refl, refl)), (ready setup _ (omega arith) refl refl refl, refl)), refl), (ready setup _ (omega arith) refl refl refl, refl)), refl), (ready setup _ (omega arith) refl refl refl, refl)), refl), (ready setup _ (omega arith) refl refl refl, refl)), refl), (ready setup _ (omega arith) refl refl refl, refl)), refl), (ready setup _ (omega arith) refl refl refl, refl)), refl), (ready setup _ (omega arith) refl refl refl, refl)), refl), (ready setup _ (omega arith) refl refl refl, refl)), refl), (ready setup _ (omega arith) refl refl refl, refl))
 
 none_out : (w : ℕ) → w < 1 → holding past w ≡ Nothing

@@ -4,7 +4,7 @@ use Rattle.engine_types.specs.declared.Entry.{Entry}
 use Rattle.run_model.specs.Journals.{Nothing, Setup, holding}
 use Rattle.run_model.specs.Legal.{IsLegal}
 use Rattle.run_model.specs.Ending.{IsFinal}
-use Rattle.run_model.specs.OneService.{no_image, shop, up_of}
+use Rattle.run_model.specs.OneService.{no_image, shop, to_up, up_of}
 use Rattle.run_model.proofs.Ready.{ready}
 use Rattle.run_model.proofs.rows.missing_image_is_refused.Goals as goal
 
@@ -14,7 +14,7 @@ past = reverse no_image
 abbrev setup : Setup
 setup = up_of shop past
 
-legal : IsLegal setup past
+legal : IsLegal to_up setup past
 legal = (tt, (refl, inl refl, tt))
 
 pub returns : goal.returns

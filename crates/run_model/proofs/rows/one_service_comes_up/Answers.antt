@@ -3,7 +3,7 @@ use Rattle.engine_types.specs.declared.Entry.{Entry}
 use Rattle.run_model.specs.Journals.{Nothing, Setup, holding}
 use Rattle.run_model.specs.Legal.{IsLegal, IsReady}
 use Rattle.run_model.specs.Ending.{IsFinal}
-use Rattle.run_model.specs.OneService.{comes_up, shop, up_of}
+use Rattle.run_model.specs.OneService.{comes_up, shop, to_up, up_of}
 use Rattle.run_model.proofs.Ready.{ready}
 use Rattle.run_model.proofs.rows.one_service_comes_up.Goals as goal
 
@@ -13,7 +13,7 @@ past = reverse comes_up
 abbrev setup : Setup
 setup = up_of shop past
 
-legal : IsLegal setup past
+legal : IsLegal to_up setup past
 legal =
     ((((((tt, (refl, inl refl, refl)), (ready setup _ (omega arith) refl refl refl, refl)), refl), (ready setup _ (omega arith) refl refl refl, refl)), refl), (ready setup _ (omega arith) refl refl refl, refl))
 
