@@ -15,3 +15,4 @@ pub mod Exact
 pub mod Cuts
 pub mod OneService
 pub mod ThreeServices
+pub mod OneWorld

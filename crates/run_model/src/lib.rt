@@ -13,6 +13,6 @@ mod verdict;
 pub use laws::refusal_changes_nothing;
 pub use rows::{
     failed_condition_is_refused, missing_image_is_refused, name_in_use_is_refused,
-    one_service_comes_up,
+    one_service_comes_up, one_service_is_exact,
 };
 pub use verdict::Verdict;

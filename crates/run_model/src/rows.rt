@@ -1,10 +1,14 @@
-ghost use Rattle.std.specs.Prelude.{◌≡◌, [], ◌∷◌, length, reverse, codes, option_map};
+ghost use Rattle.std.specs.Prelude.{◌≡◌, [], ◌∷◌, length, reverse, codes, option_map, Bool};
 ghost use Rattle.engine_types.specs.declared.ActionKind.{ActionKind};
 ghost use Rattle.run_model.specs.Ending.{IsFinal, first_fault, status_of};
 ghost use Rattle.run_model.specs.Legal.{IsLegal};
 ghost use Rattle.run_model.specs.Lines.{fault_text, report_text};
-ghost use Rattle.run_model.specs.OneService.{comes_up, name_in_use, no_image, shop, to_up, up_of};
+ghost use Rattle.run_model.specs.OneService.{comes_up, name_in_use, no_image, shop, to_up, up_of, web};
+ghost use Rattle.run_model.specs.OneWorld.{fresh, moves, up};
 ghost use Rattle.run_model.specs.ThreeServices as three;
+ghost use Rattle.run_model.specs.Exact.{IsExact};
+ghost use Rattle.run_model.specs.Cuts.{creates};
+ghost use Rattle.run_model.specs.Worlds.{IsWorldOf};
 
 /// One service comes up on a fresh Engine: its container is created and started.
 pub fn one_service_comes_up()
@@ -42,4 +46,12 @@ pub fn failed_condition_is_refused()
     ensures status { status_of (up_of three.shop (reverse three.falls_ill)) (reverse three.falls_ill) ≡ 4 }
     ensures fault { option_map fault_text (first_fault (up_of three.shop (reverse three.falls_ill)) (reverse three.falls_ill))
         ≡ Some (codes "compose: condition failed: shop-db-1 Healthy Running 0 Unhealthy\n") }
+{}
+
+/// The run of one service is that of a world which leads from a fresh Engine to one that holds exactly what is
+/// declared, and it makes the container once.
+pub fn one_service_is_exact()
+    ensures world { IsWorldOf (up_of shop (reverse comes_up)) (reverse comes_up) fresh moves up }
+    ensures exact { (orphans : Bool) → IsExact shop up orphans }
+    ensures once { creates shop web moves ≡ 1 }
 {}
