@@ -16,3 +16,4 @@ pub mod Cuts
 pub mod OneService
 pub mod ThreeServices
 pub mod OneWorld
+pub mod TwoNetworks

@@ -12,7 +12,7 @@ mod verdict;
 
 pub use laws::refusal_changes_nothing;
 pub use rows::{
-    failed_condition_is_refused, missing_image_is_refused, name_in_use_is_refused,
-    one_service_comes_up, one_service_is_exact,
+    failed_condition_is_refused, lost_create_is_found, missing_image_is_refused,
+    name_in_use_is_refused, one_service_comes_up, one_service_is_exact, plans_of_two_networks,
 };
 pub use verdict::Verdict;

@@ -1,11 +1,14 @@
-ghost use Rattle.std.specs.Prelude.{◌≡◌, [], ◌∷◌, length, reverse, codes, option_map, Bool};
+ghost use Rattle.std.specs.Prelude.{◌≡◌, [], ◌∷◌, length, reverse, codes, option_map, Bool, true, false};
 ghost use Rattle.engine_types.specs.declared.ActionKind.{ActionKind};
+ghost use Rattle.engine_types.specs.declared.ContainerState.{ContainerState};
 ghost use Rattle.run_model.specs.Ending.{IsFinal, first_fault, status_of};
 ghost use Rattle.run_model.specs.Legal.{IsLegal};
 ghost use Rattle.run_model.specs.Lines.{fault_text, report_text};
 ghost use Rattle.run_model.specs.OneService.{comes_up, name_in_use, no_image, shop, to_up, up_of, web};
 ghost use Rattle.run_model.specs.OneWorld.{fresh, moves, up};
 ghost use Rattle.run_model.specs.ThreeServices as three;
+ghost use Rattle.run_model.specs.TwoNetworks as two;
+ghost use Rattle.run_model.specs.Plans.{down_basis, planned, up_basis};
 ghost use Rattle.run_model.specs.Exact.{IsExact};
 ghost use Rattle.run_model.specs.Cuts.{creates};
 ghost use Rattle.run_model.specs.Worlds.{IsWorldOf};
@@ -54,4 +57,29 @@ pub fn one_service_is_exact()
     ensures world { IsWorldOf (up_of shop (reverse comes_up)) (reverse comes_up) fresh moves up }
     ensures exact { (orphans : Bool) → IsExact shop up orphans }
     ensures once { creates shop web moves ≡ 1 }
+{}
+
+/// The plans of a service on two networks: on a fresh Engine, where its container was made on the first network
+/// alone, where that container runs, where its image is another one by now, and of `down`.
+pub fn plans_of_two_networks()
+    ensures fresh { planned (up_basis two.shop (two.seeing [] [] (codes "sha")) false) ≡ two.fresh_plan }
+    ensures created { planned (up_basis two.shop (two.seeing (two.listed ContainerState.Created (codes "shop_a" ∷ []) ∷ []) two.both (codes "sha")) false) ≡ two.created_plan }
+    ensures running { planned (up_basis two.shop (two.seeing (two.listed ContainerState.Running (codes "shop_a" ∷ []) ∷ []) two.both (codes "sha")) false)
+        ≡ two.acts (ActionKind.ConnectSlot 0 1) [] ∷ [] }
+    ensures image { planned (up_basis two.shop (two.seeing (two.listed ContainerState.Running (codes "shop_a" ∷ []) ∷ []) two.both (codes "other")) false) ≡ two.image_plan }
+    ensures down { planned (down_basis two.shop (two.seeing (two.listed ContainerState.Running (codes "shop_a" ∷ []) ∷ []) two.both (codes "sha")) false true) ≡ two.down_plan }
+{}
+
+/// A create that is lost isn't sent again; the next run finds the container, connects and starts it.
+pub fn lost_create_is_found()
+    ensures first_legal { IsLegal to_up (up_of two.shop (reverse two.loses_create)) (reverse two.loses_create) }
+    ensures first_over { IsFinal (up_of two.shop (reverse two.loses_create)) (reverse two.loses_create) }
+    ensures first_status { status_of (up_of two.shop (reverse two.loses_create)) (reverse two.loses_create) ≡ 7 }
+    ensures first_fault { option_map fault_text (first_fault (up_of two.shop (reverse two.loses_create)) (reverse two.loses_create))
+        ≡ Some (codes "compose: lost: create container shop-web-1: Fault\n") }
+    ensures legal { IsLegal to_up (up_of two.shop (reverse two.connects)) (reverse two.connects) }
+    ensures over { IsFinal (up_of two.shop (reverse two.connects)) (reverse two.connects) }
+    ensures status { status_of (up_of two.shop (reverse two.connects)) (reverse two.connects) ≡ 0 }
+    ensures report { report_text (up_of two.shop (reverse two.connects)) (reverse two.connects)
+        ≡ codes "container shop-web-1 connected to shop_b\ncontainer shop-web-1 started\n" }
 {}
