@@ -1,14 +1,18 @@
 //! What a run is, in definitions alone: what an Engine may answer, what was seen, the plan, legal and final
-//! journals, conditions, status and report, worlds of a journal, and exactness. The crates of a run cite them
-//! in their contracts.
+//! journals, conditions, status and printed words, the worlds of a journal, exactness, and runs that were cut.
+//! The crates of a run cite them in their contracts.
+//!
+//! The functions here have empty bodies: their contracts are laws of the definitions, in `laws`, and the
+//! definitions worked out on whole journals, in `rows`.
 #![tactic(auto)]
 
-ghost use Rattle.std.specs.Prelude.{◌≡◌};
-ghost use Rattle.run_model.specs.EngineRules.{Answers};
-ghost use Rattle.engine_types.specs.declared.Engine.{Engine};
-ghost use Rattle.engine_types.specs.declared.Reply.{Reply};
+mod laws;
+mod rows;
+mod verdict;
 
-/// A refusal changes nothing.
-pub fn refusal_changes_nothing()
-    ensures { (old new : Engine) (request : _) (status : _) (message : _) → Answers old request (Reply.Refused status message) new → new ≡ old }
-{}
+pub use laws::refusal_changes_nothing;
+pub use rows::{
+    failed_condition_is_refused, lost_create_is_found, missing_image_is_refused,
+    name_in_use_is_refused, one_service_comes_up, one_service_is_exact, plans_of_two_networks,
+};
+pub use verdict::Verdict;

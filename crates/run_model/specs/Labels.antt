@@ -1,0 +1,44 @@
+-- Which containers are a project's, which are orphans, and which a slot may keep: by the labels of Docker Compose.
+use Rattle.std.specs.Prelude.{ℕ, Bool, true, false, not, ◌&&◌, ◌||◌, List, Option, Some, None, codes, decimal}
+use Rattle.std.specs.List.{list_any}
+use Rattle.std.specs.Str.{bytes_eq}
+use Rattle.tree_base.specs.declared.Var.{Var}
+use Rattle.engine_types.specs.declared.ContainerState.{ContainerState}
+use Rattle.engine_types.specs.declared.Declared.{Declared}
+use Rattle.engine_types.specs.declared.Slot.{Slot}
+use Rattle.run_model.specs.EngineRules.{has_label, is_of_project}
+
+-- whether the service label names a service
+abbrev pub names_service : List ℕ → List Var → Bool
+names_service service labels = has_label labels (codes "com.docker.compose.service") service
+
+-- whether the service label and the number label, as a text, name a slot
+abbrev pub names_slot : Slot → List Var → Bool
+names_slot slot labels =
+    names_service slot.service labels && has_label labels (codes "com.docker.compose.container-number") (decimal slot.number)
+
+-- whether labels are those of a container of the project and of the slot
+abbrev pub is_of_slot : List ℕ → Slot → List Var → Bool
+is_of_slot project slot labels = is_of_project project labels && names_slot slot labels
+
+-- whether the service label names the service of some slot
+abbrev pub has_slot_service : Declared → List Var → Bool
+has_slot_service declared labels = list_any (λ slot. names_service slot.service labels) declared.slots
+
+-- an orphan: a container of the project whose service label names no slot's service
+abbrev pub is_orphan : Declared → List Var → Bool
+is_orphan declared labels = is_of_project declared.project labels && not (has_slot_service declared labels)
+
+-- whether a container is on its way out, or couldn't be removed
+abbrev pub is_lost_state : ContainerState → Bool
+is_lost_state ContainerState.Dead = true
+is_lost_state ContainerState.Removing = true
+is_lost_state _ = false
+
+-- whether a container agrees with a slot, whose image has this id: it is of the slot, has its hash and its image,
+-- and isn't dead or being removed
+abbrev pub agrees : List ℕ → Slot → Option (List ℕ) → List Var → List ℕ → ContainerState → Bool
+agrees project slot None labels image_id state = false
+agrees project slot (Some image) labels image_id state =
+    is_of_slot project slot labels && has_label labels (codes "com.docker.compose.config-hash") slot.hash && bytes_eq image image_id
+    && not (is_lost_state state)

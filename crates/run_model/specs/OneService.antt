@@ -1,0 +1,157 @@
+-- One service, `web` with the image `nginx:1.25` and no network, and runs of it.
+use Rattle.std.specs.Prelude.{ℕ, Bool, true, false, List, [], ◌∷◌, Option, Some, None, codes, reverse}
+use Rattle.tree_base.specs.declared.Var.{Var}
+use Rattle.engine_types.specs.declared.Condition.{Condition}
+use Rattle.engine_types.specs.declared.ContainerSpec.{ContainerSpec}
+use Rattle.engine_types.specs.declared.Declared.{Declared}
+use Rattle.engine_types.specs.declared.Entry.{Entry}
+use Rattle.engine_types.specs.declared.Exchange.{Exchange}
+use Rattle.engine_types.specs.declared.Observed.{Observed}
+use Rattle.engine_types.specs.declared.Outcome.{Outcome}
+use Rattle.engine_types.specs.declared.Policy.{Policy}
+use Rattle.engine_types.specs.declared.Purpose.{Purpose}
+use Rattle.engine_types.specs.declared.Reply.{Reply}
+use Rattle.engine_types.specs.declared.Request.{Request}
+use Rattle.engine_types.specs.declared.RunLimits.{RunLimits}
+use Rattle.engine_types.specs.declared.Seen.{Seen}
+use Rattle.engine_types.specs.declared.SeenEnd.{SeenEnd}
+use Rattle.engine_types.specs.declared.SeenFault.{SeenFault}
+use Rattle.engine_types.specs.declared.Slot.{Slot}
+use Rattle.run_model.specs.Journals.{Setup}
+use Rattle.run_model.specs.Legal.{setup_of}
+use Rattle.run_model.specs.Plans.{Aim}
+
+-- the labels of a service's first container in the project `shop`
+abbrev pub labels_of : List ℕ → List ℕ → List Var
+labels_of service hash =
+    record { name = codes "com.docker.compose.config-hash"; value = hash }
+    ∷ record { name = codes "com.docker.compose.container-number"; value = codes "1" }
+    ∷ record { name = codes "com.docker.compose.oneoff"; value = codes "False" }
+    ∷ record { name = codes "com.docker.compose.project"; value = codes "shop" }
+    ∷ record { name = codes "com.docker.compose.service"; value = service } ∷ []
+
+-- what the Engine is sent of a service with an image and no network
+abbrev pub plain_spec : List Var → List ℕ → ContainerSpec
+plain_spec labels image = record {
+  labels = labels;
+  platform = None;
+  image = Some image;
+  cmd = None;
+  entrypoint = None;
+  env = None;
+  hostname = None;
+  domainname = None;
+  user = None;
+  working_dir = None;
+  stop_signal = None;
+  open_stdin = None;
+  tty = None;
+  privileged = None;
+  readonly_rootfs = None;
+  init = None;
+  cap_add = None;
+  cap_drop = None;
+  security_opt = None;
+  group_add = None;
+  dns = None;
+  dns_search = None;
+  dns_options = None;
+  extra_hosts = None;
+  sysctls = None;
+  ipc_mode = None;
+  pid_mode = None;
+  userns_mode = None;
+  cpuset_cpus = None;
+  shm_size = None;
+  memory = None;
+  memory_reservation = None;
+  nano_cpus = None;
+  cpu_shares = None;
+  pids_limit = None;
+  ulimits = None;
+  devices = None;
+  log_config = None;
+  restart_policy = None;
+  exposed_ports = None;
+  port_bindings = None;
+  binds = None;
+  volumes = None;
+  tmpfs = None;
+  network_mode = Some (codes "none");
+  endpoints_config = None;
+  healthcheck = None;
+  stop_timeout = None;
+}
+
+-- the image
+abbrev pub nginx : List ℕ
+nginx = codes "nginx:1.25"
+
+-- the service's slot; the hash stands for that of the configuration
+abbrev pub web : Slot
+web = record {
+  service = codes "web";
+  number = 1;
+  name = codes "shop-web-1";
+  image = nginx;
+  policy = Policy.Missing;
+  has_build = false;
+  hash = codes "abc";
+  spec = plain_spec (labels_of (codes "web") (codes "abc")) nginx;
+  attach = [];
+  needs = [];
+  goal = Condition.Running;
+  stop_seconds = 10;
+}
+
+abbrev pub shop : Declared
+shop = record { project = codes "shop"; slots = web ∷ []; networks = []; volumes = [] }
+
+-- one worker, no deadline, and no waiting for goals
+abbrev pub plain_limits : RunLimits
+plain_limits = record { workers = 1; deadline = None; wait = false; stop_seconds = None }
+
+-- to bring the project up, and leave orphans alone
+abbrev pub to_up : Aim
+to_up = record { purpose = Purpose.Up; orphans = false; volumes = false }
+
+-- a run of `up` with this journal, newest entry first
+abbrev pub up_of : Declared → List Entry → Setup
+up_of declared past = setup_of declared to_up plain_limits past
+
+-- an exchange that was answered
+abbrev pub answered : Request → Reply → Exchange
+answered request reply = record { request = request; outcome = Outcome.Answered reply }
+
+-- the image isn't there, and is pulled
+abbrev pub seen_fresh : Observed
+seen_fresh = record {
+  exchanges = answered (Request.ListContainers (codes "shop")) (Reply.Containers [])
+      ∷ answered (Request.Image nginx) (Reply.Refused 404 (codes "not found"))
+      ∷ answered (Request.Pull nginx) Reply.Pulled
+      ∷ answered (Request.Image nginx) (Reply.ImageId (codes "sha")) ∷ [];
+  end = SeenEnd.Good (record { containers = []; networks = []; volumes = []; images = record { name = nginx; id = codes "sha" } ∷ [] });
+}
+
+-- the run on a fresh Engine, oldest entry first: the container is created and started
+abbrev pub comes_up : List Entry
+comes_up =
+    Entry.Seen seen_fresh ∷ Entry.Claim 0 0 ∷ Entry.Ended 0 (Outcome.Answered (Reply.Made (codes "c1")))
+    ∷ Entry.Claim 0 1 ∷ Entry.Ended 0 (Outcome.Answered Reply.Done) ∷ Entry.Leave 0 ∷ []
+
+-- the run on an Engine where another container has the name: the create is refused, and the start is blocked
+abbrev pub name_in_use : List Entry
+name_in_use = Entry.Seen seen_fresh ∷ Entry.Claim 0 0 ∷ Entry.Ended 0 (Outcome.Answered (Reply.Refused 409 (codes "conflict"))) ∷ Entry.Leave 0 ∷ []
+
+-- an observation that can't pull the image
+abbrev pub seen_no_image : Observed
+seen_no_image = record {
+  exchanges = answered (Request.ListContainers (codes "shop")) (Reply.Containers [])
+      ∷ answered (Request.Image nginx) (Reply.Refused 404 (codes "not found"))
+      ∷ answered (Request.Pull nginx) (Reply.Refused 404 (codes "not found")) ∷ [];
+  end = SeenEnd.Bad (SeenFault.RequestFailed (Request.Pull nginx) 404 (codes "not found"));
+}
+
+-- the run on an Engine that has no such image to pull
+abbrev pub no_image : List Entry
+no_image = Entry.Seen seen_no_image ∷ []
