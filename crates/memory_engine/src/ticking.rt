@@ -1,0 +1,84 @@
+ghost use Rattle.std.specs.Prelude.{◌≡◌, MatchOption, [], ◌∷◌};
+ghost use Rattle.run_model.specs.EngineRules.{Drifts, IsSound};
+ghost use Rattle.memory_engine.specs.Ticking.{changed_report, is_running, later, ticked, ticked_by};
+
+use crate::rows;
+use crate::script::{Change, Tick};
+use crate::state::MemoryEngine;
+use engine_types::{ContainerState, Engine, Report};
+use std::alloc::Global;
+use std::mem;
+use tree_base::{List, Text};
+
+impl MemoryEngine {
+    /// Applies the first tick of the script, if any, and uses it up. One for a container that isn't there or
+    /// isn't running changes nothing. No memory.
+    pub fn tick(&mut self)
+        ensures engine { self.new.engine ≡ ticked self.old.engine self.old.script }
+        ensures script { self.new.script ≡ later self.old.script }
+        ensures drifts { Drifts self.old.engine self.new.engine }
+        ensures sound { IsSound self.new.engine }
+        ensures faults { self.new.faults ≡ self.old.faults }
+        ensures made { self.new.made ≡ self.old.made }
+        ensures catalogue { self.new.catalogue ≡ self.old.catalogue }
+    {
+        if let Some(tick) = take_first(&mut self.script) {
+            apply(&mut self.engine, tick);
+        }
+    }
+}
+
+/// Applies a tick.
+fn apply(engine: &mut Engine, tick: Tick)
+    ensures { engine.new ≡ ticked_by engine.old tick }
+{
+    let Tick { container, change } = tick;
+    let Some(at) = rows::place_of_name(engine.containers.as_slice(), &container) else {
+        return;
+    };
+    let alloc = *container.into_string().allocator();
+    let Some(row) = engine.containers.get(at) else {
+        return;
+    };
+    if row.report.state == ContainerState::Running {
+        let report = changed(change, row.report);
+        rows::set_report_at(alloc, &mut engine.containers, at, report);
+    }
+}
+
+/// A report after a change.
+fn changed(change: Change, report: Report) -> Report
+    ensures { result ≡ changed_report change report }
+{
+    match change {
+        Change::Exit(exit_code) => Report {
+            state: ContainerState::Exited,
+            exit_code,
+            health: report.health,
+        },
+        Change::Health(health) => Report {
+            state: report.state,
+            exit_code: report.exit_code,
+            health,
+        },
+    }
+}
+
+/// Takes the first tick out.
+fn take_first(script: &mut List<Tick>) -> Option<Tick>
+    ensures { MatchOption result ((script.old ≡ []) × (script.new ≡ [])) (λ tick. script.old ≡ tick ∷ script.new) }
+{
+    let last = script.pop()?;
+    let Tick { container, change } = last;
+    let name = container.into_string();
+    let alloc = *name.allocator();
+    let last = Tick { container: Text::from_string(name), change };
+    let mut ticks = mem::replace(script, List::new(alloc)).into_vec();
+    if ticks.is_empty() {
+        return Some(last);
+    }
+    let first = ticks.remove(0);
+    let _ = ticks.push(last);
+    *script = List::from_vec(ticks);
+    Some(first)
+}
