@@ -1,2 +1,4 @@
+pub mod Ascii
+pub mod Loads
 pub mod Walks
 pub mod Names

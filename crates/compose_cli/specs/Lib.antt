@@ -1,3 +1,5 @@
 pub mod Directories
+pub mod Loading
 pub mod OneServiceTexts
 pub mod ProjectNames
+pub mod Statuses

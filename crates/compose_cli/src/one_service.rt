@@ -1,13 +1,17 @@
 ghost use Rattle.std.specs.Prelude.{◌≡◌, ◌==◌, ◌<◌, ◌+◌, Ok, Err, Some, None, nat_lt, length, if◌then◌else◌, MatchResult};
+ghost use Rattle.std.specs.Prelude.{IsTrue};
 ghost use Rattle.std.specs.List.{list_all};
+ghost use Rattle.std.specs.Str.{IsUtf8};
 ghost use Rattle.std.specs.Option.{option_copied, option_map};
 ghost use Rattle.compose_cli.specs.OneServiceTexts.{one_service, next_line, line_length, after_prefix, name_in, before_colon, image_in, begins_with_letter_or_digit, is_name, is_image, is_null_word, is_name_byte, is_image_byte, is_letter_or_digit};
 
-/// A service by the bytes of its name and its image, both of them ASCII.
+use std::str;
+
+/// A service by its name and its image.
 #[derive(Clone, Copy)]
 pub(crate) struct OneService<'a> {
-    pub(crate) name: &'a [u8],
-    pub(crate) image: &'a [u8],
+    pub(crate) name: &'a str,
+    pub(crate) image: &'a str,
 }
 
 /// Reads the one form of a text that is read so far, four lines; else gives the number of the first line
@@ -71,7 +75,7 @@ fn after_prefix<'a>(prefix: &[u8], line: &'a [u8]) -> Option<&'a [u8]>
     }
 }
 
-fn name_in(line: &[u8]) -> Option<&[u8]>
+fn name_in(line: &[u8]) -> Option<&str>
     ensures { option_copied result ≡ name_in line.now }
 {
     match after_prefix(b"  ", line) {
@@ -80,27 +84,43 @@ fn name_in(line: &[u8]) -> Option<&[u8]>
     }
 }
 
-fn before_colon(rest: &[u8]) -> Option<&[u8]>
+fn before_colon(rest: &[u8]) -> Option<&str>
     ensures { option_copied result ≡ before_colon rest.now }
 {
     if !rest.ends_with(b":") {
         return None;
     }
     let name = rest.split_at(rest.len() - 1).0;
-    if is_name(name) { Some(name) } else { None }
+    if is_name(name) {
+        Some(ascii(name))
+    } else {
+        None
+    }
 }
 
-fn image_in(line: &[u8]) -> Option<&[u8]>
+fn image_in(line: &[u8]) -> Option<&str>
     ensures { option_copied result ≡ image_in line.now }
 {
     match after_prefix(b"    image: ", line) {
-        Some(image) if is_image(image) => Some(image),
+        Some(image) if is_image(image) => Some(ascii(image)),
         _ => None,
     }
 }
 
+/// The text of bytes that are ASCII.
+fn ascii(bytes: &[u8]) -> &str
+    requires { IsUtf8 bytes.now }
+    ensures { result.now ≡ bytes.now }
+{
+    match str::from_utf8(bytes) {
+        Ok(text) => text,
+        Err(_) => unreachable!(),
+    }
+}
+
 fn is_name(name: &[u8]) -> bool
-    ensures { result ≡ is_name name.now }
+    ensures value { result ≡ is_name name.now }
+    ensures utf8 { IsTrue result → IsUtf8 name.now }
 {
     if name.is_empty() {
         return false;
@@ -109,13 +129,15 @@ fn is_name(name: &[u8]) -> bool
 }
 
 fn are_name_bytes(bytes: &[u8]) -> bool
-    ensures { result ≡ list_all is_name_byte bytes.now }
+    ensures value { result ≡ list_all is_name_byte bytes.now }
+    ensures utf8 { IsTrue result → IsUtf8 bytes.now }
 {
     bytes.iter().all(|byte| is_name_byte(*byte))
 }
 
 fn is_image(image: &[u8]) -> bool
-    ensures { result ≡ is_image image.now }
+    ensures value { result ≡ is_image image.now }
+    ensures utf8 { IsTrue result → IsUtf8 image.now }
 {
     if !begins_with_letter_or_digit(image) {
         return false;
@@ -139,7 +161,8 @@ fn begins_with_letter_or_digit(image: &[u8]) -> bool
 }
 
 fn are_image_bytes(bytes: &[u8]) -> bool
-    ensures { result ≡ list_all is_image_byte bytes.now }
+    ensures value { result ≡ list_all is_image_byte bytes.now }
+    ensures utf8 { IsTrue result → IsUtf8 bytes.now }
 {
     bytes.iter().all(|byte| is_image_byte(*byte))
 }
