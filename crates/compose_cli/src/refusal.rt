@@ -1,6 +1,4 @@
-ghost use Rattle.std.specs.Prelude.{◌≡◌};
-
-use engine_types::{Condition, LateWhy, Outcome, Report, Request, SeenFault};
+use engine_types::{Outcome, Request, SeenFault};
 use tree_base::{Place, Text};
 
 /// Why a call ended otherwise than well. Each has its exit status and the line that it prints.
@@ -16,16 +14,6 @@ pub enum Refusal {
     Seen(SeenFault),
     /// An exchange of the run didn't end well.
     Request { request: Request, outcome: Outcome },
-    /// A condition on a slot failed.
-    Condition {
-        slot: Text,
-        condition: Condition,
-        report: Report,
-    },
-    /// The run was asked to stop.
-    Stopped,
-    /// The run met its deadline, or its journal was full.
-    Late(LateWhy),
     /// Something outside failed.
     Outside(Part),
     /// Memory was wanted.

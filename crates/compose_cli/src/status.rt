@@ -15,7 +15,8 @@ pub(crate) fn status_of(refusal: &Option<Refusal>) -> u8
     }
 }
 
-fn refusal_status(refusal: &Refusal) -> u8
+/// The exit status of a refusal.
+pub(crate) fn refusal_status(refusal: &Refusal) -> u8
     ensures { result ≡ refusal_status refusal.now }
 {
     match refusal {
@@ -24,9 +25,6 @@ fn refusal_status(refusal: &Refusal) -> u8
         Refusal::Name(_) => 2,
         Refusal::Seen(fault) => seen_status(fault),
         Refusal::Request { outcome, .. } => outcome_status(outcome),
-        Refusal::Condition { .. } => 4,
-        Refusal::Stopped => 5,
-        Refusal::Late(_) => 6,
         Refusal::Outside(_) => 7,
         Refusal::Memory => 9,
     }

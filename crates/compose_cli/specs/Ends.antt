@@ -1,0 +1,45 @@
+-- How a call ends.
+use Rattle.std.specs.Prelude.{◌≡◌, ℕ, ◌+◌, List, [], Option, Some, None}
+use Rattle.compose_cli.specs.declared.ended.Ended.{Ended}
+use Rattle.compose_cli.specs.declared.refusal.Refusal.{Refusal}
+use Rattle.compose_cli.specs.declared.refusal.LoadRefusal.{LoadRefusal}
+use Rattle.compose_cli.specs.declared.refusal.Part.{Part}
+
+-- no hand was made, and the journal is empty
+abbrev pub SendsNothing : {H : Type 0} → Ended H → Type 0
+SendsNothing ended = (ended.hands ≡ []) × (ended.journal ≡ [])
+
+-- the refusal is this one; a read that failed and a want of memory may stand in its place
+abbrev pub IsRefusal : Refusal → Option Refusal → Type 0
+IsRefusal expected (Some Refusal.Memory) = Unit {0}
+IsRefusal expected (Some (Refusal.Load (LoadRefusal.ReadFault path))) = Unit {0}
+IsRefusal expected found = found ≡ Some expected
+
+-- the call is refused so, and nothing was sent
+abbrev pub IsRefusedWith : {H : Type 0} → Refusal → Ended H → Type 0
+IsRefusedWith refusal ended = SendsNothing ended × IsRefusal refusal ended.refusal
+
+-- a refusal of the words, of loading, or of the project's name
+abbrev pub IsOfLoading : Option Refusal → Type 0
+IsOfLoading (Some (Refusal.NotBuilt unbuilt)) = Unit {0}
+IsOfLoading (Some (Refusal.Load refusal)) = Unit {0}
+IsOfLoading (Some (Refusal.Name refusal)) = Unit {0}
+IsOfLoading _ = ⊥
+
+-- the plug's count of hands, where it is told, rose by so many
+abbrev pub CountsHands : Option ℕ → Option ℕ → ℕ → Type 0
+CountsHands None new hands = new ≡ None
+CountsHands (Some old) new hands = new ≡ Some (old + hands)
+
+-- the refusal that is said: this one, or a want of memory
+abbrev pub IsSaid : Refusal → Option Refusal → Type 0
+IsSaid refusal (Some Refusal.Memory) = Unit {0}
+IsSaid refusal found = found ≡ Some refusal
+
+-- a refusal that comes after the dial, or none
+abbrev pub IsOfRun : Option Refusal → Type 0
+IsOfRun (Some (Refusal.NotBuilt unbuilt)) = ⊥
+IsOfRun (Some (Refusal.Load refusal)) = ⊥
+IsOfRun (Some (Refusal.Name refusal)) = ⊥
+IsOfRun (Some (Refusal.Outside Part.Plug)) = ⊥
+IsOfRun _ = Unit {0}
