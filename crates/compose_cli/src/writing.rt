@@ -8,11 +8,11 @@ pub(crate) fn write_all<S: Sink>(sink: &mut S, bytes: &[u8]) -> bool
     ensures counted { S.faults sink.old ≤ S.faults sink.new }
     ensures wrote { Wrote result bytes.now (S.written sink.old) (S.written sink.new) (S.faults sink.old) (S.faults sink.new) }
 {
-    let mut rest = bytes;
-    while !rest.is_empty() {
-        match sink.write(rest) {
+    let mut at = 0;
+    while at < bytes.len() {
+        match sink.write(bytes.split_at(at).1) {
             SinkAnswer::Took(0) => return false,
-            SinkAnswer::Took(taken) => rest = rest.split_at(taken).1,
+            SinkAnswer::Took(taken) => at += taken,
             SinkAnswer::Failed => return false,
         }
     }
