@@ -1,4 +1,5 @@
 pub mod Ascii
+pub mod Ending
 pub mod Loads
 pub mod Walks
 pub mod Writes

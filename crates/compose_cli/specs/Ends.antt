@@ -26,6 +26,14 @@ IsOfLoading (Some (Refusal.Load refusal)) = Unit {0}
 IsOfLoading (Some (Refusal.Name refusal)) = Unit {0}
 IsOfLoading _ = ⊥
 
+-- a refusal that comes before the dial
+abbrev pub IsBeforeDial : Refusal → Type 0
+IsBeforeDial (Refusal.NotBuilt unbuilt) = Unit {0}
+IsBeforeDial (Refusal.Load refusal) = Unit {0}
+IsBeforeDial (Refusal.Name refusal) = Unit {0}
+IsBeforeDial Refusal.Memory = Unit {0}
+IsBeforeDial _ = ⊥
+
 -- the plug's count of hands, where it is told, rose by so many
 abbrev pub CountsHands : Option ℕ → Option ℕ → ℕ → Type 0
 CountsHands None new hands = new ≡ None

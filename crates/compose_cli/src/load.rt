@@ -1,4 +1,5 @@
-ghost use Rattle.std.specs.Prelude.{◌≡◌, ◌≤◌, Ok, Err, IfSome, IfOk, false};
+ghost use Rattle.std.specs.Prelude.{◌≡◌, ◌≤◌, Ok, Err, IfSome, IfOk, IfErr, false};
+ghost use Rattle.compose_cli.specs.Ends.{IsBeforeDial};
 ghost use Rattle.outside_api.specs.Counts.{Rose};
 ghost use Rattle.compose_cli.specs.Directories.{base_name};
 ghost use Rattle.compose_cli.specs.Loading.{loaded, read, spelled, named, are_built, compose_path, LoadsAs};
@@ -31,6 +32,7 @@ pub(crate) fn load<F: Files>(
     ensures told { IfSome (F.told files.old) (λ contents. LoadsAs (loaded words.now directory.now contents) result) }
     ensures words { are_built words.now ≡ false → result ≡ Err (Refusal.NotBuilt Unbuilt.Words) }
     ensures read { (path : _) → result ≡ Err (Refusal.Load (LoadRefusal.ReadFault path)) → Rose (F.faults files.old) (F.faults files.new) }
+    ensures kind { IfErr result IsBeforeDial }
 {
     if !words::are_built(words) {
         return Err(Refusal::NotBuilt(Unbuilt::Words));
@@ -62,6 +64,7 @@ fn locate(alloc: Global, directory: &Text) -> Result<(Text, &str), Memory>
 fn project_of(alloc: Global, path: Text, base: &str, bytes: &[u8]) -> Result<Project, Refusal>
     ensures told { LoadsAs (spelled path base.now (one_service bytes.now)) result }
     ensures read { (path : _) → result ≡ Err (Refusal.Load (LoadRefusal.ReadFault path)) → ⊥ }
+    ensures kind { IfErr result IsBeforeDial }
 {
     match read_one_service(bytes) {
         Ok(service) => named(alloc, base, service.name, service.image),
@@ -79,6 +82,7 @@ fn project_of(alloc: Global, path: Text, base: &str, bytes: &[u8]) -> Result<Pro
 fn named(alloc: Global, base: &str, service: &str, image: &str) -> Result<Project, Refusal>
     ensures told { LoadsAs (named (name_from base.now) (record { name = service.now; image = image.now })) result }
     ensures read { (path : _) → result ≡ Err (Refusal.Load (LoadRefusal.ReadFault path)) → ⊥ }
+    ensures kind { IfErr result IsBeforeDial }
 {
     let Ok(name) = project_name::name_from(alloc, base) else {
         return Err(Refusal::Memory);

@@ -1,3 +1,6 @@
+ghost use Rattle.std.specs.Prelude.{Some};
+ghost use Rattle.compose_cli.specs.Ends.{IsOfRun};
+
 use crate::planning::{as_number, kept};
 use crate::refusal::Refusal;
 use engine_types::{Action, ActionKind, Declared, Entry, Listed, Outcome, Plan, Reply, Request, Seen, Slot, label, labels};
@@ -30,17 +33,30 @@ pub(crate) fn run<H: Hand>(
     hand: &mut H,
     setup: &Setup<'_>,
     journal: &mut ReservedList<Entry>,
-) -> Option<Refusal> {
+) -> Option<Refusal>
+    ensures { IsOfRun result }
+{
     let mut first = None;
     let last = match make_all(alloc, hand, setup, journal, &mut first) {
         Ok(()) => Entry::Leave { worker: 0 },
         Err(_) => {
-            first = first.or(Some(Refusal::Memory));
+            first = or_memory(first);
             Entry::Short { worker: 0 }
         }
     };
     let _ = journal.push(last);
     first
+}
+
+/// The first refusal, else a want of memory.
+fn or_memory(first: Option<Refusal>) -> Option<Refusal>
+    requires { IsOfRun first }
+    ensures { IsOfRun result }
+{
+    match first {
+        Some(refusal) => Some(refusal),
+        None => Some(Refusal::Memory),
+    }
 }
 
 fn make_all<H: Hand>(
@@ -49,7 +65,10 @@ fn make_all<H: Hand>(
     setup: &Setup<'_>,
     journal: &mut ReservedList<Entry>,
     first: &mut Option<Refusal>,
-) -> Result<(), Memory> {
+) -> Result<(), Memory>
+    requires { IsOfRun first.old }
+    ensures { IsOfRun first.new }
+{
     let mut standings = Vec::new(alloc);
     for (at, action) in setup.plan.actions.as_slice().iter().enumerate() {
         standings.reserve(1)?;
@@ -70,7 +89,9 @@ fn make_all<H: Hand>(
 }
 
 /// What an exchange that didn't end well is refused with, by its entry.
-fn refusal_of(alloc: Global, request: Request, entry: Option<&Entry>) -> Refusal {
+fn refusal_of(alloc: Global, request: Request, entry: Option<&Entry>) -> Refusal
+    ensures { IsOfRun (Some result) }
+{
     match entry {
         Some(Entry::Ended { outcome: Outcome::Memory, .. }) => Refusal::Memory,
         Some(Entry::Ended { outcome, .. }) => match outcome.copy(alloc) {

@@ -1,3 +1,6 @@
+ghost use Rattle.std.specs.Prelude.{Some, IfOk};
+ghost use Rattle.compose_cli.specs.Ends.{IsOfRun};
+
 use crate::declaring::declare;
 use crate::observing::observe;
 use crate::planning::plan_up;
@@ -19,14 +22,18 @@ pub(crate) struct Ran {
 }
 
 /// Brings up a project with one hand.
-pub(crate) fn bring_up<H: Hand>(alloc: Global, hand: &mut H, project: &Project) -> Ran {
+pub(crate) fn bring_up<H: Hand>(alloc: Global, hand: &mut H, project: &Project) -> Ran
+    ensures { IsOfRun result.refusal }
+{
     match declare(alloc, project) {
         Ok(declared) => run_declared(alloc, hand, &declared),
         Err(_) => short_of_memory(alloc, List::new(alloc)),
     }
 }
 
-fn short_of_memory(alloc: Global, journal: List<Entry>) -> Ran {
+fn short_of_memory(alloc: Global, journal: List<Entry>) -> Ran
+    ensures { IsOfRun result.refusal }
+{
     Ran {
         journal,
         report: Text::new(alloc),
@@ -34,7 +41,9 @@ fn short_of_memory(alloc: Global, journal: List<Entry>) -> Ran {
     }
 }
 
-fn run_declared<H: Hand>(alloc: Global, hand: &mut H, declared: &Declared) -> Ran {
+fn run_declared<H: Hand>(alloc: Global, hand: &mut H, declared: &Declared) -> Ran
+    ensures { IsOfRun result.refusal }
+{
     let mut journal = ReservedList::new(alloc);
     if journal.reserve(3).is_err() {
         return short_of_memory(alloc, List::new(alloc));
@@ -58,7 +67,9 @@ fn run_seen<H: Hand>(
     hand: &mut H,
     declared: &Declared,
     journal: &mut ReservedList<Entry>,
-) -> Result<(Text, Option<Refusal>), Memory> {
+) -> Result<(Text, Option<Refusal>), Memory>
+    ensures { IfOk result (λ ran. IsOfRun ran.1) }
+{
     let seen = match journal.get(0) {
         Some(Entry::Seen(Observed { end: SeenEnd::Good(seen), .. })) => seen.copy(alloc)?,
         Some(Entry::Seen(Observed { end: SeenEnd::Bad(fault), .. })) => {
@@ -73,7 +84,9 @@ fn run_seen<H: Hand>(
     Ok((report, refusal))
 }
 
-fn seen_refusal(alloc: Global, fault: &SeenFault) -> Result<Refusal, Memory> {
+fn seen_refusal(alloc: Global, fault: &SeenFault) -> Result<Refusal, Memory>
+    ensures { IfOk result (λ refusal. IsOfRun (Some refusal)) }
+{
     match fault {
         SeenFault::Memory => Ok(Refusal::Memory),
         _ => Ok(Refusal::Seen(fault.copy(alloc)?)),
