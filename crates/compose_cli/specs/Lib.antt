@@ -1,7 +1,9 @@
 pub mod Directories
 pub mod Ends
+pub mod HandClocks
 pub mod Lines
 pub mod Loading
+pub mod MemoryHands
 pub mod OneServiceTexts
 pub mod ProjectNames
 pub mod Statuses

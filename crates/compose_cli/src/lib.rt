@@ -7,8 +7,12 @@
 mod declaring;
 mod directory;
 mod ended;
+mod hand_clock;
 mod line;
 mod load;
+mod main_plug;
+mod memory_hand;
+mod memory_plug;
 mod observing;
 mod one_service;
 mod planning;
@@ -24,5 +28,9 @@ mod words;
 mod writing;
 
 pub use ended::Ended;
+pub use hand_clock::HandClock;
+pub use main_plug::MainPlug;
+pub use memory_hand::MemoryHand;
+pub use memory_plug::MemoryPlug;
 pub use refusal::{LoadRefusal, Part, ProjectRefusal, Refusal, Unbuilt};
 pub use top::serial_main;
