@@ -1,9 +1,15 @@
 -- How large a tree is, and how deep.
-use Rattle.std.specs.Prelude.{ℕ, ◌+◌, ◌++◌, List, length, map, sum, fold, max}
+use Rattle.std.specs.Prelude.{ℕ, ◌+◌, List, [], ◌∷◌, length, map, sum, max}
 use Rattle.std.specs.Map.{keys_of, values_of}
 use Rattle.tree_base.specs.declared.tree.Tree.{Tree, fold-Tree}
 use Rattle.tree_base.specs.declared.tree.Tree.TheOpen.{Tree-F}
 
+-- the greatest of some numbers, and 0 where there are none
+abbrev pub greatest : List ℕ → ℕ
+greatest [] = 0
+greatest (n ∷ more) = max n (greatest more)
+
+-- the nodes of a tree, where its parts are given by theirs
 abbrev pub node_step : Tree-F ℕ → ℕ
 node_step Tree-F.Null = 1
 node_step (Tree-F.Scalar text) = 1
@@ -16,11 +22,12 @@ node_step (Tree-F.Override inner) = inner
 abbrev pub node_count : Tree → ℕ
 node_count = fold-Tree ℕ node_step
 
+-- the depth of a tree, where its parts are given by theirs
 abbrev pub depth_step : Tree-F ℕ → ℕ
 depth_step Tree-F.Null = 1
 depth_step (Tree-F.Scalar text) = 1
-depth_step (Tree-F.Map entries) = 1 + fold max 0 (values_of entries)
-depth_step (Tree-F.Seq items) = 1 + fold max 0 items
+depth_step (Tree-F.Map entries) = 1 + greatest (values_of entries)
+depth_step (Tree-F.Seq items) = 1 + greatest items
 depth_step Tree-F.Reset = 0
 depth_step (Tree-F.Override inner) = inner
 
@@ -28,6 +35,7 @@ depth_step (Tree-F.Override inner) = inner
 abbrev pub depth : Tree → ℕ
 depth = fold-Tree ℕ depth_step
 
+-- the bytes of a tree, where its parts are given by theirs
 abbrev pub text_step : Tree-F ℕ → ℕ
 text_step Tree-F.Null = 0
 text_step (Tree-F.Scalar text) = length text

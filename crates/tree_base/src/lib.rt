@@ -10,6 +10,7 @@ mod list;
 mod memory;
 mod place;
 mod reserved_list;
+mod size;
 mod text;
 mod text_map;
 mod tree;

@@ -22,19 +22,24 @@ use Rattle.tree_base.specs.declared.boxed.Boxed.TheView.{view, invariant}
 use Rattle.tree_base.specs.contracts.boxed.Boxed as C
 use Rattle.tree_base.specs.contracts.boxed.Boxed.TheInside as I
 
+-- a boxed value holds what the value holds
 abbrev pub the_former : Former {0} → Former {0}
 the_former g = g
 
+-- it weighs what its value weighs
 abbrev pub the_weighed : {g : Former {0}} → Weighed g → Weighed (the_former g)
 the_weighed w = w
 
+-- its one field, whose address and allocator hold no value
 abbrev fields : Former {0}
 fields = via (pair (const (Ptr × Global)) this) Inside (λ X a. ((a.inner.ptr, a.inner.alloc), a.inner.value))
     (λ X v. record { inner = record { ptr = v.0.0; alloc = v.0.1; value = v.1 } }) (λ X a. refl) (λ X v. refl)
 
+-- the same box round another value
 abbrev with_value : {X Y : Type 0} → Box X Global → Y → Box Y Global
 with_value b y = record { ptr = b.ptr; alloc = b.alloc; value = y }
 
+-- the box of a type
 abbrev box_of : RattleType → RattleType
 box_of R = box.the_row R heap.the_row ghosts
 

@@ -19,21 +19,26 @@ use Rattle.tree_base.specs.declared.list.List.TheView.{view, invariant}
 use Rattle.tree_base.specs.contracts.list.List as C
 use Rattle.tree_base.specs.contracts.list.List.TheInside as I
 
+-- a list holds what its items hold
 abbrev pub the_former : Former {0} → Former {0}
 the_former g = list g
 
+-- it weighs what its items weigh
 abbrev pub the_weighed : {g : Former {0}} → Weighed g → Weighed (the_former g)
 the_weighed w = w_list w
 
+-- a list that holds no value
 pub the_empty : List ⊥
 the_empty = []
 
+-- the values that a list holds, in order
 abbrev pub the_items : (X : Type 0) → List X → List X
 the_items X d = d
 
 pub the_items_listed : (X : Type 0) (d : List X) → listed _ (children (the_former this) X d) ≡ the_items X d
 the_items_listed X d = list-listed X d
 
+-- its one field, a vector
 abbrev fields : Former {0}
 fields = via (vec.the_former this Global) Inside (λ X a. a.items) (λ X v. record { items = v }) (λ X a. refl) (λ X v. refl)
 

@@ -33,6 +33,7 @@ entry g = pair (const (List ℕ)) g
 abbrev pub on_value : {X Y : Type 0} → (X → Y) → List ℕ × X → List ℕ × Y
 on_value h p = (p.0, h p.1)
 
+-- a map holds what its values hold
 abbrev pub the_former : Former {0} → Former {0}
 the_former g = list (entry g)
 
@@ -44,12 +45,15 @@ pub entries_puts : {g : Former {0}} (w : Weighed g) (X : Type 0) (μ : X → ℕ
     → deepest μ (list_count (entry g) (map ((entry g).shape X) es) n) (list_put (entry g) X es n t) ≡ max (most (w.weight X μ) (values_of es)) (deepest μ n t)
 entries_puts w X μ es n t = List-puts (w_pair (w_const (List ℕ)) w) X μ es n t ∙ ap (λ a. max a (deepest μ n t)) (most_values (w.weight X μ) es)
 
+-- it weighs what its values weigh
 abbrev pub the_weighed : {g : Former {0}} → Weighed g → Weighed (the_former g)
 the_weighed w = record { weight = λ X μ es. most (w.weight X μ) (values_of es); puts = entries_puts w }
 
+-- a map that holds no value
 pub the_empty : List (List ℕ × ⊥)
 the_empty = []
 
+-- the values that a map holds, in order
 abbrev pub the_items : (X : Type 0) → List (List ℕ × X) → List X
 the_items X d = values_of d
 
@@ -61,6 +65,7 @@ the_items_listed X (e ∷ es) = ap (λ l. e.1 ∷ l) (the_items_listed X es)
 abbrev Keys : Type 0
 Keys = HashSet (List ℕ) (BuildHasherDefault FoldHasher)
 
+-- its keys beside the list of its values
 abbrev fields : Former {0}
 fields = via (pair (const Keys) (list_former.the_former this)) Inside (λ X a. (a.keys, a.values)) (λ X v. record { keys = v.0; values = v.1 }) (λ X a. refl) (λ X v. refl)
 
