@@ -119,6 +119,10 @@ to_up = record { purpose = Purpose.Up; orphans = false; volumes = false }
 abbrev pub up_of : Declared → List Entry → Setup
 up_of declared past = setup_of declared to_up plain_limits past
 
+-- the same with two workers
+abbrev pub two_up_of : Declared → List Entry → Setup
+two_up_of declared past = setup_of declared to_up (record plain_limits { workers = 2 }) past
+
 -- an exchange that was answered
 abbrev pub answered : Request → Reply → Exchange
 answered request reply = record { request = request; outcome = Outcome.Answered reply }
@@ -155,3 +159,7 @@ seen_no_image = record {
 -- the run on an Engine that has no such image to pull
 abbrev pub no_image : List Entry
 no_image = Entry.Seen seen_no_image ∷ []
+
+-- worker 0 creates the container, and hasn't come back
+abbrev pub creates_still : List Entry
+creates_still = Entry.Seen seen_fresh ∷ Entry.Claim 0 0 ∷ []

@@ -79,3 +79,14 @@ falls_ill =
     ++ doing 3 Reply.Done ++ doing 4 Reply.Done
     ++ (Entry.Poll 0 0 ∷ reported ContainerState.Running Health.Healthy ∷ Entry.Poll 0 1 ∷ reported ContainerState.Running Health.Absent
     ∷ Entry.Poll 0 0 ∷ reported ContainerState.Running Health.Unhealthy ∷ Entry.Leave 0 ∷ [])
+
+-- two workers, oldest entry first: worker 0 looks at `db` and hasn't come back, while worker 1 looked at `mig` twice
+abbrev pub one_stays_out : List Entry
+one_stays_out =
+    Entry.Seen seen_image ∷ []
+    ++ doing 0 (Reply.Made (codes "c1")) ++ doing 1 (Reply.Made (codes "c2")) ++ doing 2 (Reply.Made (codes "c3"))
+    ++ doing 3 Reply.Done ++ doing 4 Reply.Done
+    ++ (Entry.Poll 0 0 ∷ Entry.Poll 1 1 ∷ still_running ∷ Entry.Poll 1 1 ∷ still_running ∷ [])
+  where
+    still_running : Entry
+    still_running = Entry.Ended 1 (Outcome.Answered (Reply.State (record { state = ContainerState.Running; exit_code = pos 0; health = Health.Absent })))

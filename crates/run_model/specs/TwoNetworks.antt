@@ -13,6 +13,7 @@ use Rattle.engine_types.specs.declared.NetRow.{NetRow}
 use Rattle.engine_types.specs.declared.NetworkSpec.{NetworkSpec}
 use Rattle.engine_types.specs.declared.Observed.{Observed}
 use Rattle.engine_types.specs.declared.Outcome.{Outcome}
+use Rattle.engine_types.specs.declared.Policy.{Policy}
 use Rattle.engine_types.specs.declared.Reply.{Reply}
 use Rattle.engine_types.specs.declared.Request.{Request}
 use Rattle.engine_types.specs.declared.Seen.{Seen}
@@ -123,3 +124,19 @@ connects =
     Entry.Seen (seen_as (listed ContainerState.Created (codes "shop_a" ∷ []) ∷ []) both)
     ∷ Entry.Claim 0 0 ∷ Entry.Ended 0 (Outcome.Answered Reply.Done)
     ∷ Entry.Claim 0 1 ∷ Entry.Ended 0 (Outcome.Answered Reply.Done) ∷ Entry.Leave 0 ∷ []
+
+-- the listings of an observation of the project
+abbrev pub listings : List NetRow → List Exchange
+listings networks = answered (Request.ListContainers (codes "shop")) (Reply.Containers []) ∷ answered Request.ListNetworks (Reply.Networks networks) ∷ []
+
+-- the same project, whose network `a` is external
+abbrev pub with_external : Declared
+with_external = record shop { networks = record (network_of (codes "a")) { external = true } ∷ network_of (codes "b") ∷ [] }
+
+-- the same project, whose service can be built
+abbrev pub with_build : Declared
+with_build = record shop { slots = record web { has_build = true } ∷ [] }
+
+-- the same project, whose image is always pulled
+abbrev pub with_pull : Declared
+with_pull = record shop { slots = record web { policy = Policy.Always } ∷ [] }

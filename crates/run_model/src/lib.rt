@@ -13,6 +13,7 @@ mod verdict;
 pub use laws::refusal_changes_nothing;
 pub use rows::{
     failed_condition_is_refused, lost_create_is_found, missing_image_is_refused,
-    name_in_use_is_refused, one_service_comes_up, one_service_is_exact, plans_of_two_networks,
+    name_in_use_is_refused, observations_of_two_networks, one_service_comes_up,
+    one_service_is_exact, plans_of_two_networks, workers_find_other_work,
 };
 pub use verdict::Verdict;

@@ -1,13 +1,20 @@
-ghost use Rattle.std.specs.Prelude.{◌≡◌, [], ◌∷◌, length, reverse, codes, option_map, Bool, true, false};
+ghost use Rattle.std.specs.Prelude.{◌≡◌, [], ◌∷◌, ◌++◌, length, reverse, codes, option_map, Bool, true, false};
 ghost use Rattle.engine_types.specs.declared.ActionKind.{ActionKind};
 ghost use Rattle.engine_types.specs.declared.ContainerState.{ContainerState};
+ghost use Rattle.engine_types.specs.declared.Kind.{Kind};
+ghost use Rattle.engine_types.specs.declared.Purpose.{Purpose};
+ghost use Rattle.engine_types.specs.declared.Reply.{Reply};
+ghost use Rattle.engine_types.specs.declared.Request.{Request};
+ghost use Rattle.engine_types.specs.declared.SeenEnd.{SeenEnd};
+ghost use Rattle.engine_types.specs.declared.SeenFault.{SeenFault};
 ghost use Rattle.run_model.specs.Ending.{IsFinal, first_fault, status_of};
-ghost use Rattle.run_model.specs.Legal.{IsLegal};
+ghost use Rattle.run_model.specs.Legal.{IsLegal, Look, Pause, decision};
 ghost use Rattle.run_model.specs.Lines.{fault_text, report_text};
-ghost use Rattle.run_model.specs.OneService.{comes_up, name_in_use, no_image, shop, to_up, up_of, web};
+ghost use Rattle.run_model.specs.OneService.{answered, comes_up, creates_still, name_in_use, nginx, no_image, shop, to_up, two_up_of, up_of, web};
 ghost use Rattle.run_model.specs.OneWorld.{fresh, moves, up};
 ghost use Rattle.run_model.specs.ThreeServices as three;
 ghost use Rattle.run_model.specs.TwoNetworks as two;
+ghost use Rattle.run_model.specs.Observation.{Asks, Ends, Strays, observed};
 ghost use Rattle.run_model.specs.Plans.{down_basis, planned, up_basis};
 ghost use Rattle.run_model.specs.Exact.{IsExact};
 ghost use Rattle.run_model.specs.Cuts.{creates};
@@ -82,4 +89,29 @@ pub fn lost_create_is_found()
     ensures status { status_of (up_of two.shop (reverse two.connects)) (reverse two.connects) ≡ 0 }
     ensures report { report_text (up_of two.shop (reverse two.connects)) (reverse two.connects)
         ≡ codes "container shop-web-1 connected to shop_b\ncontainer shop-web-1 started\n" }
+{}
+
+/// What observations of a service on two networks ask next, and how they end: where a network is there twice, is
+/// another project's, or is external and missing; where the image is to be built; where it is always pulled.
+pub fn observations_of_two_networks()
+    ensures first { observed two.shop Purpose.Up [] ≡ Asks (Request.ListContainers (codes "shop")) }
+    ensures networks { observed two.shop Purpose.Up (answered (Request.ListContainers (codes "shop")) (Reply.Containers []) ∷ []) ≡ Asks Request.ListNetworks }
+    ensures image { observed two.shop Purpose.Up (two.listings two.both) ≡ Asks (Request.Image nginx) }
+    ensures down { observed two.shop Purpose.Down (two.listings two.both) ≡ Ends (SeenEnd.Good (record { containers = []; networks = two.both; volumes = []; images = [] })) }
+    ensures twice { observed two.shop Purpose.Up (two.listings (two.network_row (codes "n2") (codes "a") ∷ two.network_row (codes "n1") (codes "a") ∷ []))
+        ≡ Ends (SeenEnd.Bad (SeenFault.NetworkTwice (codes "shop_a") (codes "n1") (codes "n2"))) }
+    ensures foreign { observed two.shop Purpose.Down (two.listings (record { id = codes "n1"; name = codes "shop_b"; labels = [] } ∷ []))
+        ≡ Ends (SeenEnd.Bad (SeenFault.ForeignNetwork (codes "shop_b") (codes "n1"))) }
+    ensures missing { observed two.with_external Purpose.Up (two.listings []) ≡ Ends (SeenEnd.Bad (SeenFault.ExternalMissing Kind.Network (codes "shop_a"))) }
+    ensures build { observed two.with_build Purpose.Up (two.listings [] ++ answered (Request.Image nginx) (Reply.Refused 404 (codes "not found")) ∷ [])
+        ≡ Ends (SeenEnd.Bad (SeenFault.NeedsBuild (codes "web"))) }
+    ensures pull { observed two.with_pull Purpose.Up (two.listings []) ≡ Asks (Request.Pull nginx) }
+    ensures more { observed two.shop Purpose.Down (two.listings two.both ++ answered Request.ListVolumes (Reply.Volumes []) ∷ []) ≡ Strays }
+{}
+
+/// Workers that find no action: a poll goes to a slot at which no other worker looks, however often that slot was
+/// polled; and where there is nothing to look at, a worker pauses while another's permit is out.
+pub fn workers_find_other_work()
+    ensures look { decision (two_up_of three.shop (reverse three.one_stays_out)) (reverse three.one_stays_out) 1 ≡ Look 1 }
+    ensures pause { decision (two_up_of shop (reverse creates_still)) (reverse creates_still) 1 ≡ Pause }
 {}
