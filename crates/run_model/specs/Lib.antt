@@ -17,3 +17,4 @@ pub mod OneService
 pub mod ThreeServices
 pub mod OneWorld
 pub mod TwoNetworks
+pub mod Laws

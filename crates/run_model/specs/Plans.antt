@@ -1,5 +1,5 @@
 -- What a plan has: which actions, in which order, and what each needs before it.
-use Rattle.std.specs.Prelude.{◌≡◌, ℕ, ◌<◌, ◌^◌, ◌-◌, min, Bool, true, false, not, if◌then◌else◌, ◌&&◌, ◌||◌, ◌==◌, nat_lt, List, [], ◌∷◌, ◌++◌, Option, Some, None, filter, find, map, flat_map, length, slice_get, option_map, option_and_then, is_some, unwrap_or}
+use Rattle.std.specs.Prelude.{◌≡◌, ◌↔◌, ℕ, ◌<◌, ◌^◌, ◌-◌, min, Bool, true, false, not, if◌then◌else◌, ◌&&◌, ◌||◌, ◌==◌, nat_lt, List, [], ◌∷◌, ◌++◌, Option, Some, None, filter, find, map, flat_map, length, slice_get, option_map, option_and_then, is_some, unwrap_or}
 use Rattle.std.specs.List.{list_any, before_first}
 use Rattle.std.specs.Option.{option_map_or}
 use Rattle.std.specs.Str.{bytes_eq}
@@ -209,6 +209,14 @@ pub record HasPlan (basis : Basis) (actions : List Action) : Type 0 where
   pub kinds : map (λ action. action.kind) actions ≡ planned_kinds basis
   pub needs : (a b : ℕ) (kind other : ActionKind) → kind_of actions a ≡ Some kind → kind_of actions b ≡ Some other
       → is_needed_by basis kind other ≡ true → Among (needs_of actions a) b
+
+-- a plan as a set of actions: it has exactly those that are wanted, each once, and each needs exactly those that it is said to need
+pub record IsPlanOf (basis : Basis) (actions : List Action) : Type 0 where
+  pub wanted : (a : ℕ) (kind : ActionKind) → kind_of actions a ≡ Some kind → is_wanted basis kind ≡ true
+  pub all : (kind : ActionKind) → is_wanted basis kind ≡ true → (a : ℕ) × (kind_of actions a ≡ Some kind)
+  pub once : (a b : ℕ) (kind : ActionKind) → kind_of actions a ≡ Some kind → kind_of actions b ≡ Some kind → a ≡ b
+  pub needs : (a b : ℕ) (kind other : ActionKind) → kind_of actions a ≡ Some kind → kind_of actions b ≡ Some other
+      → (Among (needs_of actions a) b ↔ (is_needed_by basis kind other ≡ true))
 
 abbrev pub is_start_of : ℕ → Option ActionKind → Bool
 is_start_of s (Some (StartSlot t)) = t == s

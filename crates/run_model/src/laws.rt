@@ -1,9 +1,11 @@
-ghost use Rattle.std.specs.Prelude.{◌≡◌};
-ghost use Rattle.run_model.specs.EngineRules.{Answers};
-ghost use Rattle.engine_types.specs.declared.Engine.{Engine};
-ghost use Rattle.engine_types.specs.declared.Reply.{Reply};
+ghost use Rattle.run_model.specs.Laws.{RefusalChangesNothing, StatusIsZeroWithoutFault};
 
 /// A refusal changes nothing.
 pub fn refusal_changes_nothing()
-    ensures { (old new : Engine) (request : _) (status : _) (message : _) → Answers old request (Reply.Refused status message) new → new ≡ old }
+    ensures { RefusalChangesNothing }
+{}
+
+/// A run's exit status is 0 exactly where no entry of its journal fails.
+pub fn status_is_zero_without_fault()
+    ensures { StatusIsZeroWithoutFault }
 {}
