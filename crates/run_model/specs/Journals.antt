@@ -39,10 +39,12 @@ is_open Nothing = false
 is_open (Work a) = true
 is_open (Watch s) = true
 
+-- whether a permit is for this action
 abbrev pub is_work_on : ℕ → Holding → Bool
 is_work_on a (Work b) = b == a
 is_work_on a _ = false
 
+-- whether a permit is for a poll of this slot
 abbrev pub is_watch_of : ℕ → Holding → Bool
 is_watch_of s (Watch t) = t == s
 is_watch_of s _ = false
@@ -69,14 +71,17 @@ pub data Standing : Type 0 where
   Well : Reply → Standing
   Badly : Standing
 
+-- not claimed yet
 abbrev pub is_free : Standing → Bool
 is_free Free = true
 is_free _ = false
 
+-- ended well
 abbrev pub is_well : Standing → Bool
 is_well (Well reply) = true
 is_well _ = false
 
+-- ended otherwise than well
 abbrev pub is_badly : Standing → Bool
 is_badly Badly = true
 is_badly _ = false

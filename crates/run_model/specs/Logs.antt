@@ -16,6 +16,7 @@ exchanges_of setup (Entry.Ended v outcome ∷ past) w =
     if v == w then exchanges_of setup past w ++ record { request = request_out setup past v; outcome = outcome } ∷ [] else exchanges_of setup past w
 exchanges_of setup (_ ∷ past) w = exchanges_of setup past w
 
+-- want of memory
 abbrev pub is_memory : Outcome → Bool
 is_memory Outcome.Memory = true
 is_memory _ = false

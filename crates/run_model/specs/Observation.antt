@@ -65,10 +65,12 @@ failing request outcome rest = ending (SeenEnd.Bad (fault_in request outcome)) r
 abbrev pub images_of : Declared → List (List ℕ)
 images_of declared = by_key (λ image. image) (first_of_each (λ image. image) (map (λ slot. slot.image) declared.slots))
 
+-- the policy Always, `always` of the Compose Specification's `pull_policy`
 abbrev pub is_always : Policy → Bool
 is_always Policy.Always = true
 is_always _ = false
 
+-- the policy Missing, `missing` or nothing of the Compose Specification's `pull_policy`
 abbrev pub is_missing : Policy → Bool
 is_missing Policy.Missing = true
 is_missing _ = false
@@ -135,6 +137,7 @@ seeing_images declared [] seen rest = ending (SeenEnd.Good seen) rest
 seeing_images declared (image ∷ images) seen rest =
     by_policy declared (policy_of declared image) image (λ id. seeing_images declared images (with_image seen image id)) rest
 
+-- whether the project is to be brought up
 abbrev pub is_up : Purpose → Bool
 is_up Purpose.Up = true
 is_up Purpose.Down = false

@@ -104,6 +104,7 @@ web = record {
   stop_seconds = 10;
 }
 
+-- the project `shop`, which declares `web` alone
 abbrev pub shop : Declared
 shop = record { project = codes "shop"; slots = web ∷ []; networks = []; volumes = [] }
 

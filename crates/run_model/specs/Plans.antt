@@ -43,6 +43,7 @@ up_basis declared seen orphans = record { declared = declared; seen = seen; aim 
 abbrev pub down_basis : Declared → Seen → Bool → Bool → Basis
 down_basis declared seen orphans volumes = record { declared = declared; seen = seen; aim = record { purpose = Purpose.Down; orphans = orphans; volumes = volumes } }
 
+-- the slot with this number
 abbrev pub slot_at : Declared → ℕ → Option Slot
 slot_at declared s = slice_get declared.slots s
 
@@ -218,6 +219,7 @@ pub record IsPlanOf (basis : Basis) (actions : List Action) : Type 0 where
   pub needs : (a b : ℕ) (kind other : ActionKind) → kind_of actions a ≡ Some kind → kind_of actions b ≡ Some other
       → (Among (needs_of actions a) b ↔ (is_needed_by basis kind other ≡ true))
 
+-- whether an action starts this slot
 abbrev pub is_start_of : ℕ → Option ActionKind → Bool
 is_start_of s (Some (StartSlot t)) = t == s
 is_start_of s _ = false
@@ -226,6 +228,7 @@ is_start_of s _ = false
 abbrev pub start_of : List Action → ℕ → Option ℕ
 start_of actions s = find (λ a. is_start_of s (kind_of actions a)) (places actions)
 
+-- whether an action creates this slot's container
 abbrev pub is_create_of : ℕ → Option ActionKind → Bool
 is_create_of s (Some (CreateSlot t)) = t == s
 is_create_of s _ = false
@@ -234,6 +237,7 @@ is_create_of s _ = false
 abbrev pub create_of : List Action → ℕ → Option ℕ
 create_of actions s = find (λ a. is_create_of s (kind_of actions a)) (places actions)
 
+-- whether an action makes this network
 abbrev pub is_make_of : ℕ → Option ActionKind → Bool
 is_make_of n (Some (MakeNetwork m)) = m == n
 is_make_of n _ = false
@@ -260,9 +264,10 @@ abbrev pub is_slot_before : Slot → Slot → Bool
 is_slot_before slot other =
     is_before slot.service other.service || (bytes_eq slot.service other.service && nat_lt slot.number other.number)
 
-abbrev pub is_running_alone : Condition → Bool
-is_running_alone Condition.Running = true
-is_running_alone _ = false
+-- the condition Running, for which no slot may wait
+abbrev pub is_running : Condition → Bool
+is_running Condition.Running = true
+is_running _ = false
 
 -- each element stands before all later ones
 abbrev pub IsAscending : {X : Type 0} → (X → X → Bool) → List X → Type 0
@@ -276,4 +281,4 @@ pub record IsWhole (declared : Declared) : Type 0 where
   pub volumes : IsAscending (λ volume other. is_before volume.name other.name) declared.volumes
   pub attaches : (slot : Slot) (attach : Attach) → Among declared.slots slot → Among slot.attach attach → attach.network < length declared.networks
   pub needs : (slot : Slot) (need : Need) → Among declared.slots slot → Among slot.needs need → need.slot < length declared.slots
-  pub conditions : (slot : Slot) (need : Need) → Among declared.slots slot → Among slot.needs need → is_running_alone need.condition ≡ false
+  pub conditions : (slot : Slot) (need : Need) → Among declared.slots slot → Among slot.needs need → is_running need.condition ≡ false

@@ -52,6 +52,7 @@ db = record (slot_of (codes "db") []) {
 abbrev pub web : Slot
 web = slot_of (codes "web") (record { slot = 0; condition = Condition.Healthy; required = true } ∷ record { slot = 1; condition = Condition.Completed; required = true } ∷ [])
 
+-- the project of the three
 abbrev pub shop : Declared
 shop = record { project = codes "shop"; slots = db ∷ slot_of (codes "mig") [] ∷ web ∷ []; networks = []; volumes = [] }
 

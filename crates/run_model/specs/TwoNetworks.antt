@@ -49,6 +49,7 @@ web = record Rattle.run_model.specs.OneService.web {
   attach = record { network = 0; aliases = codes "web" ∷ [] } ∷ record { network = 1; aliases = codes "web" ∷ [] } ∷ [];
 }
 
+-- the project, which declares `web` and both networks
 abbrev pub shop : Declared
 shop = record { project = codes "shop"; slots = web ∷ []; networks = network_of (codes "a") ∷ network_of (codes "b") ∷ []; volumes = [] }
 
