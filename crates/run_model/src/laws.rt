@@ -1,4 +1,4 @@
-ghost use Rattle.run_model.specs.Laws.{RefusalChangesNothing, StatusIsZeroWithoutFault};
+ghost use Rattle.run_model.specs.Laws.{PlannedIsPlan, RefusalChangesNothing, StatusIsZeroWithoutFault};
 
 /// A refusal changes nothing.
 pub fn refusal_changes_nothing()
@@ -8,4 +8,10 @@ pub fn refusal_changes_nothing()
 /// A run's exit status is 0 exactly where no entry of its journal fails.
 pub fn status_is_zero_without_fault()
     ensures { StatusIsZeroWithoutFault }
+{}
+
+/// The plan, as it is listed, has exactly the actions that are wanted, each once, and each needs exactly those that
+/// it is said to need.
+pub fn planned_is_plan()
+    ensures { PlannedIsPlan }
 {}
