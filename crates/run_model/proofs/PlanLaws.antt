@@ -1,7 +1,7 @@
 -- The plan as it is listed is the plan as a set.
-use Rattle.std.proofs.Common.{◌≡◌, ◌⊎◌, ◌↔◌, ℕ, zero, suc, ◌+◌, ◌<◌, ◌≤◌, Bool, true, false, cond, not, ◌&&◌, ◌||◌, List, [], ◌∷◌, ◌++◌, map, length, Option, Some, None, slice_get, refl, sym, ap, ◌∙◌, subst, inl, inr, arith}
-use Rattle.std.specs.Option.{option_map_or, option_map}
-use Rattle.std.specs.Prelude.{filter, flat_map}
+use Rattle.std.proofs.Common.{◌≡◌, ◌⊎◌, ℕ, zero, suc, ◌<◌, Bool, true, false, not, ◌&&◌, List, [], ◌∷◌, ◌++◌, map, Option, Some, None, slice_get, refl, sym, ap, ◌∙◌, subst, inl, inr, arith}
+use Rattle.std.specs.Option.{option_map_or}
+use Rattle.std.specs.Prelude.{flat_map}
 use Rattle.engine_types.specs.declared.Action.{Action}
 use Rattle.engine_types.specs.declared.ActionKind.{ActionKind}
 use Rattle.engine_types.specs.declared.ActionKind.TheVariants.{MakeVolume, MakeNetwork, StopContainer, RemoveContainer, CreateSlot, ConnectSlot, StartSlot, RemoveNetwork, RemoveVolume}
@@ -10,7 +10,7 @@ use Rattle.engine_types.specs.declared.Listed.{Listed}
 use Rattle.engine_types.specs.declared.Slot.{Slot}
 use Rattle.run_model.specs.EngineRules.{Among}
 use Rattle.run_model.specs.Observation.{is_up}
-use Rattle.run_model.specs.Plans.{Basis, IsPlanOf, is_needed_by, is_removed, is_unattached, is_unstarted, is_wanted, kept_of, kind_of, needed_by, needs_of, places_by_id, planned, planned_kinds, possible, slot_at}
+use Rattle.run_model.specs.Plans.{Basis, IsPlanOf, is_needed_by, is_removed, is_unattached, is_unstarted, is_wanted, kind_of, needed_by, needs_of, places_by_id, planned, planned_kinds, possible, slot_at}
 use Rattle.run_model.specs.Tests.{places}
 use Rattle.run_model.proofs.DistinctLists.{Distinct, among_by_key, among_filter, among_flat_map, among_left, among_map, among_places, among_right, at_place, distinct_append, distinct_by_key, distinct_filter, distinct_flat_map, distinct_map, distinct_places, from_append, from_filter, from_flat_map, from_map, from_place, same_place}
 

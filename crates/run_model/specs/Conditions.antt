@@ -1,5 +1,5 @@
 -- Conditions on a slot's container: which reports count, what is met, what has failed, what is blocked, and what is watched.
-use Rattle.std.specs.Prelude.{ℕ, zero, suc, Bool, true, false, not, if◌then◌else◌, ◌&&◌, ◌||◌, ◌==◌, ℤ, pos, negsuc, nat_le, List, [], ◌∷◌, Option, Some, None, length, find}
+use Rattle.std.specs.Prelude.{ℕ, zero, suc, Bool, true, false, not, if◌then◌else◌, ◌&&◌, ◌||◌, ◌==◌, ℤ, pos, negsuc, List, [], ◌∷◌, Option, Some, None, length}
 use Rattle.std.specs.List.{list_any, list_all}
 use Rattle.std.specs.Option.{option_map_or}
 use Rattle.engine_types.specs.declared.Condition.{Condition}
@@ -11,7 +11,7 @@ use Rattle.engine_types.specs.declared.Outcome.{Outcome}
 use Rattle.engine_types.specs.declared.Reply.{Reply}
 use Rattle.engine_types.specs.declared.Report.{Report}
 use Rattle.run_model.specs.declared.verdict.Verdict.{Verdict}
-use Rattle.run_model.specs.Journals.{Setup, holding, is_badly, is_free, is_watch_of, is_well, polls, standing}
+use Rattle.run_model.specs.Journals.{Setup, holding, is_badly, is_free, is_watch_of, is_well, standing}
 use Rattle.run_model.specs.Plans.{kind_of, needs_of, slot_at, slot_needs, start_of}
 use Rattle.run_model.specs.Tests.{places}
 

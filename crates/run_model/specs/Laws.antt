@@ -1,6 +1,5 @@
 -- Laws of the definitions of a run.
-use Rattle.std.specs.Prelude.{◌≡◌, ◌↔◌, ℕ, ◌++◌, ◌∷◌, true, List, None, Some, slice_get}
-use Rattle.engine_types.specs.declared.ActionKind.{ActionKind}
+use Rattle.std.specs.Prelude.{◌≡◌, ◌↔◌, ℕ, List, None}
 use Rattle.engine_types.specs.declared.Engine.{Engine}
 use Rattle.engine_types.specs.declared.Entry.{Entry}
 use Rattle.engine_types.specs.declared.Reply.{Reply}

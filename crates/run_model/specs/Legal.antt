@@ -6,13 +6,12 @@ use Rattle.engine_types.specs.declared.Entry.{Entry}
 use Rattle.engine_types.specs.declared.Exchange.{Exchange}
 use Rattle.engine_types.specs.declared.LateWhy.{LateWhy}
 use Rattle.engine_types.specs.declared.Observed.{Observed}
-use Rattle.engine_types.specs.declared.Purpose.{Purpose}
 use Rattle.engine_types.specs.declared.RunLimits.{RunLimits}
 use Rattle.engine_types.specs.declared.Seen.{Seen}
 use Rattle.engine_types.specs.declared.SeenEnd.{SeenEnd}
 use Rattle.engine_types.specs.declared.SeenFault.{SeenFault}
 use Rattle.run_model.specs.Conditions.{is_allowed, is_watched}
-use Rattle.run_model.specs.Journals.{Holding, Nothing, Setup, has_left, has_stopped, holding, is_ending, is_open, is_watch_of, polls, seen_in}
+use Rattle.run_model.specs.Journals.{Nothing, Setup, has_left, has_stopped, holding, is_ending, is_open, is_watch_of, polls, seen_in}
 use Rattle.run_model.specs.Observation.{Asks, Ends, Onward, Strays, is_asked, observed}
 use Rattle.run_model.specs.Plans.{Aim, Basis, action_count, is_too_long, planned}
 use Rattle.run_model.specs.Tests.{numbers_from, places}

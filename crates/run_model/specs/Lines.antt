@@ -1,5 +1,5 @@
 -- The printed lines of a run: its report, and the line of its fault.
-use Rattle.std.specs.Prelude.{ℕ, Bool, true, false, if◌then◌else◌, List, [], ◌∷◌, ◌++◌, Option, Some, None, slice_get, codes, decimal}
+use Rattle.std.specs.Prelude.{ℕ, if◌then◌else◌, List, [], ◌∷◌, ◌++◌, slice_get, codes, decimal}
 use Rattle.std.specs.Fmt.{signed_decimal}
 use Rattle.std.specs.Option.{option_map_or}
 use Rattle.engine_types.specs.declared.ActionKind.{ActionKind}
@@ -8,7 +8,6 @@ use Rattle.engine_types.specs.declared.ContainerState.{ContainerState}
 use Rattle.engine_types.specs.declared.Entry.{Entry}
 use Rattle.engine_types.specs.declared.Health.{Health}
 use Rattle.engine_types.specs.declared.Kind.{Kind}
-use Rattle.engine_types.specs.declared.LateWhy.{LateWhy}
 use Rattle.engine_types.specs.declared.Outcome.{Outcome}
 use Rattle.engine_types.specs.declared.Reply.{Reply}
 use Rattle.engine_types.specs.declared.Report.{Report}
@@ -17,7 +16,7 @@ use Rattle.engine_types.specs.declared.RunFault.{RunFault}
 use Rattle.engine_types.specs.declared.SeenFault.{SeenFault}
 use Rattle.engine_types.specs.declared.WireEnd.{WireEnd}
 use Rattle.run_model.specs.Ending.{slot_name}
-use Rattle.run_model.specs.Journals.{Holding, Nothing, Setup, Watch, Work, ended_as, holding, is_well}
+use Rattle.run_model.specs.Journals.{Holding, Setup, Work, ended_as, holding, is_well}
 use Rattle.run_model.specs.Plans.{kind_of, network_name, slot_at}
 
 -- the name of a seen container

@@ -11,7 +11,6 @@ use Rattle.engine_types.specs.declared.NetworkSpec.{NetworkSpec}
 use Rattle.engine_types.specs.declared.VolumeSpec.{VolumeSpec}
 use Rattle.engine_types.specs.declared.Listed.{Listed}
 use Rattle.engine_types.specs.declared.NetRow.{NetRow}
-use Rattle.engine_types.specs.declared.ImageRow.{ImageRow}
 use Rattle.engine_types.specs.declared.Request.{Request}
 use Rattle.engine_types.specs.declared.Reply.{Reply}
 use Rattle.engine_types.specs.declared.Outcome.{Outcome}

@@ -1,5 +1,5 @@
 -- One service, `web` with the image `nginx:1.25` and no network, and runs of it.
-use Rattle.std.specs.Prelude.{ℕ, Bool, true, false, List, [], ◌∷◌, Option, Some, None, codes, reverse}
+use Rattle.std.specs.Prelude.{ℕ, false, List, [], ◌∷◌, Some, None, codes}
 use Rattle.tree_base.specs.declared.Var.{Var}
 use Rattle.engine_types.specs.declared.Condition.{Condition}
 use Rattle.engine_types.specs.declared.ContainerSpec.{ContainerSpec}
@@ -13,7 +13,6 @@ use Rattle.engine_types.specs.declared.Purpose.{Purpose}
 use Rattle.engine_types.specs.declared.Reply.{Reply}
 use Rattle.engine_types.specs.declared.Request.{Request}
 use Rattle.engine_types.specs.declared.RunLimits.{RunLimits}
-use Rattle.engine_types.specs.declared.Seen.{Seen}
 use Rattle.engine_types.specs.declared.SeenEnd.{SeenEnd}
 use Rattle.engine_types.specs.declared.SeenFault.{SeenFault}
 use Rattle.engine_types.specs.declared.Slot.{Slot}

@@ -12,12 +12,9 @@ use Rattle.engine_types.specs.declared.ContainerSpec.{ContainerSpec}
 use Rattle.engine_types.specs.declared.Declared.{Declared}
 use Rattle.engine_types.specs.declared.Listed.{Listed}
 use Rattle.engine_types.specs.declared.Need.{Need}
-use Rattle.engine_types.specs.declared.NetRow.{NetRow}
-use Rattle.engine_types.specs.declared.NetworkSpec.{NetworkSpec}
 use Rattle.engine_types.specs.declared.Purpose.{Purpose}
 use Rattle.engine_types.specs.declared.Seen.{Seen}
 use Rattle.engine_types.specs.declared.Slot.{Slot}
-use Rattle.engine_types.specs.declared.VolumeSpec.{VolumeSpec}
 use Rattle.run_model.specs.EngineRules.{Among, is_live, is_of_project}
 use Rattle.run_model.specs.Labels.{agrees, has_slot_service, names_service, names_slot}
 use Rattle.run_model.specs.Observation.{is_up}

@@ -1,18 +1,15 @@
 -- Three services, where `web` waits for `db` to be healthy and for `mig` to complete, and a run in which `db` falls ill.
-use Rattle.std.specs.Prelude.{ℕ, Bool, true, false, List, [], ◌∷◌, ◌++◌, Option, Some, None, codes, pos}
+use Rattle.std.specs.Prelude.{ℕ, true, false, List, [], ◌∷◌, ◌++◌, Some, None, codes, pos}
 use Rattle.engine_types.specs.declared.Condition.{Condition}
-use Rattle.engine_types.specs.declared.ContainerSpec.{ContainerSpec}
 use Rattle.engine_types.specs.declared.ContainerState.{ContainerState}
 use Rattle.engine_types.specs.declared.Declared.{Declared}
 use Rattle.engine_types.specs.declared.Entry.{Entry}
 use Rattle.engine_types.specs.declared.Health.{Health}
-use Rattle.engine_types.specs.declared.Healthcheck.{Healthcheck}
 use Rattle.engine_types.specs.declared.Need.{Need}
 use Rattle.engine_types.specs.declared.Observed.{Observed}
 use Rattle.engine_types.specs.declared.Outcome.{Outcome}
 use Rattle.engine_types.specs.declared.Policy.{Policy}
 use Rattle.engine_types.specs.declared.Reply.{Reply}
-use Rattle.engine_types.specs.declared.Report.{Report}
 use Rattle.engine_types.specs.declared.Request.{Request}
 use Rattle.engine_types.specs.declared.SeenEnd.{SeenEnd}
 use Rattle.engine_types.specs.declared.Slot.{Slot}

@@ -1,10 +1,10 @@
-use Rattle.std.proofs.Common.{◌≡◌, ℕ, Option, Some, None, refl, arith}
+use Rattle.std.proofs.Common.{◌≡◌, Option, Some, None, refl, arith}
 use Rattle.std.specs.Option.{option_map_or}
 use Rattle.engine_types.specs.declared.Outcome.{Outcome}
 use Rattle.engine_types.specs.declared.RunFault.{RunFault}
 use Rattle.engine_types.specs.declared.SeenFault.{SeenFault}
 use Rattle.engine_types.specs.declared.WireEnd.{WireEnd}
-use Rattle.run_model.specs.Ending.{fault_status, first_fault, lost_status, outcome_status, seen_status, status_of}
+use Rattle.run_model.specs.Ending.{fault_status, first_fault, lost_status, outcome_status, seen_status}
 use Rattle.run_model.proofs.laws.status_is_zero_without_fault.Goals as goal
 
 lost_not_zero : (cause : WireEnd) → lost_status cause ≡ 0 → ⊥

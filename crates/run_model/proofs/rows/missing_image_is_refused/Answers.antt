@@ -1,11 +1,9 @@
-use Rattle.std.proofs.Common.{◌≡◌, ℕ, zero, suc, ◌<◌, List, refl, inl, inr, reverse, arith}
+use Rattle.std.proofs.Common.{List, refl, inl, reverse}
 use Rattle.std.specs.Fmt.{digits}
 use Rattle.engine_types.specs.declared.Entry.{Entry}
-use Rattle.run_model.specs.Journals.{Nothing, Setup, holding}
+use Rattle.run_model.specs.Journals.{Setup}
 use Rattle.run_model.specs.Legal.{IsLegal}
-use Rattle.run_model.specs.Ending.{IsFinal}
 use Rattle.run_model.specs.OneService.{no_image, shop, to_up, up_of}
-use Rattle.run_model.proofs.Ready.{ready}
 use Rattle.run_model.proofs.rows.missing_image_is_refused.Goals as goal
 
 abbrev past : List Entry

@@ -1,7 +1,7 @@
 use Rattle.std.proofs.Common.{◌≡◌, ℕ, zero, suc, ◌<◌, List, refl, inl, inr, reverse, arith}
 use Rattle.engine_types.specs.declared.Entry.{Entry}
 use Rattle.run_model.specs.Journals.{Nothing, Setup, holding}
-use Rattle.run_model.specs.Legal.{IsLegal, IsReady}
+use Rattle.run_model.specs.Legal.{IsLegal}
 use Rattle.run_model.specs.Ending.{IsFinal}
 use Rattle.run_model.specs.OneService.{comes_up, shop, to_up, up_of}
 use Rattle.run_model.proofs.Ready.{ready}

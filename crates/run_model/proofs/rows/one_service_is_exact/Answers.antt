@@ -1,15 +1,12 @@
-use Rattle.std.proofs.Common.{◌≡◌, ℕ, List, [], ◌∷◌, Option, Some, None, Bool, true, false, not, ◌&&◌, ◌||◌, refl, sym, subst, inl, inr, reverse, drop}
+use Rattle.std.proofs.Common.{◌≡◌, ℕ, List, [], ◌∷◌, Some, None, Bool, true, false, not, ◌&&◌, ◌||◌, refl, sym, subst, inl, inr, reverse, drop}
 use Rattle.std.proofs.lemmas.Slice.Eq.{bytes_eq-Decides}
 use Rattle.std.specs.Fmt.{digits}
 use Rattle.std.specs.List.{IsDistinct, list_any}
 use Rattle.std.specs.Prelude.{codes, if◌then◌else◌, option_map}
 use Rattle.std.specs.Str.{bytes_eq}
 use Rattle.engine_types.specs.declared.ContainerRow.{ContainerRow}
-use Rattle.engine_types.specs.declared.Engine.{Engine}
 use Rattle.engine_types.specs.declared.ImageRow.{ImageRow}
-use Rattle.engine_types.specs.declared.NetworkSpec.{NetworkSpec}
 use Rattle.engine_types.specs.declared.Slot.{Slot}
-use Rattle.engine_types.specs.declared.VolumeSpec.{VolumeSpec}
 use Rattle.run_model.specs.EngineRules.{Among, Creates, ListsContainers, Updates, container_at, image_at, can_start, started_row, is_of_project}
 use Rattle.run_model.specs.Exact.{IsExact, IsExactSlot}
 use Rattle.run_model.specs.Journals.{Setup}
