@@ -1,8 +1,9 @@
 -- What an observation asks of the Engine, what it may have been answered, and how it ends.
-use Rattle.std.specs.Prelude.{ℕ, Bool, true, false, not, if◌then◌else◌, ◌&&◌, ◌==◌, List, [], ◌∷◌, ◌++◌, Option, Some, None, filter, find, map, codes}
+use Rattle.std.specs.Prelude.{◌≡◌, ◌⊎◌, ℕ, Bool, true, false, not, if◌then◌else◌, ◌&&◌, ◌==◌, List, [], ◌∷◌, ◌++◌, Option, Some, None, filter, find, map}
 use Rattle.std.specs.List.{list_any}
 use Rattle.std.specs.Option.{option_or}
 use Rattle.std.specs.Str.{bytes_eq}
+use Rattle.engine_types.specs.Labels as the
 use Rattle.engine_types.specs.declared.Declared.{Declared}
 use Rattle.engine_types.specs.declared.Slot.{Slot}
 use Rattle.engine_types.specs.declared.Kind.{Kind}
@@ -15,6 +16,7 @@ use Rattle.engine_types.specs.declared.Request.{Request}
 use Rattle.engine_types.specs.declared.Reply.{Reply}
 use Rattle.engine_types.specs.declared.Outcome.{Outcome}
 use Rattle.engine_types.specs.declared.Exchange.{Exchange}
+use Rattle.engine_types.specs.declared.Observed.{Observed}
 use Rattle.engine_types.specs.declared.Purpose.{Purpose}
 use Rattle.engine_types.specs.declared.Seen.{Seen}
 use Rattle.engine_types.specs.declared.SeenEnd.{SeenEnd}
@@ -151,7 +153,7 @@ network_fault declared purpose rows network =
     of [] = if network.external && is_up purpose then Some (SeenFault.ExternalMissing Kind.Network network.name) else None
     of (row ∷ []) =
         if network.external then None
-        else if has_label row.labels (codes "com.docker.compose.project") declared.project then None
+        else if has_label row.labels the.project declared.project then None
         else Some (SeenFault.ForeignNetwork network.name row.id)
     of (row ∷ other ∷ rest) = Some (SeenFault.NetworkTwice network.name row.id other.id)
 
@@ -220,3 +222,9 @@ observed declared purpose exchanges = asking (Request.ListContainers declared.pr
 abbrev pub is_asked : Onward → Bool
 is_asked Strays = false
 is_asked _ = true
+
+-- an observation of the declared set: it ended as its exchanges say, or for want of memory after any of them
+abbrev pub IsObservation : Declared → Purpose → Observed → Type 0
+IsObservation declared purpose observation =
+    (observed declared purpose observation.exchanges ≡ Ends observation.end)
+    ⊎ ((observation.end ≡ SeenEnd.Bad SeenFault.Memory) × (is_asked (observed declared purpose observation.exchanges) ≡ true))
