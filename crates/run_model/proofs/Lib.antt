@@ -1,3 +1,4 @@
 pub mod Ready
 pub mod DistinctLists
 pub mod PlanLaws
+pub mod LegalLaws

@@ -1,13 +1,16 @@
 -- Laws of the definitions of a run.
-use Rattle.std.specs.Prelude.{◌≡◌, ◌↔◌, ℕ, List, None}
+use Rattle.std.specs.Prelude.{◌≡◌, ◌↔◌, ◌∷◌, ℕ, List, None, Some, true}
 use Rattle.engine_types.specs.declared.Engine.{Engine}
 use Rattle.engine_types.specs.declared.Entry.{Entry}
 use Rattle.engine_types.specs.declared.Reply.{Reply}
 use Rattle.engine_types.specs.declared.Request.{Request}
+use Rattle.run_model.specs.Conditions.{is_allowed}
 use Rattle.run_model.specs.Ending.{first_fault, status_of}
 use Rattle.run_model.specs.EngineRules.{Answers}
 use Rattle.run_model.specs.Journals.{Setup}
-use Rattle.run_model.specs.Plans.{Basis, IsPlanOf, planned}
+use Rattle.run_model.specs.Legal.{IsLegal, IsReady}
+use Rattle.run_model.specs.Logs.{asker}
+use Rattle.run_model.specs.Plans.{Aim, Basis, IsPlanOf, planned}
 
 -- a refusal changes nothing
 abbrev pub RefusalChangesNothing : Type 0
@@ -20,3 +23,13 @@ StatusIsZeroWithoutFault = (setup : Setup) (past : List Entry) → (status_of se
 -- the plan, as it is listed, has each wanted action once, with exactly its needs
 abbrev pub PlannedIsPlan : Type 0
 PlannedIsPlan = (basis : Basis) → IsPlanOf basis (planned basis)
+
+-- each claim of a legal journal stands where its action is allowed: it wasn't claimed before, all that it needs ended well, and
+-- each need of the slot that it starts lets it go
+abbrev pub ClaimsAreAllowed : Type 0
+ClaimsAreAllowed = (aim : Aim) (setup : Setup) (past : List Entry) (w a : ℕ) → IsLegal aim setup (Entry.Claim w a ∷ past) → is_allowed setup past a ≡ true
+
+-- wherever a worker may ask, a legal journal goes on with an entry that answers it
+abbrev pub AsksAreAnswered : Type 0
+AsksAreAnswered = (aim : Aim) (setup : Setup) (past : List Entry) (w : ℕ) → IsLegal aim setup past → IsReady setup past w
+    → (entry : Entry) × (asker entry ≡ Some w) × IsLegal aim setup (entry ∷ past)

@@ -57,20 +57,20 @@ next_poll setup past = find (λ s. may_poll setup past s && has_fewest_polls set
 abbrev pub is_other_out : Setup → List Entry → ℕ → Bool
 is_other_out setup past w = list_any (λ v. not (v == w) && is_open (holding past v)) (workers setup)
 
+-- what an ask is answered, in this order: the journal is full; the run is ending; an action is allowed; a slot may be polled;
+-- another worker's permit is out; nothing of these
+abbrev pub answer_to : Bool → Bool → Option ℕ → Option ℕ → Bool → Decision
+answer_to true ending action slot other_out = Full
+answer_to false true action slot other_out = Go
+answer_to false false (Some a) slot other_out = Take a
+answer_to false false None (Some s) other_out = Look s
+answer_to false false None None true = Pause
+answer_to false false None None false = Go
+
 -- what a worker's ask is answered after these entries
 abbrev pub decision : Setup → List Entry → ℕ → Decision
 decision setup past w =
-    if nat_le entries_limit (length past) then Full
-    else if is_ending past then Go
-    else by_action (next_action setup past)
-  where
-    by_poll : Option ℕ → Decision
-    by_poll (Some s) = Look s
-    by_poll None = if is_other_out setup past w then Pause else Go
-
-    by_action : Option ℕ → Decision
-    by_action (Some a) = Take a
-    by_action None = by_poll (next_poll setup past)
+    answer_to (nat_le entries_limit (length past)) (is_ending past) (next_action setup past) (next_poll setup past) (is_other_out setup past w)
 
 -- a worker may call: the observation ended well, the worker is one of the run's, holds nothing and hasn't left
 pub record IsReady (setup : Setup) (past : List Entry) (w : ℕ) : Type 0 where

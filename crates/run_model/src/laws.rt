@@ -1,4 +1,4 @@
-ghost use Rattle.run_model.specs.Laws.{PlannedIsPlan, RefusalChangesNothing, StatusIsZeroWithoutFault};
+ghost use Rattle.run_model.specs.Laws.{AsksAreAnswered, ClaimsAreAllowed, PlannedIsPlan, RefusalChangesNothing, StatusIsZeroWithoutFault};
 
 /// A refusal changes nothing.
 pub fn refusal_changes_nothing()
@@ -14,4 +14,15 @@ pub fn status_is_zero_without_fault()
 /// it is said to need.
 pub fn planned_is_plan()
     ensures { PlannedIsPlan }
+{}
+
+/// Each claim of a legal journal stands where its action is allowed: it wasn't claimed before, all that it needs
+/// ended well, and each need of the slot that it starts lets it go.
+pub fn claims_are_allowed()
+    ensures { ClaimsAreAllowed }
+{}
+
+/// Wherever a worker may ask, a legal journal goes on with an entry that answers it.
+pub fn asks_are_answered()
+    ensures { AsksAreAnswered }
 {}

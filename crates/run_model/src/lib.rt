@@ -10,7 +10,10 @@ mod laws;
 mod rows;
 mod verdict;
 
-pub use laws::{planned_is_plan, refusal_changes_nothing, status_is_zero_without_fault};
+pub use laws::{
+    asks_are_answered, claims_are_allowed, planned_is_plan, refusal_changes_nothing,
+    status_is_zero_without_fault,
+};
 pub use rows::{
     failed_condition_is_refused, lost_create_is_found, missing_image_is_refused,
     name_in_use_is_refused, observations_of_two_networks, one_service_comes_up,
