@@ -1,19 +1,18 @@
 -- Which journals are legal: each entry may stand after the list before it.
-use Rattle.std.specs.Prelude.{◌≡◌, ◌⊎◌, ℕ, ◌<◌, ◌≤◌, Bool, true, false, not, if◌then◌else◌, ◌&&◌, ◌||◌, ◌==◌, nat_le, List, [], ◌∷◌, Option, Some, None, length, find, is_some, unwrap_or, IsSomeAnd}
+use Rattle.std.specs.Prelude.{◌≡◌, ◌⊎◌, ℕ, ◌<◌, ◌≤◌, Bool, true, false, not, if◌then◌else◌, ◌&&◌, ◌||◌, ◌==◌, nat_le, List, [], ◌∷◌, Option, Some, None, length, find, is_some, IsSomeAnd}
 use Rattle.std.specs.List.{list_any, list_all}
 use Rattle.engine_types.specs.declared.Declared.{Declared}
 use Rattle.engine_types.specs.declared.Entry.{Entry}
 use Rattle.engine_types.specs.declared.Exchange.{Exchange}
 use Rattle.engine_types.specs.declared.LateWhy.{LateWhy}
 use Rattle.engine_types.specs.declared.Observed.{Observed}
-use Rattle.engine_types.specs.declared.RunLimits.{RunLimits}
 use Rattle.engine_types.specs.declared.Seen.{Seen}
 use Rattle.engine_types.specs.declared.SeenEnd.{SeenEnd}
 use Rattle.engine_types.specs.declared.SeenFault.{SeenFault}
 use Rattle.run_model.specs.Conditions.{is_allowed, is_watched}
 use Rattle.run_model.specs.Journals.{Nothing, Setup, has_left, has_stopped, holding, is_ending, is_open, is_watch_of, polls, seen_in}
 use Rattle.run_model.specs.Observation.{Asks, Ends, Onward, Strays, is_asked, observed}
-use Rattle.run_model.specs.Plans.{Aim, Basis, action_count, is_too_long, planned}
+use Rattle.run_model.specs.Plans.{Aim, Basis, action_count, is_too_long}
 use Rattle.run_model.specs.Tests.{numbers_from, places}
 
 -- what an ask is answered: the journal is full, there is nothing left, an action, a poll of a slot, or there is nothing to do yet
@@ -125,14 +124,3 @@ MayStand aim setup past (Entry.Short w) = IsReady setup past w × (length past <
 abbrev pub IsLegal : Aim → Setup → List Entry → Type 0
 IsLegal aim setup [] = Unit {0}
 IsLegal aim setup (entry ∷ past) = IsLegal aim setup past × MayStand aim setup past entry
-
--- nothing seen
-abbrev pub unseen : Seen
-unseen = record { containers = []; networks = []; volumes = []; images = [] }
-
--- what a run is of, by its journal: the plan is made from what the journal's observation saw
-abbrev pub setup_of : Declared → Aim → RunLimits → List Entry → Setup
-setup_of declared aim limits past = record { declared = declared; seen = seen; actions = planned (record { declared = declared; seen = seen; aim = aim }); limits = limits }
-  where
-    seen : Seen
-    seen = unwrap_or (seen_in past) unseen

@@ -13,6 +13,7 @@ pub mod Lines
 pub mod Worlds
 pub mod Exact
 pub mod Cuts
+pub mod Runs
 pub mod OneService
 pub mod ThreeServices
 pub mod OneWorld

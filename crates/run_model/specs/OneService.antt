@@ -16,9 +16,8 @@ use Rattle.engine_types.specs.declared.RunLimits.{RunLimits}
 use Rattle.engine_types.specs.declared.SeenEnd.{SeenEnd}
 use Rattle.engine_types.specs.declared.SeenFault.{SeenFault}
 use Rattle.engine_types.specs.declared.Slot.{Slot}
-use Rattle.run_model.specs.Journals.{Setup}
-use Rattle.run_model.specs.Legal.{setup_of}
 use Rattle.run_model.specs.Plans.{Aim}
+use Rattle.run_model.specs.Runs.{Task}
 
 -- the labels of a service's first container in the project `shop`
 abbrev pub labels_of : List ℕ → List ℕ → List Var
@@ -115,13 +114,13 @@ plain_limits = record { workers = 1; deadline = None; wait = false; stop_seconds
 abbrev pub to_up : Aim
 to_up = record { purpose = Purpose.Up; orphans = false; volumes = false }
 
--- a run of `up` with this journal, newest entry first
-abbrev pub up_of : Declared → List Entry → Setup
-up_of declared past = setup_of declared to_up plain_limits past
+-- to bring a project up with one worker
+abbrev pub upping : Declared → Task
+upping declared = record { declared = declared; aim = to_up; limits = plain_limits }
 
 -- the same with two workers
-abbrev pub two_up_of : Declared → List Entry → Setup
-two_up_of declared past = setup_of declared to_up (record plain_limits { workers = 2 }) past
+abbrev pub upping_by_two : Declared → Task
+upping_by_two declared = record { declared = declared; aim = to_up; limits = record plain_limits { workers = 2 } }
 
 -- an exchange that was answered
 abbrev pub answered : Request → Reply → Exchange

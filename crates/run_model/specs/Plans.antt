@@ -252,6 +252,7 @@ slot_needs declared _ = []
 -- the slots that its slot needs: there is a rank that rises along all of these
 pub record IsOrderly (declared : Declared) (actions : List Action) : Type 0 where
   pub rank : ℕ → ℕ
+  pub within : (a : ℕ) → a < length actions → rank a < length actions
   pub there : (a b : ℕ) → Among (needs_of actions a) b → b < length actions
   pub needs : (a b : ℕ) → Among (needs_of actions a) b → rank b < rank a
   pub starts : (a b : ℕ) (need : Need) → Among (slot_needs declared (kind_of actions a)) need → start_of actions need.slot ≡ Some b → rank b < rank a

@@ -4,8 +4,9 @@ use Rattle.engine_types.specs.declared.Entry.{Entry}
 use Rattle.run_model.specs.Journals.{Nothing, Setup, holding}
 use Rattle.run_model.specs.Legal.{IsLegal}
 use Rattle.run_model.specs.Ending.{IsFinal}
-use Rattle.run_model.specs.OneService.{to_up, up_of}
+use Rattle.run_model.specs.OneService.{to_up, upping}
 use Rattle.run_model.specs.TwoNetworks.{connects, loses_create, shop}
+use Rattle.run_model.specs.Runs.{run_setup}
 use Rattle.run_model.proofs.Ready.{ready}
 use Rattle.run_model.proofs.rows.lost_create_is_found.Goals as goal
 
@@ -13,7 +14,7 @@ abbrev lost : List Entry
 lost = reverse loses_create
 
 abbrev first : Setup
-first = up_of shop lost
+first = run_setup (upping shop) loses_create
 
 first_legal : IsLegal to_up first lost
 first_legal = ((((((((tt, (refl, inl refl, refl)), (ready first _ (omega arith) refl refl refl, refl)), refl), (ready first _ (omega arith) refl refl refl, refl)), refl), (ready first _ (omega arith) refl refl refl, refl)), refl), (ready first _ (omega arith) refl refl refl, refl))
@@ -29,7 +30,7 @@ abbrev past : List Entry
 past = reverse connects
 
 abbrev second : Setup
-second = up_of shop past
+second = run_setup (upping shop) connects
 
 legal : IsLegal to_up second past
 unfolding digits
@@ -46,12 +47,10 @@ over = inr (record { none_out = none_out; left = refl; over = inr (refl, refl) }
 pub returns : goal.returns
 unfolding digits
 returns c = record {
-  first_legal = first_legal;
-  first_over = first_over;
+  first_run = record { legal = first_legal; over = first_over };
   first_status = refl;
   first_fault = refl;
-  legal = legal;
-  over = over;
+  run = record { legal = legal; over = over };
   status = refl;
   report = refl;
 }

@@ -1,4 +1,4 @@
-use Rattle.std.proofs.Common.{◌≡◌, ℕ, List, [], ◌∷◌, Some, None, Bool, true, false, not, ◌&&◌, ◌||◌, refl, sym, subst, inl, inr, reverse, drop}
+use Rattle.std.proofs.Common.{◌≡◌, ℕ, List, [], ◌∷◌, Some, None, Bool, true, false, not, ◌&&◌, ◌||◌, refl, sym, subst, inl, inr, drop}
 use Rattle.std.proofs.lemmas.Slice.Eq.{bytes_eq-Decides}
 use Rattle.std.specs.Fmt.{digits}
 use Rattle.std.specs.List.{IsDistinct, list_any}
@@ -11,8 +11,9 @@ use Rattle.run_model.specs.EngineRules.{Among, Creates, ListsContainers, Updates
 use Rattle.run_model.specs.Exact.{IsExact, IsExactSlot}
 use Rattle.run_model.specs.Journals.{Setup}
 use Rattle.run_model.specs.Labels.{is_of_slot, is_orphan}
-use Rattle.run_model.specs.OneService.{nginx, shop, up_of, comes_up, web}
+use Rattle.run_model.specs.OneService.{nginx, shop, upping, comes_up, web}
 use Rattle.run_model.specs.OneWorld.{engine_with, fresh, made, moves, pulled, up}
+use Rattle.run_model.specs.Runs.{run_setup}
 use Rattle.run_model.specs.Worlds.{World}
 use Rattle.run_model.proofs.rows.one_service_is_exact.Goals as goal
 
@@ -49,7 +50,7 @@ started : Updates (engine_with (made ∷ []) pulled) up (codes "c1") can_start (
 started = record { row = made; was = refl; could = refl; changes = record { containers = again; networks = λ i. refl; volumes = λ n. refl; images = λ n. refl } }
 
 abbrev setup : Setup
-setup = up_of shop (reverse comes_up)
+setup = run_setup (upping shop) comes_up
 
 listed : World setup fresh (drop 11 moves) fresh
 listed = (fresh, refl, (record { may_act = refl; no_effect = refl }, (lists_none, refl)))
