@@ -19,3 +19,4 @@ pub mod ThreeServices
 pub mod OneWorld
 pub mod TwoNetworks
 pub mod Laws
+pub mod FourServices

@@ -11,6 +11,7 @@ ghost use Rattle.run_model.specs.Legal.{Look, Pause, decision};
 ghost use Rattle.run_model.specs.Lines.{fault_text};
 ghost use Rattle.run_model.specs.OneService.{answered, comes_up, creates_still, name_in_use, nginx, no_image, shop, upping, upping_by_two, web};
 ghost use Rattle.run_model.specs.OneWorld.{fresh, moves, up};
+ghost use Rattle.run_model.specs.FourServices as four;
 ghost use Rattle.run_model.specs.ThreeServices as three;
 ghost use Rattle.run_model.specs.TwoNetworks as two;
 ghost use Rattle.run_model.specs.Observation.{Asks, Ends, Strays, observed};
@@ -107,4 +108,12 @@ pub fn observations_of_two_networks()
 pub fn workers_find_other_work()
     ensures look { decision (run_setup (upping_by_two three.shop) three.one_stays_out) (reverse three.one_stays_out) 1 ≡ Look 1 }
     ensures pause { decision (run_setup (upping_by_two shop) creates_still) (reverse creates_still) 1 ≡ Pause }
+{}
+
+/// Four services with a network, a volume and conditions come up on a fresh Engine, with ten actions and two polls.
+pub fn four_services_come_up()
+    ensures plan { (run_setup (upping four.shop) four.comes_up).actions ≡ four.fresh_plan }
+    ensures run { IsRun (upping four.shop) four.comes_up }
+    ensures status { run_status (upping four.shop) four.comes_up ≡ 0 }
+    ensures report { run_report (upping four.shop) four.comes_up ≡ four.report }
 {}
