@@ -1,5 +1,5 @@
 -- Four services on one network, one of them with a volume, and the run that brings them up on a fresh Engine.
-use Rattle.std.specs.Prelude.{ℕ, Bool, true, false, List, [], ◌∷◌, ◌++◌, Option, Some, None, codes, pos, flat_map}
+use Rattle.std.specs.Prelude.{ℕ, true, false, List, [], ◌∷◌, ◌++◌, Option, Some, None, codes}
 use Rattle.engine_types.specs.declared.Action.{Action}
 use Rattle.engine_types.specs.declared.ActionKind.{ActionKind}
 use Rattle.engine_types.specs.declared.Condition.{Condition}
@@ -55,10 +55,10 @@ abbrev pub shop : Declared
 shop = record {
   project = codes "shop";
   slots =
-    slot_of (codes "cache") (codes "redis:7") [] None
-        ∷ slot_of (codes "db") (codes "postgres:16") [] (Some (codes "shop_data:/d:rw" ∷ []))
-        ∷ slot_of (codes "mig") (codes "shop/web:2.1") (requires 1 Condition.Healthy ∷ []) None
-        ∷ slot_of (codes "web") (codes "shop/web:2.1") (requires 0 Condition.Started ∷ requires 2 Condition.Completed ∷ []) None ∷ [];
+      slot_of (codes "cache") (codes "redis:7") [] None
+      ∷ slot_of (codes "db") (codes "postgres:16") [] (Some (codes "shop_data:/d:rw" ∷ []))
+      ∷ slot_of (codes "mig") (codes "shop/web:2.1") (requires 1 Condition.Healthy ∷ []) None
+      ∷ slot_of (codes "web") (codes "shop/web:2.1") (requires 0 Condition.Started ∷ requires 2 Condition.Completed ∷ []) None ∷ [];
   networks = network_of (codes "default") ∷ [];
   volumes = data_volume ∷ [];
 }
@@ -67,7 +67,7 @@ shop = record {
 abbrev pub fetched : List ℕ → List Exchange
 fetched image =
     answered (Request.Image image) (Reply.Refused 404 (codes "not found")) ∷ answered (Request.Pull image) Reply.Pulled
-        ∷ answered (Request.Image image) (Reply.ImageId (codes "sha:" ++ image)) ∷ []
+    ∷ answered (Request.Image image) (Reply.ImageId (codes "sha:" ++ image)) ∷ []
 
 -- an image as it was seen
 abbrev pub image_row : List ℕ → ImageRow
@@ -77,9 +77,9 @@ image_row image = record { name = image; id = codes "sha:" ++ image }
 abbrev pub seen_fresh : Observed
 seen_fresh = record {
   exchanges =
-    answered (Request.ListContainers (codes "shop")) (Reply.Containers []) ∷ answered Request.ListNetworks (Reply.Networks [])
-        ∷ answered Request.ListVolumes (Reply.Volumes [])
-        ∷ fetched (codes "postgres:16") ++ fetched (codes "redis:7") ++ fetched (codes "shop/web:2.1");
+      answered (Request.ListContainers (codes "shop")) (Reply.Containers []) ∷ answered Request.ListNetworks (Reply.Networks [])
+      ∷ answered Request.ListVolumes (Reply.Volumes [])
+      ∷ fetched (codes "postgres:16") ++ fetched (codes "redis:7") ++ fetched (codes "shop/web:2.1");
   end = SeenEnd.Good (record {
     containers = [];
     networks = [];
@@ -92,25 +92,25 @@ seen_fresh = record {
 abbrev pub fresh_plan : List Action
 fresh_plan =
     acts (ActionKind.MakeVolume 0) [] ∷ acts (ActionKind.MakeNetwork 0) []
-        ∷ acts (ActionKind.CreateSlot 0) (1 ∷ []) ∷ acts (ActionKind.CreateSlot 1) (0 ∷ 1 ∷ [])
-        ∷ acts (ActionKind.CreateSlot 2) (1 ∷ []) ∷ acts (ActionKind.CreateSlot 3) (1 ∷ [])
-        ∷ acts (ActionKind.StartSlot 0) (2 ∷ []) ∷ acts (ActionKind.StartSlot 1) (3 ∷ [])
-        ∷ acts (ActionKind.StartSlot 2) (4 ∷ []) ∷ acts (ActionKind.StartSlot 3) (5 ∷ []) ∷ []
+    ∷ acts (ActionKind.CreateSlot 0) (1 ∷ []) ∷ acts (ActionKind.CreateSlot 1) (0 ∷ 1 ∷ [])
+    ∷ acts (ActionKind.CreateSlot 2) (1 ∷ []) ∷ acts (ActionKind.CreateSlot 3) (1 ∷ [])
+    ∷ acts (ActionKind.StartSlot 0) (2 ∷ []) ∷ acts (ActionKind.StartSlot 1) (3 ∷ [])
+    ∷ acts (ActionKind.StartSlot 2) (4 ∷ []) ∷ acts (ActionKind.StartSlot 3) (5 ∷ []) ∷ []
 
 -- the run, oldest entry first: `db` is looked at before `mig` is started, and `mig` before `web` is
 abbrev pub comes_up : List Entry
 comes_up =
     Entry.Seen seen_fresh ∷ []
-        ++ doing 0 Reply.Done ++ doing 1 (Reply.Made (codes "n1"))
-        ++ doing 2 (Reply.Made (codes "c1")) ++ doing 3 (Reply.Made (codes "c2")) ++ doing 4 (Reply.Made (codes "c3")) ++ doing 5 (Reply.Made (codes "c4"))
-        ++ doing 6 Reply.Done ++ doing 7 Reply.Done
-        ++ (Entry.Poll 0 1 ∷ reported ContainerState.Running Health.Healthy ∷ []) ++ doing 8 Reply.Done
-        ++ (Entry.Poll 0 2 ∷ reported ContainerState.Exited Health.Absent ∷ []) ++ doing 9 Reply.Done
-        ++ (Entry.Leave 0 ∷ [])
+    ++ doing 0 Reply.Done ++ doing 1 (Reply.Made (codes "n1"))
+    ++ doing 2 (Reply.Made (codes "c1")) ++ doing 3 (Reply.Made (codes "c2")) ++ doing 4 (Reply.Made (codes "c3")) ++ doing 5 (Reply.Made (codes "c4"))
+    ++ doing 6 Reply.Done ++ doing 7 Reply.Done
+    ++ (Entry.Poll 0 1 ∷ reported ContainerState.Running Health.Healthy ∷ []) ++ doing 8 Reply.Done
+    ++ (Entry.Poll 0 2 ∷ reported ContainerState.Exited Health.Absent ∷ []) ++ doing 9 Reply.Done
+    ++ (Entry.Leave 0 ∷ [])
 
 -- what the run prints
 abbrev pub report : List ℕ
 report =
     codes "volume shop_data created\nnetwork shop_default created\n"
-        ++ codes "container shop-cache-1 created\ncontainer shop-db-1 created\ncontainer shop-mig-1 created\ncontainer shop-web-1 created\n"
-        ++ codes "container shop-cache-1 started\ncontainer shop-db-1 started\ncontainer shop-mig-1 started\ncontainer shop-web-1 started\n"
+    ++ codes "container shop-cache-1 created\ncontainer shop-db-1 created\ncontainer shop-mig-1 created\ncontainer shop-web-1 created\n"
+    ++ codes "container shop-cache-1 started\ncontainer shop-db-1 started\ncontainer shop-mig-1 started\ncontainer shop-web-1 started\n"

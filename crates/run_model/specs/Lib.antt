@@ -20,3 +20,4 @@ pub mod OneWorld
 pub mod TwoNetworks
 pub mod Laws
 pub mod FourServices
+pub mod OtherRuns

@@ -12,6 +12,7 @@ ghost use Rattle.run_model.specs.Lines.{fault_text};
 ghost use Rattle.run_model.specs.OneService.{answered, comes_up, creates_still, name_in_use, nginx, no_image, shop, upping, upping_by_two, web};
 ghost use Rattle.run_model.specs.OneWorld.{fresh, moves, up};
 ghost use Rattle.run_model.specs.FourServices as four;
+ghost use Rattle.run_model.specs.OtherRuns.{checked, comes_again, downing, goes_down, is_stopped, runs_late, runs_short, waiting};
 ghost use Rattle.run_model.specs.ThreeServices as three;
 ghost use Rattle.run_model.specs.TwoNetworks as two;
 ghost use Rattle.run_model.specs.Observation.{Asks, Ends, Strays, observed};
@@ -116,4 +117,27 @@ pub fn four_services_come_up()
     ensures run { IsRun (upping four.shop) four.comes_up }
     ensures status { run_status (upping four.shop) four.comes_up ≡ 0 }
     ensures report { run_report (upping four.shop) four.comes_up ≡ four.report }
+{}
+
+/// A second run of `up` finds nothing to do, and `down` stops and removes the container.
+pub fn second_run_and_down()
+    ensures again { IsRun (upping shop) comes_again }
+    ensures again_status { run_status (upping shop) comes_again ≡ 0 }
+    ensures again_report { run_report (upping shop) comes_again ≡ [] }
+    ensures down { IsRun (downing shop) goes_down }
+    ensures down_status { run_status (downing shop) goes_down ≡ 0 }
+    ensures down_report { run_report (downing shop) goes_down ≡ codes "container shop-web-1 stopped\ncontainer shop-web-1 removed\n" }
+{}
+
+/// Runs that end early: at the deadline, when asked to stop, and for want of memory.
+pub fn runs_end_early()
+    ensures late { IsRun (waiting checked) runs_late }
+    ensures late_status { run_status (waiting checked) runs_late ≡ 6 }
+    ensures late_fault { option_map fault_text (run_fault (waiting checked) runs_late) ≡ Some (codes "compose: late\n") }
+    ensures stopped { IsRun (upping shop) is_stopped }
+    ensures stopped_status { run_status (upping shop) is_stopped ≡ 5 }
+    ensures stopped_fault { option_map fault_text (run_fault (upping shop) is_stopped) ≡ Some (codes "compose: stopped\n") }
+    ensures short { IsRun (upping shop) runs_short }
+    ensures short_status { run_status (upping shop) runs_short ≡ 9 }
+    ensures short_fault { option_map fault_text (run_fault (upping shop) runs_short) ≡ Some (codes "compose: memory\n") }
 {}
