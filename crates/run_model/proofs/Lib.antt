@@ -2,3 +2,5 @@ pub mod Ready
 pub mod DistinctLists
 pub mod PlanLaws
 pub mod LegalLaws
+pub mod LostCreate
+pub mod TwoWorlds

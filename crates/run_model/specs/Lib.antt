@@ -21,3 +21,4 @@ pub mod TwoNetworks
 pub mod Laws
 pub mod FourServices
 pub mod OtherRuns
+pub mod TwoWorlds

@@ -16,8 +16,8 @@ pub use laws::{
 };
 pub use rows::{
     failed_condition_is_refused, four_services_come_up, lost_create_is_found,
-    missing_image_is_refused, name_in_use_is_refused, observations_of_two_networks,
-    one_service_comes_up, one_service_is_exact, plans_of_two_networks, runs_end_early,
-    second_run_and_down, workers_find_other_work,
+    lost_create_is_made_once, missing_image_is_refused, name_in_use_is_refused,
+    observations_of_two_networks, one_service_comes_up, one_service_is_exact,
+    plans_of_two_networks, runs_end_early, second_run_and_down, workers_find_other_work,
 };
 pub use verdict::Verdict;

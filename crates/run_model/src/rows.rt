@@ -15,10 +15,11 @@ ghost use Rattle.run_model.specs.FourServices as four;
 ghost use Rattle.run_model.specs.OtherRuns.{checked, comes_again, downing, goes_down, is_stopped, runs_late, runs_short, waiting};
 ghost use Rattle.run_model.specs.ThreeServices as three;
 ghost use Rattle.run_model.specs.TwoNetworks as two;
+ghost use Rattle.run_model.specs.TwoWorlds as worlds;
 ghost use Rattle.run_model.specs.Observation.{Asks, Ends, Strays, observed};
 ghost use Rattle.run_model.specs.Plans.{down_basis, planned, up_basis};
 ghost use Rattle.run_model.specs.Exact.{IsExact};
-ghost use Rattle.run_model.specs.Cuts.{creates};
+ghost use Rattle.run_model.specs.Cuts.{Runs, creates, creates_over};
 ghost use Rattle.run_model.specs.Runs.{IsRun, IsWorldOfRun, run_fault, run_report, run_setup, run_status};
 
 /// One service comes up on a fresh Engine: its container is created and started.
@@ -140,4 +141,12 @@ pub fn runs_end_early()
     ensures short { IsRun (upping shop) runs_short }
     ensures short_status { run_status (upping shop) runs_short ≡ 9 }
     ensures short_fault { option_map fault_text (run_fault (upping shop) runs_short) ≡ Some (codes "compose: memory\n") }
+{}
+
+/// A create that is lost takes effect after its run, and the next run connects and starts that container: both
+/// runs together make it once, and leave exactly what is declared.
+pub fn lost_create_is_made_once()
+    ensures runs { Runs two.shop (λ image. codes "sha") worlds.bare worlds.both_runs worlds.after }
+    ensures once { creates_over two.shop two.web worlds.both_runs ≡ 1 }
+    ensures exact { IsExact two.shop worlds.after true }
 {}
