@@ -4,3 +4,4 @@ pub mod PlanLaws
 pub mod LegalLaws
 pub mod LostCreate
 pub mod TwoWorlds
+pub mod KeptLaws

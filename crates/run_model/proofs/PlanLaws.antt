@@ -33,7 +33,7 @@ needs_of_listed ns [] a kind e = absurd (cc e)
 needs_of_listed ns (k ∷ ks) zero kind e = let same : k ≡ kind = cc e in ap ns same
 needs_of_listed ns (k ∷ ks) (suc a) kind e = needs_of_listed ns ks a kind e
 
-both : (x y : Bool) → (x && y) ≡ true → (x ≡ true) × (y ≡ true)
+pub both : (x y : Bool) → (x && y) ≡ true → (x ≡ true) × (y ≡ true)
 both true true e = (refl, refl)
 both true false e = absurd (cc e)
 both false y e = absurd (cc e)

@@ -1,5 +1,7 @@
 -- Laws of the definitions of a run.
-use Rattle.std.specs.Prelude.{◌≡◌, ◌↔◌, ◌∷◌, ℕ, List, None, Some, true}
+use Rattle.std.specs.Prelude.{◌≡◌, ◌↔◌, ◌∷◌, ℕ, List, None, Some, map, true}
+use Rattle.std.specs.List.{IsDistinct}
+use Rattle.std.specs.Str.{bytes_eq}
 use Rattle.engine_types.specs.declared.Engine.{Engine}
 use Rattle.engine_types.specs.declared.Entry.{Entry}
 use Rattle.engine_types.specs.declared.Reply.{Reply}
@@ -9,8 +11,9 @@ use Rattle.run_model.specs.Ending.{first_fault, status_of}
 use Rattle.run_model.specs.EngineRules.{Answers}
 use Rattle.run_model.specs.Journals.{Setup}
 use Rattle.run_model.specs.Legal.{IsLegal, IsReady}
+use Rattle.run_model.specs.Observation.{is_up}
 use Rattle.run_model.specs.Logs.{asker}
-use Rattle.run_model.specs.Plans.{Aim, Basis, IsPlanOf, planned}
+use Rattle.run_model.specs.Plans.{Aim, Basis, IsPlanOf, LeavesKept, planned}
 
 -- a refusal changes nothing
 abbrev pub RefusalChangesNothing : Type 0
@@ -33,3 +36,7 @@ ClaimsAreAllowed = (aim : Aim) (setup : Setup) (past : List Entry) (w a : ℕ) �
 abbrev pub AsksAreAnswered : Type 0
 AsksAreAnswered = (aim : Aim) (setup : Setup) (past : List Entry) (w : ℕ) → IsLegal aim setup past → IsReady setup past w
     → (entry : Entry) × (asker entry ≡ Some w) × IsLegal aim setup (entry ∷ past)
+
+-- where the ids of the seen containers differ, a plan of `up` leaves kept containers alone
+abbrev pub KeptAreLeftAlone : Type 0
+KeptAreLeftAlone = (basis : Basis) → is_up basis.aim.purpose ≡ true → IsDistinct bytes_eq (map (λ row. row.id) basis.seen.containers) → LeavesKept basis

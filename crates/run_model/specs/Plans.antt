@@ -216,6 +216,14 @@ pub record IsPlanOf (basis : Basis) (actions : List Action) : Type 0 where
   pub needs : (a b : ℕ) (kind other : ActionKind) → kind_of actions a ≡ Some kind → kind_of actions b ≡ Some other
       → (Among (needs_of actions a) b ↔ (is_needed_by basis kind other ≡ true))
 
+-- a plan leaves kept containers alone: none is stopped or removed, and no slot that keeps one gets another
+pub record LeavesKept (basis : Basis) : Type 0 where
+  pub stops : (c : ℕ) (row : Listed) → slice_get basis.seen.containers c ≡ Some row → is_kept basis.declared basis.seen row ≡ true
+      → is_wanted basis (StopContainer c) ≡ false
+  pub removes : (c : ℕ) (row : Listed) → slice_get basis.seen.containers c ≡ Some row → is_kept basis.declared basis.seen row ≡ true
+      → is_wanted basis (RemoveContainer c) ≡ false
+  pub creates : (s : ℕ) (row : Listed) → kept basis.declared basis.seen s ≡ Some row → is_wanted basis (CreateSlot s) ≡ false
+
 -- whether an action starts this slot
 abbrev pub is_start_of : ℕ → Option ActionKind → Bool
 is_start_of s (Some (StartSlot t)) = t == s

@@ -1,4 +1,4 @@
-ghost use Rattle.run_model.specs.Laws.{AsksAreAnswered, ClaimsAreAllowed, PlannedIsPlan, RefusalChangesNothing, StatusIsZeroWithoutFault};
+ghost use Rattle.run_model.specs.Laws.{AsksAreAnswered, ClaimsAreAllowed, KeptAreLeftAlone, PlannedIsPlan, RefusalChangesNothing, StatusIsZeroWithoutFault};
 
 /// A refusal changes nothing.
 pub fn refusal_changes_nothing()
@@ -25,4 +25,10 @@ pub fn claims_are_allowed()
 /// Wherever a worker may ask, a legal journal goes on with an entry that answers it.
 pub fn asks_are_answered()
     ensures { AsksAreAnswered }
+{}
+
+/// Where the ids of the seen containers differ, a plan of `up` stops and removes no kept container, and creates no
+/// other one for its slot.
+pub fn kept_are_left_alone()
+    ensures { KeptAreLeftAlone }
 {}
