@@ -5,3 +5,4 @@ pub mod LegalLaws
 pub mod LostCreate
 pub mod TwoWorlds
 pub mod KeptLaws
+pub mod RequestLemmas
