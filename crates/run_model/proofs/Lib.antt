@@ -6,3 +6,4 @@ pub mod LostCreate
 pub mod TwoWorlds
 pub mod KeptLaws
 pub mod RequestLemmas
+pub mod ObservationLaws

@@ -1,19 +1,25 @@
 -- Laws of the definitions of a run.
-use Rattle.std.specs.Prelude.{◌≡◌, ◌↔◌, ◌∷◌, ℕ, List, None, Some, map, true}
+use Rattle.std.specs.Prelude.{◌≡◌, ◌↔◌, ◌∷◌, ◌++◌, ℕ, List, None, Some, map, true}
 use Rattle.std.specs.List.{IsDistinct}
 use Rattle.std.specs.Str.{bytes_eq}
+use Rattle.engine_types.specs.declared.Declared.{Declared}
 use Rattle.engine_types.specs.declared.Engine.{Engine}
 use Rattle.engine_types.specs.declared.Entry.{Entry}
+use Rattle.engine_types.specs.declared.Exchange.{Exchange}
+use Rattle.engine_types.specs.declared.Purpose.{Purpose}
 use Rattle.engine_types.specs.declared.Reply.{Reply}
 use Rattle.engine_types.specs.declared.Request.{Request}
+use Rattle.engine_types.specs.declared.Seen.{Seen}
+use Rattle.engine_types.specs.declared.SeenEnd.{SeenEnd}
 use Rattle.run_model.specs.Conditions.{is_allowed}
 use Rattle.run_model.specs.Ending.{first_fault, status_of}
 use Rattle.run_model.specs.EngineRules.{Answers}
 use Rattle.run_model.specs.Journals.{Setup}
 use Rattle.run_model.specs.Legal.{IsLegal, IsReady}
-use Rattle.run_model.specs.Observation.{is_up}
+use Rattle.run_model.specs.Observation.{Asks, Ends, is_asked, is_request, is_up, observed}
 use Rattle.run_model.specs.Logs.{asker}
 use Rattle.run_model.specs.Plans.{Aim, Basis, IsPlanOf, LeavesKept, planned}
+use Rattle.run_model.specs.Told.{IsTold}
 
 -- a refusal changes nothing
 abbrev pub RefusalChangesNothing : Type 0
@@ -40,3 +46,14 @@ AsksAreAnswered = (aim : Aim) (setup : Setup) (past : List Entry) (w : ℕ) → 
 -- where the ids of the seen containers differ, a plan of `up` leaves kept containers alone
 abbrev pub KeptAreLeftAlone : Type 0
 KeptAreLeftAlone = (basis : Basis) → is_up basis.aim.purpose ≡ true → IsDistinct bytes_eq (map (λ row. row.id) basis.seen.containers) → LeavesKept basis
+
+-- each exchange of an observation is the one that was to come next after those before it
+abbrev pub EachExchangeIsAsked : Type 0
+EachExchangeIsAsked = (declared : Declared) (purpose : Purpose) (before : List Exchange) (exchange : Exchange) (after : List Exchange)
+    → is_asked (observed declared purpose (before ++ exchange ∷ after)) ≡ true
+    → (request : Request) × (observed declared purpose before ≡ Asks request) × (is_request request exchange.request ≡ true)
+
+-- where an observation ended well, it saw what its exchanges told
+abbrev pub SeenIsTold : Type 0
+SeenIsTold = (declared : Declared) (purpose : Purpose) (exchanges : List Exchange) (seen : Seen)
+    → observed declared purpose exchanges ≡ Ends (SeenEnd.Good seen) → IsTold declared purpose exchanges seen

@@ -3,6 +3,7 @@ pub mod EngineRules
 pub mod Labels
 pub mod Observation
 pub mod Plans
+pub mod Told
 pub mod Journals
 pub mod Requests
 pub mod Conditions

@@ -1,4 +1,4 @@
-ghost use Rattle.run_model.specs.Laws.{AsksAreAnswered, ClaimsAreAllowed, KeptAreLeftAlone, PlannedIsPlan, RefusalChangesNothing, StatusIsZeroWithoutFault};
+ghost use Rattle.run_model.specs.Laws.{AsksAreAnswered, ClaimsAreAllowed, EachExchangeIsAsked, KeptAreLeftAlone, PlannedIsPlan, RefusalChangesNothing, StatusIsZeroWithoutFault};
 
 /// A refusal changes nothing.
 pub fn refusal_changes_nothing()
@@ -31,4 +31,9 @@ pub fn asks_are_answered()
 /// other one for its slot.
 pub fn kept_are_left_alone()
     ensures { KeptAreLeftAlone }
+{}
+
+/// Each exchange of an observation is the one that was to come next after those before it.
+pub fn each_exchange_is_asked()
+    ensures { EachExchangeIsAsked }
 {}
