@@ -7,3 +7,4 @@ pub mod TwoWorlds
 pub mod KeptLaws
 pub mod RequestLemmas
 pub mod ObservationLaws
+pub mod ToldLaws

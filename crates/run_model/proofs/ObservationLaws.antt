@@ -1,5 +1,5 @@
 -- An observation asks for each next exchange.
-use Rattle.std.proofs.Common.{◌≡◌, ℕ, Bool, true, false, List, [], ◌∷◌, ◌++◌, length, Option, Some, None, refl, sym, ap, ◌∙◌}
+use Rattle.std.proofs.Common.{◌≡◌, ℕ, Bool, true, false, List, [], ◌∷◌, ◌++◌, length, Option, Some, None, refl}
 use Rattle.std.specs.Prelude.{if◌then◌else◌, ◌==◌}
 use Rattle.engine_types.specs.declared.Declared.{Declared}
 use Rattle.engine_types.specs.declared.Exchange.{Exchange}
@@ -12,7 +12,7 @@ use Rattle.engine_types.specs.declared.Seen.{Seen}
 use Rattle.engine_types.specs.declared.SeenEnd.{SeenEnd}
 use Rattle.engine_types.specs.declared.SeenFault.{SeenFault}
 use Rattle.engine_types.specs.declared.Slot.{Slot}
-use Rattle.run_model.specs.Observation.{Asks, Ends, Onward, Strays, after_containers, after_first_look, after_judging, after_look, after_networks, after_pull, after_volumes, asking, builder_of, by_policy, ending, failing, fault_in, fetching, images_of, inspecting, is_asked, is_request, judging, listing_fault, listing_networks, listing_volumes, observed, policy_of, pulling, seeing_images, seen_containers, wanting, with_image}
+use Rattle.run_model.specs.Observation.{Asks, Onward, Strays, after_containers, after_first_look, after_judging, after_look, after_networks, after_pull, after_volumes, asking, builder_of, by_policy, ending, failing, fault_in, fetching, images_of, inspecting, is_asked, is_request, judging, listing_fault, listing_networks, listing_volumes, observed, policy_of, pulling, seeing_images, seen_containers, wanting, with_image}
 
 -- what comes after these exchanges is the request of the next one
 abbrev AsksNext : (List Exchange → Onward) → List Exchange → Exchange → Type 0

@@ -1,4 +1,4 @@
-ghost use Rattle.run_model.specs.Laws.{AsksAreAnswered, ClaimsAreAllowed, EachExchangeIsAsked, KeptAreLeftAlone, PlannedIsPlan, RefusalChangesNothing, StatusIsZeroWithoutFault};
+ghost use Rattle.run_model.specs.Laws.{AsksAreAnswered, ClaimsAreAllowed, EachExchangeIsAsked, KeptAreLeftAlone, PlannedIsPlan, RefusalChangesNothing, SeenIsTold, StatusIsZeroWithoutFault};
 
 /// A refusal changes nothing.
 pub fn refusal_changes_nothing()
@@ -36,4 +36,10 @@ pub fn kept_are_left_alone()
 /// Each exchange of an observation is the one that was to come next after those before it.
 pub fn each_exchange_is_asked()
     ensures { EachExchangeIsAsked }
+{}
+
+/// Where an observation ended well, it saw what its exchanges told: the listed rows, and of each slot's image the id
+/// that was told last.
+pub fn seen_is_told()
+    ensures { SeenIsTold }
 {}
