@@ -17,7 +17,8 @@ use Rattle.engine_types.specs.declared.Request.{Request}
 use Rattle.engine_types.specs.declared.SeenEnd.{SeenEnd}
 use Rattle.engine_types.specs.declared.Slot.{Slot}
 use Rattle.engine_types.specs.declared.VolumeSpec.{VolumeSpec}
-use Rattle.run_model.specs.OneService.{answered, labels_of, plain_spec}
+use Rattle.run_model.specs.OneService.{labels_of, plain_spec}
+use Rattle.run_model.specs.Told.{answered}
 use Rattle.run_model.specs.ThreeServices.{doing, reported}
 use Rattle.run_model.specs.TwoNetworks.{acts, network_of}
 

@@ -5,7 +5,6 @@ use Rattle.engine_types.specs.declared.Condition.{Condition}
 use Rattle.engine_types.specs.declared.ContainerSpec.{ContainerSpec}
 use Rattle.engine_types.specs.declared.Declared.{Declared}
 use Rattle.engine_types.specs.declared.Entry.{Entry}
-use Rattle.engine_types.specs.declared.Exchange.{Exchange}
 use Rattle.engine_types.specs.declared.Observed.{Observed}
 use Rattle.engine_types.specs.declared.Outcome.{Outcome}
 use Rattle.engine_types.specs.declared.Policy.{Policy}
@@ -18,6 +17,7 @@ use Rattle.engine_types.specs.declared.SeenFault.{SeenFault}
 use Rattle.engine_types.specs.declared.Slot.{Slot}
 use Rattle.run_model.specs.Plans.{Aim}
 use Rattle.run_model.specs.Runs.{Task}
+use Rattle.run_model.specs.Told.{answered}
 
 -- the labels of a service's first container in the project `shop`
 abbrev pub labels_of : List ℕ → List ℕ → List Var
@@ -121,10 +121,6 @@ upping declared = record { declared = declared; aim = to_up; limits = plain_limi
 -- the same with two workers
 abbrev pub upping_by_two : Declared → Task
 upping_by_two declared = record { declared = declared; aim = to_up; limits = record plain_limits { workers = 2 } }
-
--- an exchange that was answered
-abbrev pub answered : Request → Reply → Exchange
-answered request reply = record { request = request; outcome = Outcome.Answered reply }
 
 -- the image isn't there, and is pulled
 abbrev pub seen_fresh : Observed

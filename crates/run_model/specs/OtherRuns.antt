@@ -13,7 +13,8 @@ use Rattle.engine_types.specs.declared.Purpose.{Purpose}
 use Rattle.engine_types.specs.declared.Reply.{Reply}
 use Rattle.engine_types.specs.declared.Request.{Request}
 use Rattle.engine_types.specs.declared.SeenEnd.{SeenEnd}
-use Rattle.run_model.specs.OneService.{answered, labels_of, nginx, plain_limits, seen_fresh, shop, to_up, web}
+use Rattle.run_model.specs.OneService.{labels_of, nginx, plain_limits, seen_fresh, shop, to_up, web}
+use Rattle.run_model.specs.Told.{answered}
 use Rattle.run_model.specs.Runs.{Task}
 use Rattle.run_model.specs.ThreeServices.{doing, reported}
 

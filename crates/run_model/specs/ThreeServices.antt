@@ -13,7 +13,8 @@ use Rattle.engine_types.specs.declared.Reply.{Reply}
 use Rattle.engine_types.specs.declared.Request.{Request}
 use Rattle.engine_types.specs.declared.SeenEnd.{SeenEnd}
 use Rattle.engine_types.specs.declared.Slot.{Slot}
-use Rattle.run_model.specs.OneService.{answered, labels_of, plain_spec}
+use Rattle.run_model.specs.OneService.{labels_of, plain_spec}
+use Rattle.run_model.specs.Told.{answered}
 
 -- the image of all three
 abbrev pub busybox : List ℕ

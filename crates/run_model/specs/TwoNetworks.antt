@@ -19,7 +19,8 @@ use Rattle.engine_types.specs.declared.Seen.{Seen}
 use Rattle.engine_types.specs.declared.SeenEnd.{SeenEnd}
 use Rattle.engine_types.specs.declared.Slot.{Slot}
 use Rattle.engine_types.specs.declared.WireEnd.{WireEnd}
-use Rattle.run_model.specs.OneService.{answered, labels_of, nginx, plain_spec}
+use Rattle.run_model.specs.OneService.{labels_of, nginx, plain_spec}
+use Rattle.run_model.specs.Told.{answered}
 
 -- the labels of a network of the project `shop`
 abbrev pub network_labels : List ℕ → List Var
