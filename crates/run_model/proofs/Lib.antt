@@ -8,3 +8,4 @@ pub mod KeptLaws
 pub mod RequestLemmas
 pub mod ObservationLaws
 pub mod ToldLaws
+pub mod ClaimLaws

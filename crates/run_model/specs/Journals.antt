@@ -99,6 +99,12 @@ standing setup (Entry.Ended v outcome ∷ past) a =
     if is_work_on a (holding past v) then ended_as (kind_of setup.actions a) outcome else standing setup past a
 standing setup (_ ∷ past) a = standing setup past a
 
+-- how often an action was claimed
+abbrev pub claims : List Entry → ℕ → ℕ
+claims [] a = 0
+claims (Entry.Claim v b ∷ past) a = if b == a then claims past a + 1 else claims past a
+claims (_ ∷ past) a = claims past a
+
 -- how often a slot was polled
 abbrev pub polls : List Entry → ℕ → ℕ
 polls [] s = 0

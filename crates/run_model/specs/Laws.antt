@@ -1,5 +1,5 @@
 -- Laws of the definitions of a run.
-use Rattle.std.specs.Prelude.{◌≡◌, ◌↔◌, ◌∷◌, ◌++◌, ℕ, List, None, Some, map, true}
+use Rattle.std.specs.Prelude.{◌≡◌, ◌↔◌, ◌∷◌, ◌++◌, ◌≤◌, ℕ, List, None, Some, map, true}
 use Rattle.std.specs.List.{IsDistinct}
 use Rattle.std.specs.Str.{bytes_eq}
 use Rattle.engine_types.specs.declared.Declared.{Declared}
@@ -14,7 +14,7 @@ use Rattle.engine_types.specs.declared.SeenEnd.{SeenEnd}
 use Rattle.run_model.specs.Conditions.{is_allowed}
 use Rattle.run_model.specs.Ending.{first_fault, status_of}
 use Rattle.run_model.specs.EngineRules.{Answers}
-use Rattle.run_model.specs.Journals.{Setup}
+use Rattle.run_model.specs.Journals.{Setup, claims}
 use Rattle.run_model.specs.Legal.{IsLegal, IsReady}
 use Rattle.run_model.specs.Observation.{Asks, Ends, is_asked, is_request, is_up, observed}
 use Rattle.run_model.specs.Logs.{asker}
@@ -37,6 +37,10 @@ PlannedIsPlan = (basis : Basis) → IsPlanOf basis (planned basis)
 -- each need of the slot that it starts lets it go
 abbrev pub ClaimsAreAllowed : Type 0
 ClaimsAreAllowed = (aim : Aim) (setup : Setup) (past : List Entry) (w a : ℕ) → IsLegal aim setup (Entry.Claim w a ∷ past) → is_allowed setup past a ≡ true
+
+-- in a legal journal no action is claimed twice
+abbrev pub ActionsAreClaimedOnce : Type 0
+ActionsAreClaimedOnce = (aim : Aim) (setup : Setup) (past : List Entry) (a : ℕ) → IsLegal aim setup past → claims past a ≤ 1
 
 -- wherever a worker may ask, a legal journal goes on with an entry that answers it
 abbrev pub AsksAreAnswered : Type 0

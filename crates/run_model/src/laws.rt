@@ -1,4 +1,4 @@
-ghost use Rattle.run_model.specs.Laws.{AsksAreAnswered, ClaimsAreAllowed, EachExchangeIsAsked, KeptAreLeftAlone, PlannedIsPlan, RefusalChangesNothing, SeenIsTold, StatusIsZeroWithoutFault};
+ghost use Rattle.run_model.specs.Laws.{ActionsAreClaimedOnce, AsksAreAnswered, ClaimsAreAllowed, EachExchangeIsAsked, KeptAreLeftAlone, PlannedIsPlan, RefusalChangesNothing, SeenIsTold, StatusIsZeroWithoutFault};
 
 /// A refusal changes nothing.
 pub fn refusal_changes_nothing()
@@ -20,6 +20,11 @@ pub fn planned_is_plan()
 /// ended well, and each need of the slot that it starts lets it go.
 pub fn claims_are_allowed()
     ensures { ClaimsAreAllowed }
+{}
+
+/// In a legal journal no action is claimed twice, so no request is sent again.
+pub fn actions_are_claimed_once()
+    ensures { ActionsAreClaimedOnce }
 {}
 
 /// Wherever a worker may ask, a legal journal goes on with an entry that answers it.

@@ -11,8 +11,9 @@ mod rows;
 mod verdict;
 
 pub use laws::{
-    asks_are_answered, claims_are_allowed, each_exchange_is_asked, kept_are_left_alone,
-    planned_is_plan, refusal_changes_nothing, seen_is_told, status_is_zero_without_fault,
+    actions_are_claimed_once, asks_are_answered, claims_are_allowed, each_exchange_is_asked,
+    kept_are_left_alone, planned_is_plan, refusal_changes_nothing, seen_is_told,
+    status_is_zero_without_fault,
 };
 pub use rows::{
     failed_condition_is_refused, four_services_come_up, lost_create_is_found,
