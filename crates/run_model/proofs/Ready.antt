@@ -1,5 +1,5 @@
 -- The only worker of a run may call, in a journal whose entries are known.
-use Rattle.std.proofs.Common.{◌≡◌, ℕ, ◌<◌, Bool, true, false, List, refl}
+use Rattle.std.proofs.Common.{◌≡◌, ◌<◌, true, false, List}
 use Rattle.std.specs.Prelude.{is_some}
 use Rattle.engine_types.specs.declared.Entry.{Entry}
 use Rattle.run_model.specs.Journals.{Setup, Nothing, holding, has_left, seen_in}

@@ -1,5 +1,5 @@
 -- Conditions on a slot's container: which reports count, what is met, what has failed, what is blocked, and what is watched.
-use Rattle.std.specs.Prelude.{ℕ, zero, suc, Bool, true, false, not, if◌then◌else◌, ◌&&◌, ◌||◌, ◌==◌, ℤ, pos, negsuc, nat_le, List, [], ◌∷◌, Option, Some, None, length, find}
+use Rattle.std.specs.Prelude.{ℕ, zero, suc, Bool, true, false, not, if◌then◌else◌, ◌&&◌, ◌||◌, ◌==◌, ℤ, pos, negsuc, List, [], ◌∷◌, Option, Some, None, length}
 use Rattle.std.specs.List.{list_any, list_all}
 use Rattle.std.specs.Option.{option_map_or}
 use Rattle.engine_types.specs.declared.Condition.{Condition}
@@ -11,10 +11,11 @@ use Rattle.engine_types.specs.declared.Outcome.{Outcome}
 use Rattle.engine_types.specs.declared.Reply.{Reply}
 use Rattle.engine_types.specs.declared.Report.{Report}
 use Rattle.run_model.specs.declared.verdict.Verdict.{Verdict}
-use Rattle.run_model.specs.Journals.{Setup, holding, is_badly, is_free, is_watch_of, is_well, polls, standing}
+use Rattle.run_model.specs.Journals.{Setup, holding, is_badly, is_free, is_watch_of, is_well, standing}
 use Rattle.run_model.specs.Plans.{kind_of, needs_of, slot_at, slot_needs, start_of}
 use Rattle.run_model.specs.Tests.{places}
 
+-- an exit code of 0
 abbrev pub is_zero : ℤ → Bool
 is_zero (pos n) = n == 0
 is_zero (negsuc n) = false
@@ -52,10 +53,12 @@ judge Condition.Healthy report = judge_health report.state report.health
 judge Condition.Completed report = judge_completion report.state report.exit_code
 judge Condition.Running report = judge_running report.state
 
+-- the verdict Met
 abbrev pub is_met_verdict : Verdict → Bool
 is_met_verdict Verdict.Met = true
 is_met_verdict _ = false
 
+-- the verdict Failed
 abbrev pub is_failed_verdict : Verdict → Bool
 is_failed_verdict Verdict.Failed = true
 is_failed_verdict _ = false
@@ -75,6 +78,7 @@ poll_counts setup [] w = false
 poll_counts setup (Entry.Poll v s ∷ past) w = if v == w then counts setup past s else poll_counts setup past w
 poll_counts setup (_ ∷ past) w = poll_counts setup past w
 
+-- the condition Started, `service_started` of the Compose Specification
 abbrev pub is_started : Condition → Bool
 is_started Condition.Started = true
 is_started _ = false
@@ -159,6 +163,7 @@ abbrev pub is_goal_open : Setup → List Entry → ℕ → Bool
 is_goal_open setup past s =
     setup.limits.wait && not (is_met setup past s (goal_of setup s)) && not (has_failed setup past s (goal_of setup s))
 
+-- the conditions that only a report shows: `service_healthy` and `service_completed_successfully` of the Compose Specification
 abbrev pub is_reported : Condition → Bool
 is_reported Condition.Healthy = true
 is_reported Condition.Completed = true

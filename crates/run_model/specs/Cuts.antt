@@ -1,10 +1,9 @@
 -- Runs of `up` one after another, each of which may have been cut off anywhere.
-use Rattle.std.specs.Prelude.{◌≡◌, ◌⊎◌, ℕ, ◌+◌, Bool, true, false, if◌then◌else◌, ◌==◌, List, [], ◌∷◌, reverse}
+use Rattle.std.specs.Prelude.{◌≡◌, ℕ, ◌+◌, Bool, true, false, if◌then◌else◌, List, [], ◌∷◌, reverse}
 use Rattle.engine_types.specs.declared.Declared.{Declared}
 use Rattle.engine_types.specs.declared.Engine.{Engine}
 use Rattle.engine_types.specs.declared.Entry.{Entry}
 use Rattle.engine_types.specs.declared.Exchange.{Exchange}
-use Rattle.engine_types.specs.declared.Purpose.{Purpose}
 use Rattle.engine_types.specs.declared.Reply.{Reply}
 use Rattle.engine_types.specs.declared.Request.{Request}
 use Rattle.engine_types.specs.declared.Slot.{Slot}
@@ -13,7 +12,7 @@ use Rattle.run_model.specs.Labels.{is_of_slot}
 use Rattle.run_model.specs.Legal.{IsLegal}
 use Rattle.run_model.specs.Observation.{is_asked, is_up, observed}
 use Rattle.run_model.specs.Plans.{Aim, planned}
-use Rattle.run_model.specs.Worlds.{Changed, Did, FitsSeen, Move, Took, World, entries_of, seen_effects}
+use Rattle.run_model.specs.Worlds.{FitsSeen, Move, Took, World, entries_of, seen_effects}
 
 -- a run, whole or cut: what it is of, and its moves, newest first. What the Engine and the requests that are left do before the
 -- next run begins are its latest moves

@@ -1,20 +1,18 @@
 -- What an Engine may answer to each request of the Docker Engine API, and how it is then changed. An Engine is
 -- known by its look-ups alone: containers and networks by id, volumes and images by name.
-use Rattle.std.specs.Prelude.{◌≡◌, ◌⊎◌, ◌↔◌, ℕ, zero, suc, Bool, true, false, not, if◌then◌else◌, ◌&&◌, ◌||◌, List, [], ◌∷◌, ◌++◌, Option, Some, None, IsTrue, IsSomeAnd, find, map, option_map, unwrap_or, is_some, codes, pos, ◌==◌}
+use Rattle.std.specs.Prelude.{◌≡◌, ◌⊎◌, ℕ, zero, suc, Bool, true, false, not, if◌then◌else◌, ◌&&◌, ◌||◌, List, [], ◌∷◌, Option, Some, None, IsSomeAnd, find, map, option_map, unwrap_or, is_some, codes, pos, ◌==◌}
 use Rattle.std.specs.List.{list_any, list_all, before_first, IsDistinct, AllZip}
 use Rattle.std.specs.Option.{option_map_or}
 use Rattle.std.specs.Str.{bytes_eq}
 use Rattle.tree_base.specs.declared.Var.{Var}
 use Rattle.engine_types.specs.declared.ContainerSpec.{ContainerSpec}
 use Rattle.engine_types.specs.declared.Endpoint.{Endpoint}
-use Rattle.engine_types.specs.declared.Healthcheck.{Healthcheck}
 use Rattle.engine_types.specs.declared.ContainerRow.{ContainerRow}
 use Rattle.engine_types.specs.declared.ContainerState.{ContainerState}
 use Rattle.engine_types.specs.declared.Health.{Health}
 use Rattle.engine_types.specs.declared.Report.{Report}
 use Rattle.engine_types.specs.declared.Listed.{Listed}
 use Rattle.engine_types.specs.declared.NetRow.{NetRow}
-use Rattle.engine_types.specs.declared.ImageRow.{ImageRow}
 use Rattle.engine_types.specs.declared.Engine.{Engine}
 use Rattle.engine_types.specs.declared.Request.{Request}
 use Rattle.engine_types.specs.declared.Reply.{Reply}

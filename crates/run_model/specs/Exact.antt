@@ -1,16 +1,13 @@
 -- When an Engine holds exactly what a project declares, and when all of it is gone.
-use Rattle.std.specs.Prelude.{◌≡◌, ℕ, Bool, true, false, not, ◌&&◌, ◌||◌, ◌==◌, if◌then◌else◌, List, Option, Some, None, count_by, filter}
+use Rattle.std.specs.Prelude.{◌≡◌, ℕ, Bool, true, false, not, ◌&&◌, ◌||◌, List, Some}
 use Rattle.std.specs.List.{list_any, list_all}
-use Rattle.std.specs.Str.{bytes_eq}
-use Rattle.engine_types.specs.declared.Attach.{Attach}
 use Rattle.engine_types.specs.declared.ContainerRow.{ContainerRow}
 use Rattle.engine_types.specs.declared.Declared.{Declared}
 use Rattle.engine_types.specs.declared.Engine.{Engine}
 use Rattle.engine_types.specs.declared.NetworkSpec.{NetworkSpec}
-use Rattle.engine_types.specs.declared.NetRow.{NetRow}
 use Rattle.engine_types.specs.declared.Slot.{Slot}
 use Rattle.engine_types.specs.declared.VolumeSpec.{VolumeSpec}
-use Rattle.run_model.specs.EngineRules.{Among, container_at, has_volume, image_at, is_of_project, network_at, network_has_name}
+use Rattle.run_model.specs.EngineRules.{Among, container_at, has_volume, image_at, is_of_project, network_has_name}
 use Rattle.run_model.specs.Labels.{agrees, has_slot_service, is_of_slot, is_orphan}
 use Rattle.run_model.specs.Plans.{network_name}
 

@@ -1,5 +1,5 @@
 -- What a journal says of its workers and actions, newest entry first: the list before an entry is the tail behind it.
-use Rattle.std.specs.Prelude.{ℕ, ◌+◌, Bool, true, false, if◌then◌else◌, ◌==◌, List, [], ◌∷◌, Option, Some, None, length}
+use Rattle.std.specs.Prelude.{ℕ, ◌+◌, Bool, true, false, if◌then◌else◌, ◌==◌, List, [], ◌∷◌, Option, Some, None}
 use Rattle.engine_types.specs.declared.Action.{Action}
 use Rattle.engine_types.specs.declared.ActionKind.{ActionKind}
 use Rattle.engine_types.specs.declared.Declared.{Declared}
@@ -39,10 +39,12 @@ is_open Nothing = false
 is_open (Work a) = true
 is_open (Watch s) = true
 
+-- whether a permit is for this action
 abbrev pub is_work_on : ℕ → Holding → Bool
 is_work_on a (Work b) = b == a
 is_work_on a _ = false
 
+-- whether a permit is for a poll of this slot
 abbrev pub is_watch_of : ℕ → Holding → Bool
 is_watch_of s (Watch t) = t == s
 is_watch_of s _ = false
@@ -69,14 +71,17 @@ pub data Standing : Type 0 where
   Well : Reply → Standing
   Badly : Standing
 
+-- not claimed yet
 abbrev pub is_free : Standing → Bool
 is_free Free = true
 is_free _ = false
 
+-- ended well
 abbrev pub is_well : Standing → Bool
 is_well (Well reply) = true
 is_well _ = false
 
+-- ended otherwise than well
 abbrev pub is_badly : Standing → Bool
 is_badly Badly = true
 is_badly _ = false
@@ -93,6 +98,12 @@ standing setup (Entry.Claim v b ∷ past) a = if b == a then Out else standing s
 standing setup (Entry.Ended v outcome ∷ past) a =
     if is_work_on a (holding past v) then ended_as (kind_of setup.actions a) outcome else standing setup past a
 standing setup (_ ∷ past) a = standing setup past a
+
+-- how often an action was claimed
+abbrev pub claims : List Entry → ℕ → ℕ
+claims [] a = 0
+claims (Entry.Claim v b ∷ past) a = if b == a then claims past a + 1 else claims past a
+claims (_ ∷ past) a = claims past a
 
 -- how often a slot was polled
 abbrev pub polls : List Entry → ℕ → ℕ

@@ -1,20 +1,18 @@
 -- Which journals are legal: each entry may stand after the list before it.
-use Rattle.std.specs.Prelude.{◌≡◌, ◌⊎◌, ℕ, ◌<◌, ◌≤◌, Bool, true, false, not, if◌then◌else◌, ◌&&◌, ◌||◌, ◌==◌, nat_le, List, [], ◌∷◌, Option, Some, None, length, find, is_some, unwrap_or, IsSomeAnd}
+use Rattle.std.specs.Prelude.{◌≡◌, ◌⊎◌, ℕ, ◌<◌, ◌≤◌, Bool, true, false, not, if◌then◌else◌, ◌&&◌, ◌||◌, ◌==◌, nat_le, List, [], ◌∷◌, Option, Some, None, length, find, is_some, IsSomeAnd}
 use Rattle.std.specs.List.{list_any, list_all}
 use Rattle.engine_types.specs.declared.Declared.{Declared}
 use Rattle.engine_types.specs.declared.Entry.{Entry}
 use Rattle.engine_types.specs.declared.Exchange.{Exchange}
 use Rattle.engine_types.specs.declared.LateWhy.{LateWhy}
 use Rattle.engine_types.specs.declared.Observed.{Observed}
-use Rattle.engine_types.specs.declared.Purpose.{Purpose}
-use Rattle.engine_types.specs.declared.RunLimits.{RunLimits}
 use Rattle.engine_types.specs.declared.Seen.{Seen}
 use Rattle.engine_types.specs.declared.SeenEnd.{SeenEnd}
 use Rattle.engine_types.specs.declared.SeenFault.{SeenFault}
 use Rattle.run_model.specs.Conditions.{is_allowed, is_watched}
-use Rattle.run_model.specs.Journals.{Holding, Nothing, Setup, has_left, has_stopped, holding, is_ending, is_open, is_watch_of, polls, seen_in}
+use Rattle.run_model.specs.Journals.{Nothing, Setup, has_left, has_stopped, holding, is_ending, is_open, is_watch_of, polls, seen_in}
 use Rattle.run_model.specs.Observation.{Asks, Ends, Onward, Strays, is_asked, observed}
-use Rattle.run_model.specs.Plans.{Aim, Basis, action_count, is_too_long, planned}
+use Rattle.run_model.specs.Plans.{Aim, Basis, action_count, is_too_long}
 use Rattle.run_model.specs.Tests.{numbers_from, places}
 
 -- what an ask is answered: the journal is full, there is nothing left, an action, a poll of a slot, or there is nothing to do yet
@@ -58,20 +56,20 @@ next_poll setup past = find (λ s. may_poll setup past s && has_fewest_polls set
 abbrev pub is_other_out : Setup → List Entry → ℕ → Bool
 is_other_out setup past w = list_any (λ v. not (v == w) && is_open (holding past v)) (workers setup)
 
+-- what an ask is answered, in this order: the journal is full; the run is ending; an action is allowed; a slot may be polled;
+-- another worker's permit is out; nothing of these
+abbrev pub answer_to : Bool → Bool → Option ℕ → Option ℕ → Bool → Decision
+answer_to true ending action slot other_out = Full
+answer_to false true action slot other_out = Go
+answer_to false false (Some a) slot other_out = Take a
+answer_to false false None (Some s) other_out = Look s
+answer_to false false None None true = Pause
+answer_to false false None None false = Go
+
 -- what a worker's ask is answered after these entries
 abbrev pub decision : Setup → List Entry → ℕ → Decision
 decision setup past w =
-    if nat_le entries_limit (length past) then Full
-    else if is_ending past then Go
-    else by_action (next_action setup past)
-  where
-    by_poll : Option ℕ → Decision
-    by_poll (Some s) = Look s
-    by_poll None = if is_other_out setup past w then Pause else Go
-
-    by_action : Option ℕ → Decision
-    by_action (Some a) = Take a
-    by_action None = by_poll (next_poll setup past)
+    answer_to (nat_le entries_limit (length past)) (is_ending past) (next_action setup past) (next_poll setup past) (is_other_out setup past w)
 
 -- a worker may call: the observation ended well, the worker is one of the run's, holds nothing and hasn't left
 pub record IsReady (setup : Setup) (past : List Entry) (w : ℕ) : Type 0 where
@@ -126,14 +124,3 @@ MayStand aim setup past (Entry.Short w) = IsReady setup past w × (length past <
 abbrev pub IsLegal : Aim → Setup → List Entry → Type 0
 IsLegal aim setup [] = Unit {0}
 IsLegal aim setup (entry ∷ past) = IsLegal aim setup past × MayStand aim setup past entry
-
--- nothing seen
-abbrev pub unseen : Seen
-unseen = record { containers = []; networks = []; volumes = []; images = [] }
-
--- what a run is of, by its journal: the plan is made from what the journal's observation saw
-abbrev pub setup_of : Declared → Aim → RunLimits → List Entry → Setup
-setup_of declared aim limits past = record { declared = declared; seen = seen; actions = planned (record { declared = declared; seen = seen; aim = aim }); limits = limits }
-  where
-    seen : Seen
-    seen = unwrap_or (seen_in past) unseen

@@ -3,6 +3,7 @@ pub mod EngineRules
 pub mod Labels
 pub mod Observation
 pub mod Plans
+pub mod Told
 pub mod Journals
 pub mod Requests
 pub mod Conditions
@@ -13,7 +14,12 @@ pub mod Lines
 pub mod Worlds
 pub mod Exact
 pub mod Cuts
+pub mod Runs
 pub mod OneService
 pub mod ThreeServices
 pub mod OneWorld
 pub mod TwoNetworks
+pub mod Laws
+pub mod FourServices
+pub mod OtherRuns
+pub mod TwoWorlds

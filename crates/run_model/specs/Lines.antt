@@ -1,5 +1,5 @@
 -- The printed lines of a run: its report, and the line of its fault.
-use Rattle.std.specs.Prelude.{ℕ, Bool, true, false, if◌then◌else◌, List, [], ◌∷◌, ◌++◌, Option, Some, None, slice_get, codes, decimal}
+use Rattle.std.specs.Prelude.{ℕ, if◌then◌else◌, List, [], ◌∷◌, ◌++◌, slice_get, codes, decimal}
 use Rattle.std.specs.Fmt.{signed_decimal}
 use Rattle.std.specs.Option.{option_map_or}
 use Rattle.engine_types.specs.declared.ActionKind.{ActionKind}
@@ -8,7 +8,6 @@ use Rattle.engine_types.specs.declared.ContainerState.{ContainerState}
 use Rattle.engine_types.specs.declared.Entry.{Entry}
 use Rattle.engine_types.specs.declared.Health.{Health}
 use Rattle.engine_types.specs.declared.Kind.{Kind}
-use Rattle.engine_types.specs.declared.LateWhy.{LateWhy}
 use Rattle.engine_types.specs.declared.Outcome.{Outcome}
 use Rattle.engine_types.specs.declared.Reply.{Reply}
 use Rattle.engine_types.specs.declared.Report.{Report}
@@ -17,7 +16,7 @@ use Rattle.engine_types.specs.declared.RunFault.{RunFault}
 use Rattle.engine_types.specs.declared.SeenFault.{SeenFault}
 use Rattle.engine_types.specs.declared.WireEnd.{WireEnd}
 use Rattle.run_model.specs.Ending.{slot_name}
-use Rattle.run_model.specs.Journals.{Holding, Nothing, Setup, Watch, Work, ended_as, holding, is_well}
+use Rattle.run_model.specs.Journals.{Holding, Setup, Work, ended_as, holding, is_well}
 use Rattle.run_model.specs.Plans.{kind_of, network_name, slot_at}
 
 -- the name of a seen container
@@ -83,6 +82,7 @@ request_words (Request.RemoveVolume name) = codes "remove volume " ++ name
 request_words (Request.Image name) = codes "image " ++ name
 request_words (Request.Pull name) = codes "pull " ++ name
 
+-- the name of a cause of loss, without its place
 abbrev pub cause_words : WireEnd → List ℕ
 cause_words WireEnd.Fault = codes "Fault"
 cause_words WireEnd.Ended = codes "Ended"
@@ -91,6 +91,7 @@ cause_words WireEnd.Encoded = codes "Encoded"
 cause_words WireEnd.TooLarge = codes "TooLarge"
 cause_words WireEnd.BadBody = codes "BadBody"
 
+-- the word of a kind, in lower case
 abbrev pub kind_words : Kind → List ℕ
 kind_words Kind.Service = codes "service"
 kind_words Kind.Network = codes "network"
@@ -98,12 +99,14 @@ kind_words Kind.Volume = codes "volume"
 kind_words Kind.Secret = codes "secret"
 kind_words Kind.Config = codes "config"
 
+-- the name of a condition
 abbrev pub condition_words : Condition → List ℕ
 condition_words Condition.Started = codes "Started"
 condition_words Condition.Healthy = codes "Healthy"
 condition_words Condition.Completed = codes "Completed"
 condition_words Condition.Running = codes "Running"
 
+-- the name of a container's state
 abbrev pub state_words : ContainerState → List ℕ
 state_words ContainerState.Created = codes "Created"
 state_words ContainerState.Running = codes "Running"
@@ -113,6 +116,7 @@ state_words ContainerState.Removing = codes "Removing"
 state_words ContainerState.Exited = codes "Exited"
 state_words ContainerState.Dead = codes "Dead"
 
+-- the name of a health
 abbrev pub health_words : Health → List ℕ
 health_words Health.Absent = codes "Absent"
 health_words Health.Starting = codes "Starting"
@@ -123,9 +127,11 @@ health_words Health.Unhealthy = codes "Unhealthy"
 abbrev pub refused_words : Request → ℕ → List ℕ → List ℕ
 refused_words request status message = codes "refused: " ++ request_words request ++ codes ": " ++ decimal status ++ codes " " ++ message
 
+-- a request whose response was lost, with the cause
 abbrev pub lost_words : Request → WireEnd → List ℕ
 lost_words request cause = codes "lost: " ++ request_words request ++ codes ": " ++ cause_words cause
 
+-- a request that wasn't sent
 abbrev pub not_sent_words : Request → List ℕ
 not_sent_words request = codes "not sent: " ++ request_words request
 
@@ -137,6 +143,7 @@ outcome_words request (Outcome.Lost cause) = lost_words request cause
 outcome_words request Outcome.NotSent = not_sent_words request
 outcome_words request Outcome.Memory = codes "memory"
 
+-- an observation that ended badly
 abbrev pub seen_words : SeenFault → List ℕ
 seen_words (SeenFault.RequestFailed request status message) = refused_words request status message
 seen_words (SeenFault.PullFailed image message) = codes "pull " ++ image ++ codes ": " ++ message
@@ -153,6 +160,7 @@ seen_words SeenFault.Memory = codes "memory"
 abbrev pub report_words : Report → List ℕ
 report_words report = state_words report.state ++ codes " " ++ signed_decimal report.exit_code ++ codes " " ++ health_words report.health
 
+-- the words of a run's fault
 abbrev pub fault_words : RunFault → List ℕ
 fault_words (RunFault.Seen fault) = seen_words fault
 fault_words (RunFault.Request request outcome) = outcome_words request outcome

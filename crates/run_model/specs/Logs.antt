@@ -1,5 +1,5 @@
 -- What a journal says of the workers' hands: their exchanges, and how often they looked, paused and read the clock.
-use Rattle.std.specs.Prelude.{◌≡◌, ◌⊎◌, ℕ, ◌+◌, ◌*◌, ◌-◌, ◌^◌, ◌≤◌, min, Bool, true, false, if◌then◌else◌, ◌==◌, List, [], ◌∷◌, ◌++◌, Option, Some, None}
+use Rattle.std.specs.Prelude.{◌≡◌, ◌⊎◌, ℕ, ◌+◌, ◌*◌, ◌-◌, ◌^◌, min, Bool, true, false, if◌then◌else◌, ◌==◌, List, [], ◌∷◌, ◌++◌, Option, Some, None}
 use Rattle.engine_types.specs.declared.Entry.{Entry}
 use Rattle.engine_types.specs.declared.Exchange.{Exchange}
 use Rattle.engine_types.specs.declared.LateWhy.{LateWhy}
@@ -16,6 +16,7 @@ exchanges_of setup (Entry.Ended v outcome ∷ past) w =
     if v == w then exchanges_of setup past w ++ record { request = request_out setup past v; outcome = outcome } ∷ [] else exchanges_of setup past w
 exchanges_of setup (_ ∷ past) w = exchanges_of setup past w
 
+-- want of memory
 abbrev pub is_memory : Outcome → Bool
 is_memory Outcome.Memory = true
 is_memory _ = false

@@ -1,11 +1,10 @@
 -- One service, `web` with the image `nginx:1.25` and no network, and runs of it.
-use Rattle.std.specs.Prelude.{ℕ, Bool, true, false, List, [], ◌∷◌, Option, Some, None, codes, reverse}
+use Rattle.std.specs.Prelude.{ℕ, false, List, [], ◌∷◌, Some, None, codes}
 use Rattle.tree_base.specs.declared.Var.{Var}
 use Rattle.engine_types.specs.declared.Condition.{Condition}
 use Rattle.engine_types.specs.declared.ContainerSpec.{ContainerSpec}
 use Rattle.engine_types.specs.declared.Declared.{Declared}
 use Rattle.engine_types.specs.declared.Entry.{Entry}
-use Rattle.engine_types.specs.declared.Exchange.{Exchange}
 use Rattle.engine_types.specs.declared.Observed.{Observed}
 use Rattle.engine_types.specs.declared.Outcome.{Outcome}
 use Rattle.engine_types.specs.declared.Policy.{Policy}
@@ -13,13 +12,12 @@ use Rattle.engine_types.specs.declared.Purpose.{Purpose}
 use Rattle.engine_types.specs.declared.Reply.{Reply}
 use Rattle.engine_types.specs.declared.Request.{Request}
 use Rattle.engine_types.specs.declared.RunLimits.{RunLimits}
-use Rattle.engine_types.specs.declared.Seen.{Seen}
 use Rattle.engine_types.specs.declared.SeenEnd.{SeenEnd}
 use Rattle.engine_types.specs.declared.SeenFault.{SeenFault}
 use Rattle.engine_types.specs.declared.Slot.{Slot}
-use Rattle.run_model.specs.Journals.{Setup}
-use Rattle.run_model.specs.Legal.{setup_of}
 use Rattle.run_model.specs.Plans.{Aim}
+use Rattle.run_model.specs.Runs.{Task}
+use Rattle.run_model.specs.Told.{answered}
 
 -- the labels of a service's first container in the project `shop`
 abbrev pub labels_of : List ℕ → List ℕ → List Var
@@ -104,6 +102,7 @@ web = record {
   stop_seconds = 10;
 }
 
+-- the project `shop`, which declares `web` alone
 abbrev pub shop : Declared
 shop = record { project = codes "shop"; slots = web ∷ []; networks = []; volumes = [] }
 
@@ -115,13 +114,13 @@ plain_limits = record { workers = 1; deadline = None; wait = false; stop_seconds
 abbrev pub to_up : Aim
 to_up = record { purpose = Purpose.Up; orphans = false; volumes = false }
 
--- a run of `up` with this journal, newest entry first
-abbrev pub up_of : Declared → List Entry → Setup
-up_of declared past = setup_of declared to_up plain_limits past
+-- to bring a project up with one worker
+abbrev pub upping : Declared → Task
+upping declared = record { declared = declared; aim = to_up; limits = plain_limits }
 
--- an exchange that was answered
-abbrev pub answered : Request → Reply → Exchange
-answered request reply = record { request = request; outcome = Outcome.Answered reply }
+-- the same with two workers
+abbrev pub upping_by_two : Declared → Task
+upping_by_two declared = record { declared = declared; aim = to_up; limits = record plain_limits { workers = 2 } }
 
 -- the image isn't there, and is pulled
 abbrev pub seen_fresh : Observed
@@ -155,3 +154,7 @@ seen_no_image = record {
 -- the run on an Engine that has no such image to pull
 abbrev pub no_image : List Entry
 no_image = Entry.Seen seen_no_image ∷ []
+
+-- worker 0 creates the container, and hasn't come back
+abbrev pub creates_still : List Entry
+creates_still = Entry.Seen seen_fresh ∷ Entry.Claim 0 0 ∷ []

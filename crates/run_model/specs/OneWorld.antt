@@ -16,6 +16,7 @@ use Rattle.run_model.specs.Worlds.{Did, Move, Took}
 abbrev pub engine_with : List ContainerRow → List ImageRow → Engine
 engine_with containers images = record { containers = containers; networks = []; volumes = []; images = images; next = 0 }
 
+-- an Engine that holds nothing
 abbrev pub fresh : Engine
 fresh = engine_with [] []
 

@@ -1,5 +1,5 @@
 -- What a plan has: which actions, in which order, and what each needs before it.
-use Rattle.std.specs.Prelude.{◌≡◌, ℕ, ◌<◌, ◌^◌, ◌-◌, min, Bool, true, false, not, if◌then◌else◌, ◌&&◌, ◌||◌, ◌==◌, nat_lt, List, [], ◌∷◌, ◌++◌, Option, Some, None, filter, find, map, flat_map, length, slice_get, option_map, option_and_then, is_some, unwrap_or}
+use Rattle.std.specs.Prelude.{◌≡◌, ◌↔◌, ℕ, ◌<◌, ◌^◌, ◌-◌, min, Bool, true, false, not, if◌then◌else◌, ◌&&◌, ◌||◌, ◌==◌, nat_lt, List, [], ◌∷◌, ◌++◌, Option, Some, None, filter, find, map, flat_map, length, slice_get, option_map, option_and_then, is_some, unwrap_or}
 use Rattle.std.specs.List.{list_any, before_first}
 use Rattle.std.specs.Option.{option_map_or}
 use Rattle.std.specs.Str.{bytes_eq}
@@ -12,12 +12,9 @@ use Rattle.engine_types.specs.declared.ContainerSpec.{ContainerSpec}
 use Rattle.engine_types.specs.declared.Declared.{Declared}
 use Rattle.engine_types.specs.declared.Listed.{Listed}
 use Rattle.engine_types.specs.declared.Need.{Need}
-use Rattle.engine_types.specs.declared.NetRow.{NetRow}
-use Rattle.engine_types.specs.declared.NetworkSpec.{NetworkSpec}
 use Rattle.engine_types.specs.declared.Purpose.{Purpose}
 use Rattle.engine_types.specs.declared.Seen.{Seen}
 use Rattle.engine_types.specs.declared.Slot.{Slot}
-use Rattle.engine_types.specs.declared.VolumeSpec.{VolumeSpec}
 use Rattle.run_model.specs.EngineRules.{Among, is_live, is_of_project}
 use Rattle.run_model.specs.Labels.{agrees, has_slot_service, names_service, names_slot}
 use Rattle.run_model.specs.Observation.{is_up}
@@ -43,6 +40,7 @@ up_basis declared seen orphans = record { declared = declared; seen = seen; aim 
 abbrev pub down_basis : Declared → Seen → Bool → Bool → Basis
 down_basis declared seen orphans volumes = record { declared = declared; seen = seen; aim = record { purpose = Purpose.Down; orphans = orphans; volumes = volumes } }
 
+-- the slot with this number
 abbrev pub slot_at : Declared → ℕ → Option Slot
 slot_at declared s = slice_get declared.slots s
 
@@ -210,6 +208,23 @@ pub record HasPlan (basis : Basis) (actions : List Action) : Type 0 where
   pub needs : (a b : ℕ) (kind other : ActionKind) → kind_of actions a ≡ Some kind → kind_of actions b ≡ Some other
       → is_needed_by basis kind other ≡ true → Among (needs_of actions a) b
 
+-- a plan as a set of actions: it has exactly those that are wanted, each once, and each needs exactly those that it is said to need
+pub record IsPlanOf (basis : Basis) (actions : List Action) : Type 0 where
+  pub wanted : (a : ℕ) (kind : ActionKind) → kind_of actions a ≡ Some kind → is_wanted basis kind ≡ true
+  pub all : (kind : ActionKind) → is_wanted basis kind ≡ true → (a : ℕ) × (kind_of actions a ≡ Some kind)
+  pub once : (a b : ℕ) (kind : ActionKind) → kind_of actions a ≡ Some kind → kind_of actions b ≡ Some kind → a ≡ b
+  pub needs : (a b : ℕ) (kind other : ActionKind) → kind_of actions a ≡ Some kind → kind_of actions b ≡ Some other
+      → (Among (needs_of actions a) b ↔ (is_needed_by basis kind other ≡ true))
+
+-- a plan leaves kept containers alone: none is stopped or removed, and no slot that keeps one gets another
+pub record LeavesKept (basis : Basis) : Type 0 where
+  pub stops : (c : ℕ) (row : Listed) → slice_get basis.seen.containers c ≡ Some row → is_kept basis.declared basis.seen row ≡ true
+      → is_wanted basis (StopContainer c) ≡ false
+  pub removes : (c : ℕ) (row : Listed) → slice_get basis.seen.containers c ≡ Some row → is_kept basis.declared basis.seen row ≡ true
+      → is_wanted basis (RemoveContainer c) ≡ false
+  pub creates : (s : ℕ) (row : Listed) → kept basis.declared basis.seen s ≡ Some row → is_wanted basis (CreateSlot s) ≡ false
+
+-- whether an action starts this slot
 abbrev pub is_start_of : ℕ → Option ActionKind → Bool
 is_start_of s (Some (StartSlot t)) = t == s
 is_start_of s _ = false
@@ -218,6 +233,7 @@ is_start_of s _ = false
 abbrev pub start_of : List Action → ℕ → Option ℕ
 start_of actions s = find (λ a. is_start_of s (kind_of actions a)) (places actions)
 
+-- whether an action creates this slot's container
 abbrev pub is_create_of : ℕ → Option ActionKind → Bool
 is_create_of s (Some (CreateSlot t)) = t == s
 is_create_of s _ = false
@@ -226,6 +242,7 @@ is_create_of s _ = false
 abbrev pub create_of : List Action → ℕ → Option ℕ
 create_of actions s = find (λ a. is_create_of s (kind_of actions a)) (places actions)
 
+-- whether an action makes this network
 abbrev pub is_make_of : ℕ → Option ActionKind → Bool
 is_make_of n (Some (MakeNetwork m)) = m == n
 is_make_of n _ = false
@@ -243,6 +260,7 @@ slot_needs declared _ = []
 -- the slots that its slot needs: there is a rank that rises along all of these
 pub record IsOrderly (declared : Declared) (actions : List Action) : Type 0 where
   pub rank : ℕ → ℕ
+  pub within : (a : ℕ) → a < length actions → rank a < length actions
   pub there : (a b : ℕ) → Among (needs_of actions a) b → b < length actions
   pub needs : (a b : ℕ) → Among (needs_of actions a) b → rank b < rank a
   pub starts : (a b : ℕ) (need : Need) → Among (slot_needs declared (kind_of actions a)) need → start_of actions need.slot ≡ Some b → rank b < rank a
@@ -252,9 +270,10 @@ abbrev pub is_slot_before : Slot → Slot → Bool
 is_slot_before slot other =
     is_before slot.service other.service || (bytes_eq slot.service other.service && nat_lt slot.number other.number)
 
-abbrev pub is_running_alone : Condition → Bool
-is_running_alone Condition.Running = true
-is_running_alone _ = false
+-- the condition Running, for which no slot may wait
+abbrev pub is_running : Condition → Bool
+is_running Condition.Running = true
+is_running _ = false
 
 -- each element stands before all later ones
 abbrev pub IsAscending : {X : Type 0} → (X → X → Bool) → List X → Type 0
@@ -268,4 +287,4 @@ pub record IsWhole (declared : Declared) : Type 0 where
   pub volumes : IsAscending (λ volume other. is_before volume.name other.name) declared.volumes
   pub attaches : (slot : Slot) (attach : Attach) → Among declared.slots slot → Among slot.attach attach → attach.network < length declared.networks
   pub needs : (slot : Slot) (need : Need) → Among declared.slots slot → Among slot.needs need → need.slot < length declared.slots
-  pub conditions : (slot : Slot) (need : Need) → Among declared.slots slot → Among slot.needs need → is_running_alone need.condition ≡ false
+  pub conditions : (slot : Slot) (need : Need) → Among declared.slots slot → Among slot.needs need → is_running need.condition ≡ false

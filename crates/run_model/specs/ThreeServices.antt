@@ -1,22 +1,20 @@
 -- Three services, where `web` waits for `db` to be healthy and for `mig` to complete, and a run in which `db` falls ill.
-use Rattle.std.specs.Prelude.{ℕ, Bool, true, false, List, [], ◌∷◌, ◌++◌, Option, Some, None, codes, pos}
+use Rattle.std.specs.Prelude.{ℕ, true, false, List, [], ◌∷◌, ◌++◌, Some, None, codes, pos}
 use Rattle.engine_types.specs.declared.Condition.{Condition}
-use Rattle.engine_types.specs.declared.ContainerSpec.{ContainerSpec}
 use Rattle.engine_types.specs.declared.ContainerState.{ContainerState}
 use Rattle.engine_types.specs.declared.Declared.{Declared}
 use Rattle.engine_types.specs.declared.Entry.{Entry}
 use Rattle.engine_types.specs.declared.Health.{Health}
-use Rattle.engine_types.specs.declared.Healthcheck.{Healthcheck}
 use Rattle.engine_types.specs.declared.Need.{Need}
 use Rattle.engine_types.specs.declared.Observed.{Observed}
 use Rattle.engine_types.specs.declared.Outcome.{Outcome}
 use Rattle.engine_types.specs.declared.Policy.{Policy}
 use Rattle.engine_types.specs.declared.Reply.{Reply}
-use Rattle.engine_types.specs.declared.Report.{Report}
 use Rattle.engine_types.specs.declared.Request.{Request}
 use Rattle.engine_types.specs.declared.SeenEnd.{SeenEnd}
 use Rattle.engine_types.specs.declared.Slot.{Slot}
-use Rattle.run_model.specs.OneService.{answered, labels_of, plain_spec}
+use Rattle.run_model.specs.OneService.{labels_of, plain_spec}
+use Rattle.run_model.specs.Told.{answered}
 
 -- the image of all three
 abbrev pub busybox : List ℕ
@@ -52,6 +50,7 @@ db = record (slot_of (codes "db") []) {
 abbrev pub web : Slot
 web = slot_of (codes "web") (record { slot = 0; condition = Condition.Healthy; required = true } ∷ record { slot = 1; condition = Condition.Completed; required = true } ∷ [])
 
+-- the project of the three
 abbrev pub shop : Declared
 shop = record { project = codes "shop"; slots = db ∷ slot_of (codes "mig") [] ∷ web ∷ []; networks = []; volumes = [] }
 
@@ -79,3 +78,14 @@ falls_ill =
     ++ doing 3 Reply.Done ++ doing 4 Reply.Done
     ++ (Entry.Poll 0 0 ∷ reported ContainerState.Running Health.Healthy ∷ Entry.Poll 0 1 ∷ reported ContainerState.Running Health.Absent
     ∷ Entry.Poll 0 0 ∷ reported ContainerState.Running Health.Unhealthy ∷ Entry.Leave 0 ∷ [])
+
+-- two workers, oldest entry first: worker 0 looks at `db` and hasn't come back, while worker 1 looked at `mig` twice
+abbrev pub one_stays_out : List Entry
+one_stays_out =
+    Entry.Seen seen_image ∷ []
+    ++ doing 0 (Reply.Made (codes "c1")) ++ doing 1 (Reply.Made (codes "c2")) ++ doing 2 (Reply.Made (codes "c3"))
+    ++ doing 3 Reply.Done ++ doing 4 Reply.Done
+    ++ (Entry.Poll 0 0 ∷ Entry.Poll 1 1 ∷ still_running ∷ Entry.Poll 1 1 ∷ still_running ∷ [])
+  where
+    still_running : Entry
+    still_running = Entry.Ended 1 (Outcome.Answered (Reply.State (record { state = ContainerState.Running; exit_code = pos 0; health = Health.Absent })))

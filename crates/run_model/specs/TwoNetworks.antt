@@ -1,9 +1,8 @@
 -- One service, `web`, on the networks `a` and `b`, and what an Engine may show of it.
-use Rattle.std.specs.Prelude.{ℕ, Bool, true, false, List, [], ◌∷◌, ◌++◌, Option, Some, None, codes, pos}
+use Rattle.std.specs.Prelude.{ℕ, true, false, List, [], ◌∷◌, ◌++◌, Some, None, codes}
 use Rattle.tree_base.specs.declared.Var.{Var}
 use Rattle.engine_types.specs.declared.Action.{Action}
 use Rattle.engine_types.specs.declared.ActionKind.{ActionKind}
-use Rattle.engine_types.specs.declared.Attach.{Attach}
 use Rattle.engine_types.specs.declared.ContainerState.{ContainerState}
 use Rattle.engine_types.specs.declared.Declared.{Declared}
 use Rattle.engine_types.specs.declared.Entry.{Entry}
@@ -13,13 +12,15 @@ use Rattle.engine_types.specs.declared.NetRow.{NetRow}
 use Rattle.engine_types.specs.declared.NetworkSpec.{NetworkSpec}
 use Rattle.engine_types.specs.declared.Observed.{Observed}
 use Rattle.engine_types.specs.declared.Outcome.{Outcome}
+use Rattle.engine_types.specs.declared.Policy.{Policy}
 use Rattle.engine_types.specs.declared.Reply.{Reply}
 use Rattle.engine_types.specs.declared.Request.{Request}
 use Rattle.engine_types.specs.declared.Seen.{Seen}
 use Rattle.engine_types.specs.declared.SeenEnd.{SeenEnd}
 use Rattle.engine_types.specs.declared.Slot.{Slot}
 use Rattle.engine_types.specs.declared.WireEnd.{WireEnd}
-use Rattle.run_model.specs.OneService.{answered, labels_of, nginx, plain_spec}
+use Rattle.run_model.specs.OneService.{labels_of, nginx, plain_spec}
+use Rattle.run_model.specs.Told.{answered}
 
 -- the labels of a network of the project `shop`
 abbrev pub network_labels : List ℕ → List Var
@@ -48,6 +49,7 @@ web = record Rattle.run_model.specs.OneService.web {
   attach = record { network = 0; aliases = codes "web" ∷ [] } ∷ record { network = 1; aliases = codes "web" ∷ [] } ∷ [];
 }
 
+-- the project, which declares `web` and both networks
 abbrev pub shop : Declared
 shop = record { project = codes "shop"; slots = web ∷ []; networks = network_of (codes "a") ∷ network_of (codes "b") ∷ []; volumes = [] }
 
@@ -123,3 +125,19 @@ connects =
     Entry.Seen (seen_as (listed ContainerState.Created (codes "shop_a" ∷ []) ∷ []) both)
     ∷ Entry.Claim 0 0 ∷ Entry.Ended 0 (Outcome.Answered Reply.Done)
     ∷ Entry.Claim 0 1 ∷ Entry.Ended 0 (Outcome.Answered Reply.Done) ∷ Entry.Leave 0 ∷ []
+
+-- the listings of an observation of the project
+abbrev pub listings : List NetRow → List Exchange
+listings networks = answered (Request.ListContainers (codes "shop")) (Reply.Containers []) ∷ answered Request.ListNetworks (Reply.Networks networks) ∷ []
+
+-- the same project, whose network `a` is external
+abbrev pub with_external : Declared
+with_external = record shop { networks = record (network_of (codes "a")) { external = true } ∷ network_of (codes "b") ∷ [] }
+
+-- the same project, whose service can be built
+abbrev pub with_build : Declared
+with_build = record shop { slots = record web { has_build = true } ∷ [] }
+
+-- the same project, whose image is always pulled
+abbrev pub with_pull : Declared
+with_pull = record shop { slots = record web { policy = Policy.Always } ∷ [] }

@@ -1,9 +1,50 @@
-ghost use Rattle.std.specs.Prelude.{◌≡◌};
-ghost use Rattle.run_model.specs.EngineRules.{Answers};
-ghost use Rattle.engine_types.specs.declared.Engine.{Engine};
-ghost use Rattle.engine_types.specs.declared.Reply.{Reply};
+ghost use Rattle.run_model.specs.Laws.{ActionsAreClaimedOnce, AsksAreAnswered, ClaimsAreAllowed, EachExchangeIsAsked, KeptAreLeftAlone, PlannedIsPlan, RefusalChangesNothing, SeenIsTold, StatusIsZeroWithoutFault};
 
 /// A refusal changes nothing.
 pub fn refusal_changes_nothing()
-    ensures { (old new : Engine) (request : _) (status : _) (message : _) → Answers old request (Reply.Refused status message) new → new ≡ old }
+    ensures { RefusalChangesNothing }
+{}
+
+/// A run's exit status is 0 exactly where no entry of its journal fails.
+pub fn status_is_zero_without_fault()
+    ensures { StatusIsZeroWithoutFault }
+{}
+
+/// The plan, as it is listed, has exactly the actions that are wanted, each once, and each needs exactly those that
+/// it is said to need.
+pub fn planned_is_plan()
+    ensures { PlannedIsPlan }
+{}
+
+/// Each claim of a legal journal stands where its action is allowed: it wasn't claimed before, all that it needs
+/// ended well, and each need of the slot that it starts lets it go.
+pub fn claims_are_allowed()
+    ensures { ClaimsAreAllowed }
+{}
+
+/// In a legal journal no action is claimed twice, so no request is sent again.
+pub fn actions_are_claimed_once()
+    ensures { ActionsAreClaimedOnce }
+{}
+
+/// Wherever a worker may ask, a legal journal goes on with an entry that answers it.
+pub fn asks_are_answered()
+    ensures { AsksAreAnswered }
+{}
+
+/// Where the ids of the seen containers differ, a plan of `up` stops and removes no kept container, and creates no
+/// other one for its slot.
+pub fn kept_are_left_alone()
+    ensures { KeptAreLeftAlone }
+{}
+
+/// Each exchange of an observation is the one that was to come next after those before it.
+pub fn each_exchange_is_asked()
+    ensures { EachExchangeIsAsked }
+{}
+
+/// Where an observation ended well, it saw what its exchanges told: the listed rows, and of each slot's image the id
+/// that was told last.
+pub fn seen_is_told()
+    ensures { SeenIsTold }
 {}

@@ -4,8 +4,9 @@ use Rattle.engine_types.specs.declared.Entry.{Entry}
 use Rattle.run_model.specs.Journals.{Nothing, Setup, holding}
 use Rattle.run_model.specs.Legal.{IsLegal}
 use Rattle.run_model.specs.Ending.{IsFinal}
-use Rattle.run_model.specs.OneService.{to_up, up_of}
+use Rattle.run_model.specs.OneService.{to_up, upping}
 use Rattle.run_model.specs.ThreeServices.{falls_ill, shop}
+use Rattle.run_model.specs.Runs.{run_setup}
 use Rattle.run_model.proofs.Ready.{ready}
 use Rattle.run_model.proofs.rows.failed_condition_is_refused.Goals as goal
 
@@ -13,7 +14,7 @@ abbrev past : List Entry
 past = reverse falls_ill
 
 abbrev setup : Setup
-setup = up_of shop past
+setup = run_setup (upping shop) falls_ill
 
 legal : IsLegal to_up setup past
 legal = ((((((((((((((((((tt, (refl, inl refl, refl)), (ready setup _ (omega arith) refl refl refl, refl)), refl), (ready setup _ (omega arith) refl refl refl, refl)), refl), (ready setup _ (omega arith) refl refl refl, refl)), refl), (ready setup _ (omega arith) refl refl refl, refl)), refl), (ready setup _ (omega arith) refl refl refl, refl)), refl), (ready setup _ (omega arith) refl refl refl, refl)), refl), (ready setup _ (omega arith) refl refl refl, refl)), refl), (ready setup _ (omega arith) refl refl refl, refl)), refl), (ready setup _ (omega arith) refl refl refl, refl))
@@ -27,4 +28,4 @@ over = inr (record { none_out = none_out; left = refl; over = inr (refl, refl) }
 
 pub returns : goal.returns
 unfolding digits
-returns c = record { entries = refl; legal = legal; over = over; status = refl; fault = refl }
+returns c = record { entries = refl; run = record { legal = legal; over = over }; status = refl; fault = refl }

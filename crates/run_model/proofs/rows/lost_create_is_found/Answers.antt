@@ -1,57 +1,15 @@
-use Rattle.std.proofs.Common.{◌≡◌, ℕ, zero, suc, ◌<◌, List, refl, inl, inr, reverse, arith}
+use Rattle.std.proofs.Common.{refl}
 use Rattle.std.specs.Fmt.{digits}
-use Rattle.engine_types.specs.declared.Entry.{Entry}
-use Rattle.run_model.specs.Journals.{Nothing, Setup, holding}
-use Rattle.run_model.specs.Legal.{IsLegal}
-use Rattle.run_model.specs.Ending.{IsFinal}
-use Rattle.run_model.specs.OneService.{to_up, up_of}
-use Rattle.run_model.specs.TwoNetworks.{connects, loses_create, shop}
-use Rattle.run_model.proofs.Ready.{ready}
+use Rattle.run_model.proofs.LostCreate.{first_legal, first_over, legal, over}
 use Rattle.run_model.proofs.rows.lost_create_is_found.Goals as goal
-
-abbrev lost : List Entry
-lost = reverse loses_create
-
-abbrev first : Setup
-first = up_of shop lost
-
-first_legal : IsLegal to_up first lost
-first_legal = ((((((((tt, (refl, inl refl, refl)), (ready first _ (omega arith) refl refl refl, refl)), refl), (ready first _ (omega arith) refl refl refl, refl)), refl), (ready first _ (omega arith) refl refl refl, refl)), refl), (ready first _ (omega arith) refl refl refl, refl))
-
-first_none_out : (w : ℕ) → w < 1 → holding lost w ≡ Nothing
-first_none_out zero h = refl
-first_none_out (suc w) h = absurd (omega arith)
-
-first_over : IsFinal first lost
-first_over = inr (record { none_out = first_none_out; left = refl; over = inr (refl, refl) })
-
-abbrev past : List Entry
-past = reverse connects
-
-abbrev second : Setup
-second = up_of shop past
-
-legal : IsLegal to_up second past
-unfolding digits
-legal = ((((((tt, (refl, inl refl, refl)), (ready second _ (omega arith) refl refl refl, refl)), refl), (ready second _ (omega arith) refl refl refl, refl)), refl), (ready second _ (omega arith) refl refl refl, refl))
-
-none_out : (w : ℕ) → w < 1 → holding past w ≡ Nothing
-none_out zero h = refl
-none_out (suc w) h = absurd (omega arith)
-
-over : IsFinal second past
-unfolding digits
-over = inr (record { none_out = none_out; left = refl; over = inr (refl, refl) })
 
 pub returns : goal.returns
 unfolding digits
 returns c = record {
-  first_legal = first_legal;
-  first_over = first_over;
+  first_run = record { legal = first_legal; over = first_over };
   first_status = refl;
   first_fault = refl;
-  legal = legal;
-  over = over;
+  run = record { legal = legal; over = over };
   status = refl;
   report = refl;
 }

@@ -1,9 +1,10 @@
 use Rattle.std.proofs.Common.{◌≡◌, ℕ, zero, suc, ◌<◌, List, refl, inl, inr, reverse, arith}
 use Rattle.engine_types.specs.declared.Entry.{Entry}
 use Rattle.run_model.specs.Journals.{Nothing, Setup, holding}
-use Rattle.run_model.specs.Legal.{IsLegal, IsReady}
+use Rattle.run_model.specs.Legal.{IsLegal}
 use Rattle.run_model.specs.Ending.{IsFinal}
-use Rattle.run_model.specs.OneService.{comes_up, shop, to_up, up_of}
+use Rattle.run_model.specs.OneService.{comes_up, shop, to_up, upping}
+use Rattle.run_model.specs.Runs.{run_setup}
 use Rattle.run_model.proofs.Ready.{ready}
 use Rattle.run_model.proofs.rows.one_service_comes_up.Goals as goal
 
@@ -11,7 +12,7 @@ abbrev past : List Entry
 past = reverse comes_up
 
 abbrev setup : Setup
-setup = up_of shop past
+setup = run_setup (upping shop) comes_up
 
 legal : IsLegal to_up setup past
 legal =
@@ -25,4 +26,4 @@ over : IsFinal setup past
 over = inr (record { none_out = none_out; left = refl; over = inr (refl, refl) })
 
 pub returns : goal.returns
-returns c = record { plan = refl; legal = legal; over = over; status = refl; report = refl }
+returns c = record { plan = refl; run = record { legal = legal; over = over }; status = refl; report = refl }

@@ -1,21 +1,19 @@
-use Rattle.std.proofs.Common.{◌≡◌, ℕ, List, [], ◌∷◌, Option, Some, None, Bool, true, false, not, ◌&&◌, ◌||◌, refl, sym, subst, inl, inr, reverse, drop}
+use Rattle.std.proofs.Common.{◌≡◌, ℕ, List, [], ◌∷◌, Some, None, Bool, true, false, not, ◌&&◌, ◌||◌, refl, sym, subst, inl, inr, drop}
 use Rattle.std.proofs.lemmas.Slice.Eq.{bytes_eq-Decides}
 use Rattle.std.specs.Fmt.{digits}
 use Rattle.std.specs.List.{IsDistinct, list_any}
 use Rattle.std.specs.Prelude.{codes, if◌then◌else◌, option_map}
 use Rattle.std.specs.Str.{bytes_eq}
 use Rattle.engine_types.specs.declared.ContainerRow.{ContainerRow}
-use Rattle.engine_types.specs.declared.Engine.{Engine}
 use Rattle.engine_types.specs.declared.ImageRow.{ImageRow}
-use Rattle.engine_types.specs.declared.NetworkSpec.{NetworkSpec}
 use Rattle.engine_types.specs.declared.Slot.{Slot}
-use Rattle.engine_types.specs.declared.VolumeSpec.{VolumeSpec}
 use Rattle.run_model.specs.EngineRules.{Among, Creates, ListsContainers, Updates, container_at, image_at, can_start, started_row, is_of_project}
 use Rattle.run_model.specs.Exact.{IsExact, IsExactSlot}
 use Rattle.run_model.specs.Journals.{Setup}
 use Rattle.run_model.specs.Labels.{is_of_slot, is_orphan}
-use Rattle.run_model.specs.OneService.{nginx, shop, up_of, comes_up, web}
+use Rattle.run_model.specs.OneService.{nginx, shop, upping, comes_up, web}
 use Rattle.run_model.specs.OneWorld.{engine_with, fresh, made, moves, pulled, up}
+use Rattle.run_model.specs.Runs.{run_setup}
 use Rattle.run_model.specs.Worlds.{World}
 use Rattle.run_model.proofs.rows.one_service_is_exact.Goals as goal
 
@@ -52,7 +50,7 @@ started : Updates (engine_with (made ∷ []) pulled) up (codes "c1") can_start (
 started = record { row = made; was = refl; could = refl; changes = record { containers = again; networks = λ i. refl; volumes = λ n. refl; images = λ n. refl } }
 
 abbrev setup : Setup
-setup = up_of shop (reverse comes_up)
+setup = run_setup (upping shop) comes_up
 
 listed : World setup fresh (drop 11 moves) fresh
 listed = (fresh, refl, (record { may_act = refl; no_effect = refl }, (lists_none, refl)))
