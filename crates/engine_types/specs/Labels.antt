@@ -9,33 +9,33 @@ abbrev pub label : List Var → List ℕ → Option (List ℕ)
 label pairs name = option_map (λ pair. pair.value) (find (λ pair. bytes_eq pair.name name) pairs)
 
 -- the name of the project
-abbrev pub project : List ℕ
-project = codes "com.docker.compose.project"
+abbrev pub project_label : List ℕ
+project_label = codes "com.docker.compose.project"
 
 -- the name of the container's service
-abbrev pub service : List ℕ
-service = codes "com.docker.compose.service"
+abbrev pub service_label : List ℕ
+service_label = codes "com.docker.compose.service"
 
 -- the container's number among those of its service, in decimal
-abbrev pub number : List ℕ
-number = codes "com.docker.compose.container-number"
+abbrev pub number_label : List ℕ
+number_label = codes "com.docker.compose.container-number"
 
 -- the configuration's hash that the container was made with, in lower hexadecimal
-abbrev pub hash : List ℕ
-hash = codes "com.docker.compose.config-hash"
+abbrev pub hash_label : List ℕ
+hash_label = codes "com.docker.compose.config-hash"
 
 -- whether the container was made for one run of a command
-abbrev pub oneoff : List ℕ
-oneoff = codes "com.docker.compose.oneoff"
+abbrev pub oneoff_label : List ℕ
+oneoff_label = codes "com.docker.compose.oneoff"
 
 -- the value of that label for a container that wasn't
 abbrev pub not_oneoff : List ℕ
 not_oneoff = codes "False"
 
 -- the key of the network
-abbrev pub network : List ℕ
-network = codes "com.docker.compose.network"
+abbrev pub network_label : List ℕ
+network_label = codes "com.docker.compose.network"
 
 -- the key of the volume
-abbrev pub volume : List ℕ
-volume = codes "com.docker.compose.volume"
+abbrev pub volume_label : List ℕ
+volume_label = codes "com.docker.compose.volume"

@@ -1,6 +1,9 @@
 //! The labels by which containers, networks and volumes are known to belong to a project: those that Docker
 //! Compose writes.
 
+ghost use Rattle.std.specs.Prelude.{◌≡◌};
+ghost use Rattle.engine_types.specs.Labels.{project_label, service_label, number_label, hash_label, oneoff_label, not_oneoff, network_label, volume_label};
+
 /// The name of the project.
 pub const PROJECT: &str = "com.docker.compose.project";
 
@@ -24,3 +27,15 @@ pub const NETWORK: &str = "com.docker.compose.network";
 
 /// The key of the volume.
 pub const VOLUME: &str = "com.docker.compose.volume";
+
+/// Each constant is the text that its definition spells: a law, which does nothing when it runs.
+pub fn as_defined()
+    ensures project { PROJECT.now ≡ project_label }
+    ensures service { SERVICE.now ≡ service_label }
+    ensures number { NUMBER.now ≡ number_label }
+    ensures hash { HASH.now ≡ hash_label }
+    ensures oneoff { ONEOFF.now ≡ oneoff_label }
+    ensures not_oneoff { NOT_ONEOFF.now ≡ not_oneoff }
+    ensures network { NETWORK.now ≡ network_label }
+    ensures volume { VOLUME.now ≡ volume_label }
+{}

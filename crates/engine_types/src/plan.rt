@@ -28,15 +28,9 @@ impl TryCopy for Action {
     fn copy(&self, alloc: Global) -> Result<Action, Memory> {
         Ok(Action {
             kind: self.kind,
-            needs: copy_numbers(alloc, self.needs.as_slice())?,
+            needs: self.needs.copy(alloc)?,
         })
     }
-}
-
-fn copy_numbers(alloc: Global, numbers: &[u32]) -> Result<List<u32>, Memory>
-    ensures { IfOk result (λ l. l ≡ numbers.now) }
-{
-    Ok(List::from_vec(numbers.to_vec(alloc)?))
 }
 
 /// What an action does. Slots, networks and volumes are places in the declared set, containers places
