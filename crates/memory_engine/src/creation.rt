@@ -1,6 +1,7 @@
-ghost use Rattle.std.specs.Prelude.{◌≡◌, ◌+◌, ◌∷◌, [], ◌++◌, IfOk, OnErr};
+ghost use Rattle.std.specs.Prelude.{◌≡◌, IfOk, OnErr};
+ghost use Rattle.std.specs.List.{list_all};
 ghost use Rattle.std.specs.Option.{option_copied};
-ghost use Rattle.run_model.specs.EngineRules.{created_row, endpoints_of};
+ghost use Rattle.run_model.specs.EngineRules.{endpoints_of, has_network_named};
 ghost use Rattle.memory_engine.specs.Ids.{id_text};
 ghost use Rattle.memory_engine.specs.Serving.{created, image_for, lacks_network as lacks_network_for, networks_for, with_created};
 
@@ -80,7 +81,13 @@ fn endpoints(spec: &ContainerSpec) -> &[Endpoint]
 fn lacks_network(engine: &Engine, spec: &ContainerSpec) -> bool
     ensures { result ≡ lacks_network_for engine.now spec.now }
 {
-    !endpoints(spec)
+    !are_there(engine, endpoints(spec))
+}
+
+fn are_there(engine: &Engine, endpoints: &[Endpoint]) -> bool
+    ensures { result ≡ list_all (λ endpoint. has_network_named engine.now endpoint.key) endpoints.now }
+{
+    endpoints
         .iter()
         .all(|endpoint| look_ups::is_network_named(engine, &endpoint.key))
 }

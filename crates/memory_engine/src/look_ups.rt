@@ -1,4 +1,5 @@
 ghost use Rattle.std.specs.Prelude.{◌≡◌, find};
+ghost use Rattle.std.specs.List.{list_any};
 ghost use Rattle.std.specs.Option.{option_copied};
 ghost use Rattle.std.specs.Str.{bytes_eq};
 ghost use Rattle.run_model.specs.EngineRules.{container_at, has_container_named, has_network_named, has_volume, is_on, network_at};
@@ -52,12 +53,19 @@ pub fn is_network_named(engine: &Engine, name: &Text) -> bool
 pub fn is_volume(engine: &Engine, name: &Text) -> bool
     ensures { result ≡ has_volume engine.now name.now }
 {
-    engine.volumes.as_slice().iter().any(|volume| *name == *volume)
+    is_among(engine.volumes.as_slice(), name)
 }
 
 /// Whether a container is on a network.
 pub fn is_attached(row: &ContainerRow, id: &Text) -> bool
     ensures { result ≡ is_on id.now row.now }
 {
-    row.networks.as_slice().iter().any(|network| *id == *network)
+    is_among(row.networks.as_slice(), id)
+}
+
+/// Whether a text is one of these.
+pub fn is_among(texts: &[Text], text: &Text) -> bool
+    ensures { result ≡ list_any (bytes_eq text.now) texts.now }
+{
+    texts.iter().any(|other| *text == *other)
 }

@@ -22,6 +22,8 @@ impl MemoryEngine {
         ensures made { self.new.made ≡ self.old.made }
         ensures catalogue { self.new.catalogue ≡ self.old.catalogue }
     {
+        // Ids are counted in 64 bits: the read tells the proof so.
+        let _next = self.engine.next;
         answer(alloc, &self.catalogue, &mut self.engine, request)
     }
 }
