@@ -50,41 +50,41 @@ changes_container engine id f keeps row was = record {
 
 may_start : (engine : Engine) (id : List ℕ) → May engine (Request.Start id) (started engine id)
 may_start engine id = on_container_both (May engine (Request.Start id)) engine id (λ row.
-        if is_started row.report.state then (Reply.Already, engine)
-        else (if can_start row.report.state then (Reply.Done, with_container engine id started_row) else (conflict, engine)))
+    if is_started row.report.state then (Reply.Already, engine)
+    else (if can_start row.report.state then (Reply.Done, with_container engine id started_row) else (conflict, engine)))
     refl
     (λ row was. cond_both (is_started row.report.state) (Reply.Already, engine)
-        (if can_start row.report.state then (Reply.Done, with_container engine id started_row) else (conflict, engine)) (May engine (Request.Start id))
-        (λ could. record { row = row; was = was; could = could; same = refl })
-        (λ _. cond_both (can_start row.report.state) (Reply.Done, with_container engine id started_row) (conflict, engine) (May engine (Request.Start id))
-            (λ could. record { row = row; was = was; could = could; changes = changes_container engine id started_row (λ _. refl) row was })
-            (λ _. refl)))
+    (if can_start row.report.state then (Reply.Done, with_container engine id started_row) else (conflict, engine)) (May engine (Request.Start id))
+    (λ could. record { row = row; was = was; could = could; same = refl })
+    (λ _. cond_both (can_start row.report.state) (Reply.Done, with_container engine id started_row) (conflict, engine) (May engine (Request.Start id))
+    (λ could. record { row = row; was = was; could = could; changes = changes_container engine id started_row (λ _. refl) row was })
+    (λ _. refl)))
 
 may_stop : (engine : Engine) (id : List ℕ) (seconds : ℕ) → May engine (Request.Stop id seconds) (stopped engine id)
 may_stop engine id seconds = on_container_both (May engine (Request.Stop id seconds)) engine id (λ row.
-        if is_live row.report.state then (Reply.Done, with_container engine id stopped_row) else (Reply.Already, engine))
+    if is_live row.report.state then (Reply.Done, with_container engine id stopped_row) else (Reply.Already, engine))
     refl
     (λ row was. cond_both (is_live row.report.state) (Reply.Done, with_container engine id stopped_row) (Reply.Already, engine) (May engine (Request.Stop id seconds))
-        (λ could. record { row = row; was = was; could = could; changes = changes_container engine id stopped_row (λ _. refl) row was })
-        (λ rests. record { row = row; was = was; could = rw rests refl; same = refl }))
+    (λ could. record { row = row; was = was; could = could; changes = changes_container engine id stopped_row (λ _. refl) row was })
+    (λ rests. record { row = row; was = was; could = rw rests refl; same = refl }))
 
 may_remove : (engine : Engine) (id : List ℕ) → May engine (Request.Remove id) (removed engine id)
 may_remove engine id = on_container_both (May engine (Request.Remove id)) engine id (λ row.
-        if is_live row.report.state then (conflict, engine) else (Reply.Done, without_container engine id))
+    if is_live row.report.state then (conflict, engine) else (Reply.Done, without_container engine id))
     refl
     (λ row was. cond_both (is_live row.report.state) (conflict, engine) (Reply.Done, without_container engine id) (May engine (Request.Remove id))
-        (λ _. refl)
-        (λ rests. record {
-          row = row;
-          was = was;
-          could = rw rests refl;
-          changes = record {
-            containers = λ i. find-filter id_of id i engine.containers;
-            networks = λ i. refl;
-            volumes = λ n. refl;
-            images = λ n. refl;
-          };
-        }))
+    (λ _. refl)
+    (λ rests. record {
+      row = row;
+      was = was;
+      could = rw rests refl;
+      changes = record {
+        containers = λ i. find-filter id_of id i engine.containers;
+        networks = λ i. refl;
+        volumes = λ n. refl;
+        images = λ n. refl;
+      };
+    }))
 
 may_inspect : (engine : Engine) (id : List ℕ) → May engine (Request.Inspect id) (served Catalogue.All engine (Request.Inspect id))
 may_inspect engine id = on_container_both (May engine (Request.Inspect id)) engine id (λ row. (Reply.State row.report, engine))
@@ -111,28 +111,28 @@ may_create engine name spec fits kept =
     let made : Reply × Engine = (Reply.Made (id_text engine.next), with_created engine name spec (unwrap_or (image_for engine spec) [])) in
     let lacks = is_none (image_for engine spec) || lacks_network engine spec in
     cond_both (has_container_named engine name) (conflict, engine) (if lacks then (not_found, engine) else made) (May engine (Request.Create name spec))
-        (λ _. refl)
-        (λ name_free. cond_both lacks (not_found, engine) made (May engine (Request.Create name spec))
-            (λ _. refl)
-            (λ whole.
-                let parts = or_parts (is_none (image_for engine spec)) (lacks_network engine spec) whole in
-                let image = some_of (image_for engine spec) parts.0 in
-                let no_container = free_container engine (id_text engine.next) (next_is_free engine fits kept) in
-                record {
-                  name_free = name_free;
-                  image = unwrap_or (image_for engine spec) [];
-                  image_is = rw image.1 refl;
-                  networks = networks_for engine spec;
-                  networks_are = networks_named engine kept.sound (endpoints_of spec) (not-false (list_all (λ endpoint. has_network_named engine endpoint.key) (endpoints_of spec)) parts.1);
-                  fresh = no_container;
-                  changes = record {
-                    containers = λ i. find-push id_of (created_row (id_text engine.next) name spec (unwrap_or (image_for engine spec) []) (networks_for engine spec))
-                        (id_text engine.next) i refl engine.containers no_container;
-                    networks = λ i. refl;
-                    volumes = λ n. refl;
-                    images = λ n. refl;
-                  };
-                }))
+    (λ _. refl)
+    (λ name_free. cond_both lacks (not_found, engine) made (May engine (Request.Create name spec))
+    (λ _. refl)
+    (λ whole.
+    let parts = or_parts (is_none (image_for engine spec)) (lacks_network engine spec) whole in
+    let image = some_of (image_for engine spec) parts.0 in
+    let no_container = free_container engine (id_text engine.next) (next_is_free engine fits kept) in
+    record {
+      name_free = name_free;
+      image = unwrap_or (image_for engine spec) [];
+      image_is = rw image.1 refl;
+      networks = networks_for engine spec;
+      networks_are = networks_named engine kept.sound (endpoints_of spec) (not-false (list_all (λ endpoint. has_network_named engine endpoint.key) (endpoints_of spec)) parts.1);
+      fresh = no_container;
+      changes = record {
+        containers = λ i. find-push id_of (created_row (id_text engine.next) name spec (unwrap_or (image_for engine spec) []) (networks_for engine spec))
+            (id_text engine.next) i refl engine.containers no_container;
+        networks = λ i. refl;
+        volumes = λ n. refl;
+        images = λ n. refl;
+      };
+    }))
 
 -- ---- networks
 
@@ -140,59 +140,65 @@ may_make_network : (engine : Engine) (spec : NetworkSpec) → engine.next < 2 ^ 
     → May engine (Request.MakeNetwork spec) (Reply.Made (id_text engine.next), with_network engine spec)
 may_make_network engine spec fits kept =
     let no_network = free_network engine (id_text engine.next) (next_is_free engine fits kept) in
-    let row : NetRow = record { id = id_text engine.next; name = spec.name; labels = spec.labels } in
-    (no_network, record {
-      containers = λ i. refl;
-      networks = λ i. find-push network_id_of row (id_text engine.next) i refl engine.networks no_network;
-      volumes = λ n. refl;
-      images = λ n. refl;
-    })
+    let row : NetRow = record { id = id_text engine.next; name = spec.name; labels = spec.labels } in (
+      no_network,
+      record {
+        containers = λ i. refl;
+        networks = λ i. find-push network_id_of row (id_text engine.next) i refl engine.networks no_network;
+        volumes = λ n. refl;
+        images = λ n. refl;
+      },
+    )
 
 may_connect : (engine : Engine) (network container : List ℕ) (aliases : List (List ℕ)) → May engine (Request.Connect network container aliases) (connected engine network container)
 may_connect engine network container aliases =
     let may : Reply × Engine → Type 0 = May engine (Request.Connect network container aliases) in
     let act : ContainerRow → Reply × Engine = λ row.
-        if is_on network row then (forbidden, engine) else (Reply.Done, with_container engine container (joined_row network)) in
+    if is_on network row then (forbidden, engine) else (Reply.Done, with_container engine container (joined_row network)) in
     cond_both (is_none (network_at engine network)) (not_found, engine) (option_map_or act (container_at engine container) (not_found, engine)) may
-        (λ _. refl)
-        (λ there. option_both may act (not_found, engine) (container_at engine container)
-            (λ _. refl)
-            (λ row was. cond_both (is_on network row) (forbidden, engine) (Reply.Done, with_container engine container (joined_row network)) may
-                (λ _. refl)
-                (λ apart. record {
-                  row = row;
-                  was = was;
-                  network_there = not-false (is_some (network_at engine network)) there;
-                  apart = apart;
-                  networks = row.networks ++ network ∷ [];
-                  joined = λ i. any-push (bytes_eq i) network row.networks;
-                  changes = changes_container engine container (joined_row network) (λ _. refl) row was;
-                })))
+    (λ _. refl)
+    (λ there. option_both may act (not_found, engine) (container_at engine container)
+    (λ _. refl)
+    (λ row was. cond_both (is_on network row) (forbidden, engine) (Reply.Done, with_container engine container (joined_row network)) may
+    (λ _. refl)
+    (λ apart. record {
+      row = row;
+      was = was;
+      network_there = not-false (is_some (network_at engine network)) there;
+      apart = apart;
+      networks = row.networks ++ network ∷ [];
+      joined = λ i. any-push (bytes_eq i) network row.networks;
+      changes = changes_container engine container (joined_row network) (λ _. refl) row was;
+    })))
 
 may_remove_network : (engine : Engine) (id : List ℕ) → May engine (Request.RemoveNetwork id) (network_removed engine id)
 may_remove_network engine id =
     let may : Reply × Engine → Type 0 = May engine (Request.RemoveNetwork id) in
     cond_both (is_none (network_at engine id)) (not_found, engine) (if network_in_use engine id then (forbidden, engine) else (Reply.Done, without_network engine id)) may
-        (λ _. refl)
-        (λ there. cond_both (network_in_use engine id) (forbidden, engine) (Reply.Done, without_network engine id) may
-            (λ _. refl)
-            (λ unused. (not-false (is_some (network_at engine id)) there, unused, record {
-              containers = λ i. refl;
-              networks = λ i. find-filter network_id_of id i engine.networks;
-              volumes = λ n. refl;
-              images = λ n. refl;
-            })))
+    (λ _. refl)
+    (λ there. cond_both (network_in_use engine id) (forbidden, engine) (Reply.Done, without_network engine id) may
+    (λ _. refl)
+    (λ unused. (
+      not-false (is_some (network_at engine id)) there,
+      unused,
+      record {
+        containers = λ i. refl;
+        networks = λ i. find-filter network_id_of id i engine.networks;
+        volumes = λ n. refl;
+        images = λ n. refl;
+      },
+    )))
 
 -- ---- volumes and images
 
 volume_put : (engine : Engine) (name n : List ℕ) → has_volume (with_volume engine name) n ≡ (if bytes_eq name n then true else has_volume engine n)
 volume_put engine name n = by_cases (has_volume engine name)
     (λ there. rw there (by_cases (bytes_eq name n)
-        (λ e. rw e (sym (any-alike name n engine.volumes e) ∙ there))
-        (λ e. rw e refl)))
+    (λ e. rw e (sym (any-alike name n engine.volumes e) ∙ there))
+    (λ e. rw e refl)))
     (λ absent. rw absent (any-push (bytes_eq n) name engine.volumes
-        ∙ ap (λ b. b || has_volume engine n) (bytes_eq_flips n name)
-        ∙ by_cases (bytes_eq name n) (λ e. rw e refl) (λ e. rw e refl)))
+    ∙ ap (λ b. b || has_volume engine n) (bytes_eq_flips n name)
+    ∙ by_cases (bytes_eq name n) (λ e. rw e refl) (λ e. rw e refl)))
 
 may_make_volume : (engine : Engine) (name : List ℕ) → ChangesVolume engine (with_volume engine name) name true
 may_make_volume engine name = record {
@@ -206,21 +212,25 @@ may_remove_volume : (engine : Engine) (name : List ℕ) → May engine (Request.
 may_remove_volume engine name =
     let may : Reply × Engine → Type 0 = May engine (Request.RemoveVolume name) in
     cond_both (not (has_volume engine name)) (not_found, engine) (if volume_in_use engine name then (conflict, engine) else (Reply.Done, without_volume engine name)) may
-        (λ _. refl)
-        (λ there. cond_both (volume_in_use engine name) (conflict, engine) (Reply.Done, without_volume engine name) may
-            (λ _. refl)
-            (λ unused. (not-false (has_volume engine name) there, unused, record {
-              containers = λ i. refl;
-              networks = λ i. refl;
-              volumes = λ n. any-filter name n engine.volumes;
-              images = λ n. refl;
-            })))
+    (λ _. refl)
+    (λ there. cond_both (volume_in_use engine name) (conflict, engine) (Reply.Done, without_volume engine name) may
+    (λ _. refl)
+    (λ unused. (
+      not-false (has_volume engine name) there,
+      unused,
+      record {
+        containers = λ i. refl;
+        networks = λ i. refl;
+        volumes = λ n. any-filter name n engine.volumes;
+        images = λ n. refl;
+      },
+    )))
 
 may_tell_image : (engine : Engine) (name : List ℕ) → May engine (Request.Image name) (image_told engine name)
 may_tell_image engine name =
     option_both (May engine (Request.Image name)) (λ id. (Reply.ImageId id, engine)) (not_found, engine) (image_at engine name)
-        (λ _. refl)
-        (λ id is. (is, refl))
+    (λ _. refl)
+    (λ id is. (is, refl))
 
 image_put : (name id n : List ℕ) (rows : List ImageRow)
     → option_map (λ row. row.id) (find (λ row. bytes_eq row.name n) (with_image rows name id))
@@ -229,23 +239,26 @@ image_put name id n [] = by_cases (bytes_eq name n) (λ e. rw e refl) (λ e. rw 
 image_put name id n (row ∷ rows) =
     let rest = image_put name id n rows in
     by_cases (bytes_eq row.name name)
-        (λ here. let alike = bytes_eq_alike row.name name n here in
-            rw (here, alike) (by_cases (bytes_eq name n) (λ e. rw e refl) (λ e. rw e refl)))
-        (λ apart. by_cases (bytes_eq row.name n)
-            (λ there. let other = bytes_eq_apart row.name name n apart there in rw (apart, there, other) refl)
-            (λ away. rw (apart, away, rest) refl))
+    (λ here. let alike = bytes_eq_alike row.name name n here in
+    rw (here, alike) (by_cases (bytes_eq name n) (λ e. rw e refl) (λ e. rw e refl)))
+    (λ apart. by_cases (bytes_eq row.name n)
+    (λ there. let other = bytes_eq_apart row.name name n apart there in rw (apart, there, other) refl)
+    (λ away. rw (apart, away, rest) refl))
 
 may_pull : (catalogue : Catalogue) (engine : Engine) (name : List ℕ) → May engine (Request.Pull name) (pulled catalogue engine name)
 may_pull catalogue engine name =
     cond_both (can_be_pulled catalogue name) (Reply.Pulled, record engine { images = with_image engine.images name (image_id_text name) }) (not_found, engine)
-        (May engine (Request.Pull name))
-        (λ _. (image_id_text name, record {
-          containers = λ i. refl;
-          networks = λ i. refl;
-          volumes = λ n. refl;
-          images = λ n. image_put name (image_id_text name) n engine.images;
-        }))
-        (λ _. refl)
+    (May engine (Request.Pull name))
+    (λ _. (
+      image_id_text name,
+      record {
+        containers = λ i. refl;
+        networks = λ i. refl;
+        volumes = λ n. refl;
+        images = λ n. image_put name (image_id_text name) n engine.images;
+      },
+    ))
+    (λ _. refl)
 
 -- every request is answered as an Engine may
 pub served_answers : (catalogue : Catalogue) (engine : Engine) (request : Request) → engine.next < 2 ^ 64 → IsKept engine

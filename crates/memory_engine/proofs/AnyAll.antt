@@ -54,8 +54,8 @@ module _ {X : Type 0} where
   all-with_first p q f kept (x ∷ xs) all =
       let parts = and_parts (p x) (list_all p xs) all in
       by_cases (q x)
-          (λ e. rw e (and_from (p (f x)) (list_all p xs) (kept x parts.0) parts.1))
-          (λ e. rw e (and_from (p x) (list_all p (with_first q f xs)) parts.0 (all-with_first p q f kept xs parts.1)))
+      (λ e. rw e (and_from (p (f x)) (list_all p xs) (kept x parts.0) parts.1))
+      (λ e. rw e (and_from (p x) (list_all p (with_first q f xs)) parts.0 (all-with_first p q f kept xs parts.1)))
 
   pub any-push : (p : X → Bool) (y : X) (xs : List X) → list_any p (xs ++ y ∷ []) ≡ (p y || list_any p xs)
   any-push p y [] = refl
@@ -112,8 +112,8 @@ module _ {X : Type 0} where
   among-filter p (y ∷ ys) x h passes = by_cases (p y)
       (λ e. rw e (⊎_elim (λ same. inl same) (λ later. inr (among-filter p ys x later passes)) h))
       (λ e. rw e (⊎_elim
-          (λ same. let clash : true ≡ false = sym passes ∙ ap p same ∙ e in cc)
-          (λ later. among-filter p ys x later passes) h))
+      (λ same. let clash : true ≡ false = sym passes ∙ ap p same ∙ e in cc)
+      (λ later. among-filter p ys x later passes) h))
 
   -- an item of a mapped filter comes from an item that passes
   pub among-mapped : {Y : Type 0} (f : X → Y) (p : X → Bool) (xs : List X) (y : Y) → Among (map f (filter p xs)) y
@@ -121,9 +121,9 @@ module _ {X : Type 0} where
   among-mapped f p [] y h = absurd h
   among-mapped f p (x ∷ xs) y h = by_cases (p x)
       (λ e. ⊎_elim
-          (λ same. (x, inl refl, e, same))
-          (λ later. let r = among-mapped f p xs y later in (r.0, inr r.1, r.2, r.3))
-          (rw e at h))
+      (λ same. (x, inl refl, e, same))
+      (λ later. let r = among-mapped f p xs y later in (r.0, inr r.1, r.2, r.3))
+      (rw e at h))
       (λ e. let r = among-mapped f p xs y (rw e at h) in (r.0, inr r.1, r.2, r.3))
 
 -- equal texts are among the same texts
@@ -137,9 +137,9 @@ any-filter name n [] = by_cases (bytes_eq name n) (λ e. rw e refl) (λ e. rw e 
 any-filter name n (x ∷ xs) =
     let rest = any-filter name n xs in
     by_cases (bytes_eq name x)
-        (λ here. rw (here, rest) (by_cases (bytes_eq name n)
-            (λ e. rw e refl)
-            (λ e. let apart : bytes_eq n x ≡ false = bytes_eq_flips n x ∙ sym (bytes_eq_alike name x n here) ∙ e in rw (e, apart) refl)))
-        (λ away. rw (away, rest) (by_cases (bytes_eq name n)
-            (λ e. let apart : bytes_eq n x ≡ false = sym (bytes_eq_alike name n x e) ∙ away in rw (e, apart) refl)
-            (λ e. rw e refl)))
+    (λ here. rw (here, rest) (by_cases (bytes_eq name n)
+    (λ e. rw e refl)
+    (λ e. let apart : bytes_eq n x ≡ false = bytes_eq_flips n x ∙ sym (bytes_eq_alike name x n here) ∙ e in rw (e, apart) refl)))
+    (λ away. rw (away, rest) (by_cases (bytes_eq name n)
+    (λ e. let apart : bytes_eq n x ≡ false = sym (bytes_eq_alike name n x e) ∙ away in rw (e, apart) refl)
+    (λ e. rw e refl)))

@@ -33,8 +33,8 @@ module _ {X : Type 0} (key : X → List ℕ) where
       let first = IsDistinct-head bytes_eq (key x) (map key xs) distinct in
       let later = distinct-filter q xs (IsDistinct-tail bytes_eq (key x) (map key xs) distinct) in
       by_cases (q x)
-          (λ e. rw e (IsDistinct-cons bytes_eq (key x) (map key (filter q xs)) (AllByRecursion-filter (λ y. bytes_eq (key x) y ≡ false) q xs first) later))
-          (λ e. rw e later)
+      (λ e. rw e (IsDistinct-cons bytes_eq (key x) (map key (filter q xs)) (AllByRecursion-filter (λ y. bytes_eq (key x) y ≡ false) q xs first) later))
+      (λ e. rw e later)
 
   -- one more key, which none has
   pub distinct-push : (y : X) (xs : List X) → IsDistinct bytes_eq (map key xs) → list_any (λ x. bytes_eq (key y) (key x)) xs ≡ false
@@ -55,9 +55,9 @@ module _ {X : Type 0} (key : X → List ℕ) where
       let first = IsDistinct-head bytes_eq (key y) (map key ys) distinct in
       let rest = IsDistinct-tail bytes_eq (key y) (map key ys) distinct in
       ⊎_elim
-          (λ same. rw same (rw (bytes_eq_itself (key y)) refl))
-          (λ later. let apart = AllByRecursion-among (λ z. bytes_eq (key y) z ≡ false) ys x first later in
-              rw apart (find-among ys x rest later)) h
+      (λ same. rw same (rw (bytes_eq_itself (key y)) refl))
+      (λ later. let apart = AllByRecursion-among (λ z. bytes_eq (key y) z ≡ false) ys x first later in
+      rw apart (find-among ys x rest later)) h
 
 -- names stay apart where one of them gets an id
 AllByRecursion-with_image : (P : List ℕ → Type 0) (name id : List ℕ) (rows : List ImageRow) → P name
@@ -75,11 +75,11 @@ distinct-with_image name id (row ∷ rows) distinct =
     let first = IsDistinct-head bytes_eq row.name names distinct in
     let rest = IsDistinct-tail bytes_eq row.name names distinct in
     by_cases (bytes_eq row.name name)
-        (λ e. let same = same_text row.name name e in
-            rw e (IsDistinct-cons bytes_eq name names (subst (λ n. AllByRecursion (λ y. bytes_eq n y ≡ false) names) same first) rest))
-        (λ e. rw e (IsDistinct-cons bytes_eq row.name (map (λ r. r.name) (with_image rows name id))
-            (AllByRecursion-with_image (λ y. bytes_eq row.name y ≡ false) name id rows e first)
-            (distinct-with_image name id rows rest)))
+    (λ e. let same = same_text row.name name e in
+    rw e (IsDistinct-cons bytes_eq name names (subst (λ n. AllByRecursion (λ y. bytes_eq n y ≡ false) names) same first) rest))
+    (λ e. rw e (IsDistinct-cons bytes_eq row.name (map (λ r. r.name) (with_image rows name id))
+    (AllByRecursion-with_image (λ y. bytes_eq row.name y ≡ false) name id rows e first)
+    (distinct-with_image name id rows rest)))
 
 -- texts that differ, where some are taken out or one is added
 pub distinct-texts_filter : (q : List ℕ → Bool) (texts : List (List ℕ)) → IsDistinct bytes_eq texts → IsDistinct bytes_eq (filter q texts)

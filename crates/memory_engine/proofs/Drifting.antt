@@ -39,18 +39,18 @@ by_id : (p : ContainerRow → Bool) (f : ContainerRow → ContainerRow) (rows : 
 by_id p f [] row distinct found = refl
 by_id p f (first ∷ rows) row distinct found = by_cases (p first)
     (λ e. let one : Some first ≡ Some row = rw e at found in let same : row ≡ first = cc in
-        let itself : bytes_eq first.id row.id ≡ true = rw same (bytes_eq_itself first.id) in
-        rw (e, itself) refl)
+    let itself : bytes_eq first.id row.id ≡ true = rw same (bytes_eq_itself first.id) in
+    rw (e, itself) refl)
     (λ e. let later : find p rows ≡ Some row = rw e at found in
-        let among = (among-find p rows row later).0 in
-        let rest = IsDistinct-tail bytes_eq first.id (map id_of rows) distinct in
-        let there = find-among id_of rows row rest among in
-        by_cases (bytes_eq first.id row.id)
-            (λ same. let here : Some first ≡ Some row = sym (rw same refl) ∙ find-among id_of (first ∷ rows) row distinct (inr among) in
-                let is : first ≡ row = cc in
-                let clash : false ≡ true = sym e ∙ ap p is ∙ (among-find p rows row later).1 in
-                cc)
-            (λ apart. rw (e, apart) (ap (λ rs. first ∷ rs) (by_id p f rows row rest later))))
+    let among = (among-find p rows row later).0 in
+    let rest = IsDistinct-tail bytes_eq first.id (map id_of rows) distinct in
+    let there = find-among id_of rows row rest among in
+    by_cases (bytes_eq first.id row.id)
+    (λ same. let here : Some first ≡ Some row = sym (rw same refl) ∙ find-among id_of (first ∷ rows) row distinct (inr among) in
+    let is : first ≡ row = cc in
+    let clash : false ≡ true = sym e ∙ ap p is ∙ (among-find p rows row later).1 in
+    cc)
+    (λ apart. rw (e, apart) (ap (λ rs. first ∷ rs) (by_id p f rows row rest later))))
 
 running : (state : ContainerState) → is_running state ≡ true → state ≡ ContainerState.Running
 running ContainerState.Running runs = refl
@@ -70,9 +70,11 @@ turns_into (Change.Health now) report runs = inr (running report.state runs, ref
 
 drifts_by : (engine : Engine) (tick : Tick) → IsKept engine → (found : Option ContainerRow)
     → find (λ row. bytes_eq tick.container row.name) engine.containers ≡ found → Drifts engine (ticked_by engine tick)
-drifts_by engine tick kept None missed =
-    (0, ap (λ (rows : List ContainerRow). record engine { containers = rows })
-        (with_first-missed (λ (row : ContainerRow). bytes_eq tick.container row.name) (changed_row tick.change) engine.containers missed))
+drifts_by engine tick kept None missed = (
+  0,
+  ap (λ (rows : List ContainerRow). record engine { containers = rows })
+      (with_first-missed (λ (row : ContainerRow). bytes_eq tick.container row.name) (changed_row tick.change) engine.containers missed),
+)
 drifts_by engine tick kept (Some row) found =
     let named = λ (r : ContainerRow). bytes_eq tick.container r.name in
     let change = changed_row tick.change in
@@ -80,24 +82,30 @@ drifts_by engine tick kept (Some row) found =
     let with_rows = λ (rows : List ContainerRow). record engine { containers = rows } in
     let same_id = same_by (λ r. r.id) tick.change (λ _ _. refl) in
     by_cases (is_running row.report.state)
-        (λ runs.
-            let among = (among-find named engine.containers row found).0 in
-            let was = find-among id_of engine.containers row kept.sound.container_ids among in
-            let changed : changed_row tick.change row ≡ record row { report = report } = rw runs in
-            let one = ap with_rows (sym (by_id named change engine.containers row kept.sound.container_ids found)) in
-            (1, (engine, refl, record {
-              id = row.id;
-              row = row;
-              report = report;
-              was = was;
-              turns = turns_into tick.change row.report runs;
-              changes = subst (λ (new : Engine). ChangesContainer engine new row.id (Some (record row { report = report }))) one
-                  (subst (λ (now : ContainerRow). ChangesContainer engine (with_container engine row.id change) row.id (Some now)) changed
-                      (changes_container engine row.id change same_id row was));
-            })))
-        (λ rests.
-            let same : changed_row tick.change row ≡ row = rw rests in
-            (0, ap with_rows (with_first-same named change row engine.containers found same)))
+    (λ runs.
+    let among = (among-find named engine.containers row found).0 in
+    let was = find-among id_of engine.containers row kept.sound.container_ids among in
+    let changed : changed_row tick.change row ≡ record row { report = report } = rw runs in
+    let one = ap with_rows (sym (by_id named change engine.containers row kept.sound.container_ids found)) in (
+      1,
+      (
+        engine,
+        refl,
+        record {
+          id = row.id;
+          row = row;
+          report = report;
+          was = was;
+          turns = turns_into tick.change row.report runs;
+          changes = subst (λ (new : Engine). ChangesContainer engine new row.id (Some (record row { report = report }))) one
+              (subst (λ (now : ContainerRow). ChangesContainer engine (with_container engine row.id change) row.id (Some now)) changed
+              (changes_container engine row.id change same_id row was));
+        },
+      ),
+    ))
+    (λ rests.
+    let same : changed_row tick.change row ≡ row = rw rests in
+    (0, ap with_rows (with_first-same named change row engine.containers found same)))
 
 pub ticked_drifts : (engine : Engine) (script : List Tick) → IsKept engine → Drifts engine (ticked engine script)
 ticked_drifts engine [] kept = (0, refl)
@@ -107,7 +115,7 @@ pub ticked_keeps : (engine : Engine) (script : List Tick) → IsKept engine → 
 ticked_keeps engine [] kept = kept
 ticked_keeps engine (tick ∷ script) kept =
     keeps_changed engine (λ row. bytes_eq tick.container row.name) (changed_row tick.change)
-        (same_by (λ row. row.id) tick.change (λ _ _. refl))
-        (same_by (λ row. row.name) tick.change (λ _ _. refl))
-        (λ row there. ap (λ networks. list_all (λ i. is_some (network_at engine i)) networks) (same_by (λ r. r.networks) tick.change (λ _ _. refl) row) ∙ there)
-        kept
+    (same_by (λ row. row.id) tick.change (λ _ _. refl))
+    (same_by (λ row. row.name) tick.change (λ _ _. refl))
+    (λ row there. ap (λ networks. list_all (λ i. is_some (network_at engine i)) networks) (same_by (λ r. r.networks) tick.change (λ _ _. refl) row) ∙ there)
+    kept

@@ -52,7 +52,7 @@ missed-filter p q [] missed = refl
 missed-filter p q (x ∷ xs) missed = by_cases (p x)
     (λ e. let clash : Some x ≡ None = rw e at missed in cc)
     (λ e. let later = missed-filter p q xs (rw e at missed) in
-        by_cases (q x) (λ f. rw (f, e) later) (λ f. rw f later))
+    by_cases (q x) (λ f. rw (f, e) later) (λ f. rw f later))
 
 -- nor has one in which a row is changed
 missed-with_first : {X : Type 0} (p q : X → Bool) (f : X → X) → ((x : X) → p (f x) ≡ p x) → (xs : List X) → find p xs ≡ None → find p (with_first q f xs) ≡ None
@@ -60,7 +60,7 @@ missed-with_first p q f keeps [] missed = refl
 missed-with_first p q f keeps (x ∷ xs) missed = by_cases (p x)
     (λ e. let clash : Some x ≡ None = rw e at missed in cc)
     (λ e. let rest : find p xs ≡ None = rw e at missed in
-        by_cases (q x) (λ g. rw (g, keeps x, e) rest) (λ g. rw (g, e) (missed-with_first p q f keeps xs rest)))
+    by_cases (q x) (λ g. rw (g, keeps x, e) rest) (λ g. rw (g, e) (missed-with_first p q f keeps xs rest)))
 
 -- ---- an Engine that holds nothing
 
@@ -97,27 +97,27 @@ keeps_changed engine p f same_id same_name there kept = record {
   numbered = λ n above short.
       let free = kept.numbered n above short in
       free_from (record engine { containers = with_first p f engine.containers }) (id_text n)
-          (missed-with_first (λ row. bytes_eq row.id (id_text n)) p f (λ row. ap (λ id. bytes_eq id (id_text n)) (same_id row)) engine.containers (free_container engine (id_text n) free))
-          (free_network engine (id_text n) free);
+      (missed-with_first (λ row. bytes_eq row.id (id_text n)) p f (λ row. ap (λ id. bytes_eq id (id_text n)) (same_id row)) engine.containers (free_container engine (id_text n) free))
+      (free_network engine (id_text n) free);
 }
 
 pub keeps_removed : (engine : Engine) (id : List ℕ) → IsKept engine → IsKept (without_container engine id)
 keeps_removed engine id kept =
     let others = λ (row : ContainerRow). not (bytes_eq row.id id) in record {
-  sound = record {
-    container_ids = distinct-filter id_of others engine.containers kept.sound.container_ids;
-    container_names = distinct-filter name_of others engine.containers kept.sound.container_names;
-    network_ids = kept.sound.network_ids;
-    volume_names = kept.sound.volume_names;
-    image_names = kept.sound.image_names;
-    attached = all-filter (is_attached engine) others engine.containers kept.sound.attached;
-  };
-  numbered = λ n above short.
-      let free = kept.numbered n above short in
-      free_from (without_container engine id) (id_text n)
+      sound = record {
+        container_ids = distinct-filter id_of others engine.containers kept.sound.container_ids;
+        container_names = distinct-filter name_of others engine.containers kept.sound.container_names;
+        network_ids = kept.sound.network_ids;
+        volume_names = kept.sound.volume_names;
+        image_names = kept.sound.image_names;
+        attached = all-filter (is_attached engine) others engine.containers kept.sound.attached;
+      };
+      numbered = λ n above short.
+          let free = kept.numbered n above short in
+          free_from (without_container engine id) (id_text n)
           (missed-filter (λ row. bytes_eq row.id (id_text n)) others engine.containers (free_container engine (id_text n) free))
           (free_network engine (id_text n) free);
-}
+    }
 
 -- the next id is neither a container's nor a network's
 pub next_is_free : (engine : Engine) → engine.next < 2 ^ 64 → IsKept engine → is_free engine (id_text engine.next) ≡ true
@@ -137,14 +137,15 @@ networks_are_there engine sound [] = refl
 networks_are_there engine sound (endpoint ∷ endpoints) =
     let rest = networks_are_there engine sound endpoints in
     let by : (o : Option NetRow) → find (λ row. bytes_eq endpoint.key row.name) engine.networks ≡ o
-            → list_all (λ id. is_some (network_at engine id)) (cons_option (option_map network_id_of o) (filter_map (λ e. network_named engine e.key) endpoints)) ≡ true
-        = λ o. elim o as (λ o. find (λ row. bytes_eq endpoint.key row.name) engine.networks ≡ o
-            → list_all (λ id. is_some (network_at engine id)) (cons_option (option_map network_id_of o) (filter_map (λ e. network_named engine e.key) endpoints)) ≡ true) [
-          None ↦ λ missed. rest
-        | Some row ↦ λ found.
-            let among = (among-find (λ (r : NetRow). bytes_eq endpoint.key r.name) engine.networks row found).0 in
-            let there = find-among network_id_of engine.networks row sound.network_ids among in
-            and_from (is_some (network_at engine row.id)) (list_all (λ id. is_some (network_at engine id)) (filter_map (λ e. network_named engine e.key) endpoints)) (rw there refl) rest ]
+    → list_all (λ id. is_some (network_at engine id)) (cons_option (option_map network_id_of o) (filter_map (λ e. network_named engine e.key) endpoints)) ≡ true
+    = λ o. elim o as (λ o. find (λ row. bytes_eq endpoint.key row.name) engine.networks ≡ o
+    → list_all (λ id. is_some (network_at engine id)) (cons_option (option_map network_id_of o) (filter_map (λ e. network_named engine e.key) endpoints)) ≡ true) [
+      | None ↦ λ missed. rest
+      | Some row ↦ λ found.
+          let among = (among-find (λ (r : NetRow). bytes_eq endpoint.key r.name) engine.networks row found).0 in
+          let there = find-among network_id_of engine.networks row sound.network_ids among in
+          and_from (is_some (network_at engine row.id)) (list_all (λ id. is_some (network_at engine id)) (filter_map (λ e. network_named engine e.key) endpoints)) (rw there refl) rest
+    ]
     in by (find (λ row. bytes_eq endpoint.key row.name) engine.networks) refl
 
 pub keeps_created : (engine : Engine) (name : List ℕ) (spec : ContainerSpec) (image : List ℕ) → engine.next < 2 ^ 64
@@ -153,21 +154,21 @@ keeps_created engine name spec image fits free_name kept =
     let row = created_row (id_text engine.next) name spec image (networks_for engine spec) in
     let free = next_is_free engine fits kept in
     let no_container = free_container engine (id_text engine.next) free in record {
-  sound = record {
-    container_ids = distinct-push id_of row engine.containers kept.sound.container_ids (id_apart id_of (id_text engine.next) engine.containers no_container);
-    container_names = distinct-push name_of row engine.containers kept.sound.container_names free_name;
-    network_ids = kept.sound.network_ids;
-    volume_names = kept.sound.volume_names;
-    image_names = kept.sound.image_names;
-    attached = all-push (is_attached engine) row (networks_are_there engine kept.sound (endpoints_of spec)) engine.containers kept.sound.attached;
-  };
-  numbered = λ n above short.
-      let later = kept.numbered n (omega arith) short in
-      let apart = id_text-apart engine.next n (omega arith) short in
-      free_from (with_created engine name spec image) (id_text n)
+      sound = record {
+        container_ids = distinct-push id_of row engine.containers kept.sound.container_ids (id_apart id_of (id_text engine.next) engine.containers no_container);
+        container_names = distinct-push name_of row engine.containers kept.sound.container_names free_name;
+        network_ids = kept.sound.network_ids;
+        volume_names = kept.sound.volume_names;
+        image_names = kept.sound.image_names;
+        attached = all-push (is_attached engine) row (networks_are_there engine kept.sound (endpoints_of spec)) engine.containers kept.sound.attached;
+      };
+      numbered = λ n above short.
+          let later = kept.numbered n (omega arith) short in
+          let apart = id_text-apart engine.next n (omega arith) short in
+          free_from (with_created engine name spec image) (id_text n)
           (find-push id_of row (id_text engine.next) (id_text n) refl engine.containers no_container ∙ rw apart (free_container engine (id_text n) later))
           (free_network engine (id_text n) later);
-}
+    }
 
 -- ---- networks
 
@@ -178,49 +179,49 @@ keeps_made engine spec fits kept =
     let no_network = free_network engine (id_text engine.next) free in
     let at_push = λ (i : List ℕ). find-push network_id_of row (id_text engine.next) i refl engine.networks no_network in
     let there : (i : List ℕ) → is_some (network_at engine i) ≡ true → is_some (network_at (with_network engine spec) i) ≡ true
-        = λ i was. rw (at_push i) (by_cases (bytes_eq (id_text engine.next) i) (λ e. rw e refl) (λ e. rw e was)) in record {
-  sound = record {
-    container_ids = kept.sound.container_ids;
-    container_names = kept.sound.container_names;
-    network_ids = distinct-push network_id_of row engine.networks kept.sound.network_ids (id_apart network_id_of (id_text engine.next) engine.networks no_network);
-    volume_names = kept.sound.volume_names;
-    image_names = kept.sound.image_names;
-    attached = all-weaker (is_attached engine) (is_attached (with_network engine spec))
-        (λ r all. all-weaker (λ i. is_some (network_at engine i)) (λ i. is_some (network_at (with_network engine spec) i)) there r.networks all)
-        engine.containers kept.sound.attached;
-  };
-  numbered = λ n above short.
-      let later = kept.numbered n (omega arith) short in
-      let apart = id_text-apart engine.next n (omega arith) short in
-      free_from (with_network engine spec) (id_text n)
+    = λ i was. rw (at_push i) (by_cases (bytes_eq (id_text engine.next) i) (λ e. rw e refl) (λ e. rw e was)) in record {
+      sound = record {
+        container_ids = kept.sound.container_ids;
+        container_names = kept.sound.container_names;
+        network_ids = distinct-push network_id_of row engine.networks kept.sound.network_ids (id_apart network_id_of (id_text engine.next) engine.networks no_network);
+        volume_names = kept.sound.volume_names;
+        image_names = kept.sound.image_names;
+        attached = all-weaker (is_attached engine) (is_attached (with_network engine spec))
+            (λ r all. all-weaker (λ i. is_some (network_at engine i)) (λ i. is_some (network_at (with_network engine spec) i)) there r.networks all)
+            engine.containers kept.sound.attached;
+      };
+      numbered = λ n above short.
+          let later = kept.numbered n (omega arith) short in
+          let apart = id_text-apart engine.next n (omega arith) short in
+          free_from (with_network engine spec) (id_text n)
           (free_container engine (id_text n) later)
           (at_push (id_text n) ∙ rw apart (free_network engine (id_text n) later));
-}
+    }
 
 pub keeps_network_removed : (engine : Engine) (id : List ℕ) → network_in_use engine id ≡ false → IsKept engine → IsKept (without_network engine id)
 keeps_network_removed engine id unused kept =
     let others = λ (row : NetRow). not (bytes_eq row.id id) in
     let there : (i : List ℕ) → bytes_eq id i ≡ false → is_some (network_at engine i) ≡ true → is_some (network_at (without_network engine id) i) ≡ true
-        = λ i apart was. rw (find-filter network_id_of id i engine.networks) (rw apart was) in record {
-  sound = record {
-    container_ids = kept.sound.container_ids;
-    container_names = kept.sound.container_names;
-    network_ids = distinct-filter network_id_of others engine.networks kept.sound.network_ids;
-    volume_names = kept.sound.volume_names;
-    image_names = kept.sound.image_names;
-    attached = all-from_among (is_attached (without_network engine id)) engine.containers (λ row among.
-        let off = any-among (is_on id) engine.containers row unused among in
-        let on = all-among (is_attached engine) engine.containers row kept.sound.attached among in
-        all-from_among (λ i. is_some (network_at (without_network engine id) i)) row.networks (λ i named.
+    = λ i apart was. rw (find-filter network_id_of id i engine.networks) (rw apart was) in record {
+      sound = record {
+        container_ids = kept.sound.container_ids;
+        container_names = kept.sound.container_names;
+        network_ids = distinct-filter network_id_of others engine.networks kept.sound.network_ids;
+        volume_names = kept.sound.volume_names;
+        image_names = kept.sound.image_names;
+        attached = all-from_among (is_attached (without_network engine id)) engine.containers (λ row among.
+            let off = any-among (is_on id) engine.containers row unused among in
+            let on = all-among (is_attached engine) engine.containers row kept.sound.attached among in
+            all-from_among (λ i. is_some (network_at (without_network engine id) i)) row.networks (λ i named.
             there i (any-among (bytes_eq id) row.networks i off named)
-                (all-among (λ i. is_some (network_at engine i)) row.networks i on named)));
-  };
-  numbered = λ n above short.
-      let free = kept.numbered n above short in
-      free_from (without_network engine id) (id_text n)
+            (all-among (λ i. is_some (network_at engine i)) row.networks i on named)));
+      };
+      numbered = λ n above short.
+          let free = kept.numbered n above short in
+          free_from (without_network engine id) (id_text n)
           (free_container engine (id_text n) free)
           (missed-filter (λ row. bytes_eq row.id (id_text n)) others engine.networks (free_network engine (id_text n) free));
-}
+    }
 
 -- ---- volumes and images
 
@@ -240,15 +241,15 @@ keeps_volumes engine volumes distinct kept = record {
 pub keeps_volume_made : (engine : Engine) (name : List ℕ) → IsKept engine → IsKept (with_volume engine name)
 keeps_volume_made engine name kept =
     keeps_volumes engine (if has_volume engine name then engine.volumes else engine.volumes ++ name ∷ [])
-        (cond_both (has_volume engine name) engine.volumes (engine.volumes ++ name ∷ []) (λ volumes. IsDistinct bytes_eq volumes)
-            (λ _. kept.sound.volume_names)
-            (λ absent. distinct-texts_push name engine.volumes kept.sound.volume_names absent))
-        kept
+    (cond_both (has_volume engine name) engine.volumes (engine.volumes ++ name ∷ []) (λ volumes. IsDistinct bytes_eq volumes)
+    (λ _. kept.sound.volume_names)
+    (λ absent. distinct-texts_push name engine.volumes kept.sound.volume_names absent))
+    kept
 
 pub keeps_volume_removed : (engine : Engine) (name : List ℕ) → IsKept engine → IsKept (without_volume engine name)
 keeps_volume_removed engine name kept =
     keeps_volumes engine (filter (λ other. not (bytes_eq name other)) engine.volumes)
-        (distinct-texts_filter (λ other. not (bytes_eq name other)) engine.volumes kept.sound.volume_names) kept
+    (distinct-texts_filter (λ other. not (bytes_eq name other)) engine.volumes kept.sound.volume_names) kept
 
 pub keeps_pulled : (engine : Engine) (name id : List ℕ) → IsKept engine → IsKept (record engine { images = with_image engine.images name id })
 keeps_pulled engine name id kept = record {

@@ -29,38 +29,38 @@ keeps_with : (engine : Engine) (id : List ℕ) (f : ContainerRow → ContainerRo
     → IsKept engine → IsKept (with_container engine id f)
 keeps_with engine id f same_id same_name same_networks kept =
     keeps_changed engine (λ row. bytes_eq row.id id) f same_id same_name
-        (λ row there. ap (λ networks. list_all (λ i. is_some (network_at engine i)) networks) (same_networks row) ∙ there) kept
+    (λ row there. ap (λ networks. list_all (λ i. is_some (network_at engine i)) networks) (same_networks row) ∙ there) kept
 
 keeps_inspected : (engine : Engine) (id : List ℕ) → IsKept engine → Keeps (inspected engine id)
 keeps_inspected engine id kept = on_container_both Keeps engine id (λ row. (Reply.State row.report, engine)) kept (λ _ _. kept)
 
 keeps_started : (engine : Engine) (id : List ℕ) → IsKept engine → Keeps (started engine id)
 keeps_started engine id kept = on_container_both Keeps engine id (λ row.
-        if is_started row.report.state then (Reply.Already, engine)
-        else (if can_start row.report.state then (Reply.Done, with_container engine id started_row) else (conflict, engine)))
+    if is_started row.report.state then (Reply.Already, engine)
+    else (if can_start row.report.state then (Reply.Done, with_container engine id started_row) else (conflict, engine)))
     kept
     (λ row _. cond_both (is_started row.report.state) (Reply.Already, engine)
-        (if can_start row.report.state then (Reply.Done, with_container engine id started_row) else (conflict, engine)) Keeps
-        (λ _. kept)
-        (λ _. cond_both (can_start row.report.state) (Reply.Done, with_container engine id started_row) (conflict, engine) Keeps
-            (λ _. keeps_with engine id started_row (λ _. refl) (λ _. refl) (λ _. refl) kept)
-            (λ _. kept)))
+    (if can_start row.report.state then (Reply.Done, with_container engine id started_row) else (conflict, engine)) Keeps
+    (λ _. kept)
+    (λ _. cond_both (can_start row.report.state) (Reply.Done, with_container engine id started_row) (conflict, engine) Keeps
+    (λ _. keeps_with engine id started_row (λ _. refl) (λ _. refl) (λ _. refl) kept)
+    (λ _. kept)))
 
 keeps_stopped : (engine : Engine) (id : List ℕ) → IsKept engine → Keeps (stopped engine id)
 keeps_stopped engine id kept = on_container_both Keeps engine id (λ row.
-        if is_live row.report.state then (Reply.Done, with_container engine id stopped_row) else (Reply.Already, engine))
+    if is_live row.report.state then (Reply.Done, with_container engine id stopped_row) else (Reply.Already, engine))
     kept
     (λ row _. cond_both (is_live row.report.state) (Reply.Done, with_container engine id stopped_row) (Reply.Already, engine) Keeps
-        (λ _. keeps_with engine id stopped_row (λ _. refl) (λ _. refl) (λ _. refl) kept)
-        (λ _. kept))
+    (λ _. keeps_with engine id stopped_row (λ _. refl) (λ _. refl) (λ _. refl) kept)
+    (λ _. kept))
 
 keeps_taken : (engine : Engine) (id : List ℕ) → IsKept engine → Keeps (removed engine id)
 keeps_taken engine id kept = on_container_both Keeps engine id (λ row.
-        if is_live row.report.state then (conflict, engine) else (Reply.Done, without_container engine id))
+    if is_live row.report.state then (conflict, engine) else (Reply.Done, without_container engine id))
     kept
     (λ row _. cond_both (is_live row.report.state) (conflict, engine) (Reply.Done, without_container engine id) Keeps
-        (λ _. kept)
-        (λ _. keeps_removed engine id kept))
+    (λ _. kept)
+    (λ _. keeps_removed engine id kept))
 
 keeps_create : (engine : Engine) (name : List ℕ) (spec : ContainerSpec) → engine.next < 2 ^ 64 → IsKept engine → Keeps (created engine name spec)
 keeps_create engine name spec fits kept =
@@ -68,40 +68,40 @@ keeps_create engine name spec fits kept =
     let made : Reply × Engine = (Reply.Made (id_text engine.next), with_created engine name spec image) in
     let lacks = is_none (image_for engine spec) || lacks_network engine spec in
     cond_both (has_container_named engine name) (conflict, engine) (if lacks then (not_found, engine) else made) Keeps
-        (λ _. kept)
-        (λ name_free. cond_both lacks (not_found, engine) made Keeps
-            (λ _. kept)
-            (λ _. keeps_created engine name spec image fits name_free kept))
+    (λ _. kept)
+    (λ name_free. cond_both lacks (not_found, engine) made Keeps
+    (λ _. kept)
+    (λ _. keeps_created engine name spec image fits name_free kept))
 
 keeps_connected : (engine : Engine) (network container : List ℕ) → IsKept engine → Keeps (connected engine network container)
 keeps_connected engine network container kept =
     let act : ContainerRow → Reply × Engine = λ row.
-        if is_on network row then (forbidden, engine) else (Reply.Done, with_container engine container (joined_row network)) in
+    if is_on network row then (forbidden, engine) else (Reply.Done, with_container engine container (joined_row network)) in
     cond_both (is_none (network_at engine network)) (not_found, engine) (option_map_or act (container_at engine container) (not_found, engine)) Keeps
-        (λ _. kept)
-        (λ there. option_both Keeps act (not_found, engine) (container_at engine container)
-            (λ _. kept)
-            (λ row _. cond_both (is_on network row) (forbidden, engine) (Reply.Done, with_container engine container (joined_row network)) Keeps
-                (λ _. kept)
-                (λ _. keeps_changed engine (λ r. bytes_eq r.id container) (joined_row network) (λ _. refl) (λ _. refl)
-                    (λ r attached. all-push (λ i. is_some (network_at engine i)) network (not-false (is_some (network_at engine network)) there) r.networks attached)
-                    kept)))
+    (λ _. kept)
+    (λ there. option_both Keeps act (not_found, engine) (container_at engine container)
+    (λ _. kept)
+    (λ row _. cond_both (is_on network row) (forbidden, engine) (Reply.Done, with_container engine container (joined_row network)) Keeps
+    (λ _. kept)
+    (λ _. keeps_changed engine (λ r. bytes_eq r.id container) (joined_row network) (λ _. refl) (λ _. refl)
+    (λ r attached. all-push (λ i. is_some (network_at engine i)) network (not-false (is_some (network_at engine network)) there) r.networks attached)
+    kept)))
 
 keeps_network_taken : (engine : Engine) (id : List ℕ) → IsKept engine → Keeps (network_removed engine id)
 keeps_network_taken engine id kept =
     cond_both (is_none (network_at engine id)) (not_found, engine) (if network_in_use engine id then (forbidden, engine) else (Reply.Done, without_network engine id)) Keeps
-        (λ _. kept)
-        (λ _. cond_both (network_in_use engine id) (forbidden, engine) (Reply.Done, without_network engine id) Keeps
-            (λ _. kept)
-            (λ unused. keeps_network_removed engine id unused kept))
+    (λ _. kept)
+    (λ _. cond_both (network_in_use engine id) (forbidden, engine) (Reply.Done, without_network engine id) Keeps
+    (λ _. kept)
+    (λ unused. keeps_network_removed engine id unused kept))
 
 keeps_volume_taken : (engine : Engine) (name : List ℕ) → IsKept engine → Keeps (volume_removed engine name)
 keeps_volume_taken engine name kept =
     cond_both (not (has_volume engine name)) (not_found, engine) (if volume_in_use engine name then (conflict, engine) else (Reply.Done, without_volume engine name)) Keeps
-        (λ _. kept)
-        (λ _. cond_both (volume_in_use engine name) (conflict, engine) (Reply.Done, without_volume engine name) Keeps
-            (λ _. kept)
-            (λ _. keeps_volume_removed engine name kept))
+    (λ _. kept)
+    (λ _. cond_both (volume_in_use engine name) (conflict, engine) (Reply.Done, without_volume engine name) Keeps
+    (λ _. kept)
+    (λ _. keeps_volume_removed engine name kept))
 
 keeps_told : (engine : Engine) (name : List ℕ) → IsKept engine → Keeps (image_told engine name)
 keeps_told engine name kept = option_both Keeps (λ id. (Reply.ImageId id, engine)) (not_found, engine) (image_at engine name) (λ _. kept) (λ _ _. kept)
@@ -109,8 +109,8 @@ keeps_told engine name kept = option_both Keeps (λ id. (Reply.ImageId id, engin
 keeps_pull : (catalogue : Catalogue) (engine : Engine) (name : List ℕ) → IsKept engine → Keeps (pulled catalogue engine name)
 keeps_pull catalogue engine name kept =
     cond_both (can_be_pulled catalogue name) (Reply.Pulled, record engine { images = with_image engine.images name (image_id_text name) }) (not_found, engine) Keeps
-        (λ _. keeps_pulled engine name (image_id_text name) kept)
-        (λ _. kept)
+    (λ _. keeps_pulled engine name (image_id_text name) kept)
+    (λ _. kept)
 
 pub served_keeps : (catalogue : Catalogue) (engine : Engine) (request : Request) → engine.next < 2 ^ 64 → IsKept engine → IsKept (served catalogue engine request).1
 served_keeps catalogue engine (Request.ListContainers project) fits kept = kept

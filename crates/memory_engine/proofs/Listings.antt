@@ -33,16 +33,17 @@ any-with_name n name [] = refl
 any-with_name n name (first ∷ rest) =
     let later = any-with_name n name rest in
     let placed : (order : Ordering) → slice_cmp nat_cmp name first ≡ order
-            → list_any (bytes_eq n) (put_at order name first rest (with_name rest name)) ≡ (bytes_eq n name || (bytes_eq n first || list_any (bytes_eq n) rest))
-        = λ order. elim order as (λ order. slice_cmp nat_cmp name first ≡ order
-            → list_any (bytes_eq n) (put_at order name first rest (with_name rest name)) ≡ (bytes_eq n name || (bytes_eq n first || list_any (bytes_eq n) rest))) [
-          Ordering.Less ↦ λ _. refl
-        | Ordering.Equal ↦ λ equal. let same = same_order name first equal in
-            rw same (by_cases (bytes_eq n first) (λ e. rw e refl) (λ e. rw e refl))
-        | Ordering.Greater ↦ λ _. rw later
-            (sym (or_assoc (bytes_eq n first) (bytes_eq n name) (list_any (bytes_eq n) rest))
-            ∙ ap (λ b. b || list_any (bytes_eq n) rest) (or_comm (bytes_eq n first) (bytes_eq n name))
-            ∙ or_assoc (bytes_eq n name) (bytes_eq n first) (list_any (bytes_eq n) rest)) ]
+    → list_any (bytes_eq n) (put_at order name first rest (with_name rest name)) ≡ (bytes_eq n name || (bytes_eq n first || list_any (bytes_eq n) rest))
+    = λ order. elim order as (λ order. slice_cmp nat_cmp name first ≡ order
+    → list_any (bytes_eq n) (put_at order name first rest (with_name rest name)) ≡ (bytes_eq n name || (bytes_eq n first || list_any (bytes_eq n) rest))) [
+      | Ordering.Less ↦ λ _. refl
+      | Ordering.Equal ↦ λ equal. let same = same_order name first equal in
+          rw same (by_cases (bytes_eq n first) (λ e. rw e refl) (λ e. rw e refl))
+      | Ordering.Greater ↦ λ _. rw later
+          (sym (or_assoc (bytes_eq n first) (bytes_eq n name) (list_any (bytes_eq n) rest))
+          ∙ ap (λ b. b || list_any (bytes_eq n) rest) (or_comm (bytes_eq n first) (bytes_eq n name))
+          ∙ or_assoc (bytes_eq n name) (bytes_eq n first) (list_any (bytes_eq n) rest))
+    ]
     in placed (slice_cmp nat_cmp name first) refl
 
 any-fold : (n : List ℕ) (names done : List (List ℕ)) → list_any (bytes_eq n) (fold with_name done names) ≡ (list_any (bytes_eq n) done || list_any (bytes_eq n) names)
@@ -57,11 +58,12 @@ any-names engine n [] = refl
 any-names engine n (id ∷ ids) =
     let rest = any-names engine n ids in
     let named : (o : Option NetRow) → list_any (bytes_eq n) (cons_option (option_map (λ row. row.name) o) (filter_map (network_name engine) ids))
-            ≡ (option_map_or (λ row. bytes_eq n row.name) o false || list_any (network_has_name engine n) ids)
-        = λ o. elim o as (λ o. list_any (bytes_eq n) (cons_option (option_map (λ row. row.name) o) (filter_map (network_name engine) ids))
-            ≡ (option_map_or (λ row. bytes_eq n row.name) o false || list_any (network_has_name engine n) ids)) [
-          None ↦ rest
-        | Some row ↦ ap (λ b. bytes_eq n row.name || b) rest ]
+    ≡ (option_map_or (λ row. bytes_eq n row.name) o false || list_any (network_has_name engine n) ids)
+    = λ o. elim o as (λ o. list_any (bytes_eq n) (cons_option (option_map (λ row. row.name) o) (filter_map (network_name engine) ids))
+    ≡ (option_map_or (λ row. bytes_eq n row.name) o false || list_any (network_has_name engine n) ids)) [
+      | None ↦ rest
+      | Some row ↦ ap (λ b. bytes_eq n row.name || b) rest
+    ]
     in named (network_at engine id)
 
 -- a row as it is listed
@@ -83,18 +85,18 @@ pub lists_containers : (engine : Engine) (project : List ℕ) → IsSound engine
 lists_containers engine project sound =
     let wanted = λ (row : ContainerRow). is_of_project project row.labels in
     let shown : (listed : Listed) (row : ContainerRow) → Among engine.containers row → wanted row ≡ true → listed ≡ listed_row engine row
-            → (r : ContainerRow) × (container_at engine listed.id ≡ Some r) × (wanted r ≡ true) × Shows engine r listed
-        = λ listed row among passes same.
-            subst (λ (l : Listed). (r : ContainerRow) × (container_at engine l.id ≡ Some r) × (wanted r ≡ true) × Shows engine r l) (sym same)
-                (row, find-among id_of engine.containers row sound.container_ids among, passes, shows_listed engine row) in record {
-  distinct = rw (same_ids engine (filter wanted engine.containers)) (distinct-filter id_of wanted engine.containers sound.container_ids);
-  shown = λ listed among.
-      let from = among-mapped (listed_row engine) wanted engine.containers listed among in
-      shown listed from.0 from.1 from.2 from.3;
-  all = λ id row there passes.
-      let among = (among-find (λ (r : ContainerRow). bytes_eq r.id id) engine.containers row there).0 in
-      (listed_row engine row, among-map (listed_row engine) (filter wanted engine.containers) row (among-filter wanted engine.containers row among passes), shows_listed engine row);
-}
+    → (r : ContainerRow) × (container_at engine listed.id ≡ Some r) × (wanted r ≡ true) × Shows engine r listed
+    = λ listed row among passes same.
+    subst (λ (l : Listed). (r : ContainerRow) × (container_at engine l.id ≡ Some r) × (wanted r ≡ true) × Shows engine r l) (sym same)
+    (row, find-among id_of engine.containers row sound.container_ids among, passes, shows_listed engine row) in record {
+      distinct = rw (same_ids engine (filter wanted engine.containers)) (distinct-filter id_of wanted engine.containers sound.container_ids);
+      shown = λ listed among.
+          let from = among-mapped (listed_row engine) wanted engine.containers listed among in
+          shown listed from.0 from.1 from.2 from.3;
+      all = λ id row there passes.
+          let among = (among-find (λ (r : ContainerRow). bytes_eq r.id id) engine.containers row there).0 in
+          (listed_row engine row, among-map (listed_row engine) (filter wanted engine.containers) row (among-filter wanted engine.containers row among passes), shows_listed engine row);
+    }
 
 pub lists_networks : (engine : Engine) → IsSound engine → ListsNetworks engine engine.networks
 lists_networks engine sound = record {

@@ -20,7 +20,7 @@ number_spelled n short =
 pub id_text-apart : (m n : ℕ) → m < n → n < 16 ^ 64 → bytes_eq (id_text m) (id_text n) ≡ false
 id_text-apart m n below short = by_cases (bytes_eq (id_text m) (id_text n))
     (λ e. let same = same_text (id_text m) (id_text n) e in
-        let low : m < 16 ^ 64 = omega arith in
-        let one : m ≡ n = sym (number_spelled m low) ∙ ap (digits_value 16) same ∙ number_spelled n short in
-        absurd (omega (arith, one, below)))
+    let low : m < 16 ^ 64 = omega arith in
+    let one : m ≡ n = sym (number_spelled m low) ∙ ap (digits_value 16) same ∙ number_spelled n short in
+    absurd (omega (arith, one, below)))
     (λ e. e)

@@ -29,20 +29,20 @@ module _ {X : Type 0} (p : X → Bool) where
   with_first_at f x (y ∷ ys) found = by_cases (p y)
       (λ e. let first : Some y ≡ Some x = rw e at found in let same : y ≡ x = cc in rw (e, same) refl)
       (λ e. let later : slice_get ys (position_or_len p ys) ≡ Some x = rw (e, one_more) at found in
-          rw (e, one_more) (ap (λ zs. y ∷ zs) (with_first_at f x ys later)))
+      rw (e, one_more) (ap (λ zs. y ∷ zs) (with_first_at f x ys later)))
 
   with_first_past : (f : X → X) (xs : List X) → length xs ≤ position_or_len p xs → with_first p f xs ≡ xs
   with_first_past f [] past = refl
   with_first_past f (y ∷ ys) past = by_cases (p y)
       (λ e. let bound : suc (length ys) ≤ 0 = rw e at past in absurd (omega arith))
       (λ e. let bound : suc (length ys) ≤ 1 + position_or_len p ys = rw e at past in
-          rw e (ap (λ zs. y ∷ zs) (with_first_past f ys (omega arith))))
+      rw e (ap (λ zs. y ∷ zs) (with_first_past f ys (omega arith))))
 
   -- the first place that passes, where there is one
   pub first_place : (xs : List X) (n : ℕ) → position p xs ≡ Some n → (n ≡ position_or_len p xs) × (n < length xs)
   first_place xs n is = by_cases (nat_lt (position_or_len p xs) (length xs))
       (λ e. let same : Some (position_or_len p xs) ≡ Some n = rw e at is in
-          let here : position_or_len p xs ≡ n = cc in (sym here, rw (← here) (ltb-true _ _ e)))
+      let here : position_or_len p xs ≡ n = cc in (sym here, rw (← here) (ltb-true _ _ e)))
       (λ e. let clash : None ≡ Some n = rw e at is in cc)
 
   pub no_place : (xs : List X) → position p xs ≡ None → length xs ≤ position_or_len p xs
@@ -96,7 +96,7 @@ image_at_place name id [] within = absurd (omega arith)
 image_at_place name id (row ∷ rows) within = by_cases (bytes_eq row.name name)
     (λ e. rw e refl)
     (λ e. let later : 1 + position_or_len (λ row. bytes_eq row.name name) rows < suc (length rows) = rw e at within in
-        rw (e, one_more) (ap (λ zs. row ∷ zs) (image_at_place name id rows (omega arith))))
+    rw (e, one_more) (ap (λ zs. row ∷ zs) (image_at_place name id rows (omega arith))))
 
 image_last : (name id : List ℕ) (rows : List ImageRow) → length rows ≤ position_or_len (λ row. bytes_eq row.name name) rows
     → with_image rows name id ≡ rows ++ record { name = name; id = id } ∷ []
@@ -104,7 +104,7 @@ image_last name id [] past = refl
 image_last name id (row ∷ rows) past = by_cases (bytes_eq row.name name)
     (λ e. let bound : suc (length rows) ≤ 0 = rw e at past in absurd (omega arith))
     (λ e. let bound : suc (length rows) ≤ 1 + position_or_len (λ row. bytes_eq row.name name) rows = rw e at past in
-        rw e (ap (λ zs. row ∷ zs) (image_last name id rows (omega arith))))
+    rw e (ap (λ zs. row ∷ zs) (image_last name id rows (omega arith))))
 
 pub with_image-at : (name id : List ℕ) (rows : List ImageRow) (n : ℕ) → position (λ row. bytes_eq row.name name) rows ≡ Some n
     → with_image rows name id ≡ slice_set rows n (record { name = name; id = id })

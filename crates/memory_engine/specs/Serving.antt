@@ -116,8 +116,8 @@ abbrev pub connected : Engine → List ℕ → List ℕ → Reply × Engine
 connected engine network container =
     if is_none (network_at engine network) then (not_found, engine)
     else on_container engine container (λ row.
-        if is_on network row then (forbidden, engine)
-        else (Reply.Done, with_container engine container (joined_row network)))
+    if is_on network row then (forbidden, engine)
+    else (Reply.Done, with_container engine container (joined_row network)))
 
 -- whether a container is on a network
 abbrev pub network_in_use : Engine → List ℕ → Bool

@@ -1,7 +1,9 @@
-ghost use Rattle.std.specs.Prelude.{◌≡◌, ◌<◌, MatchOption, Some, [], ◌∷◌, length, slice_get, slice_set};
+ghost use Rattle.std.specs.Prelude.{◌≡◌, ◌<◌, [], ◌∷◌, Some, MatchOption, length};
+ghost use Rattle.std.specs.Prelude.{slice_get, slice_set};
 ghost use Rattle.engine_types.specs.declared.ContainerRow.{ContainerRow};
 ghost use Rattle.run_model.specs.EngineRules.{Drifts, IsSound};
-ghost use Rattle.memory_engine.specs.Ticking.{changed_report, changed_row, is_running as is_running_state, later, ticked, ticked_by};
+ghost use Rattle.memory_engine.specs.Ticking.{changed_report, changed_row, later, ticked, ticked_by};
+ghost use Rattle.memory_engine.specs.Ticking.{is_running as is_running_state};
 
 use crate::rows;
 use crate::script::{Change, Tick};
@@ -12,8 +14,8 @@ use std::mem;
 use tree_base::{List, Text};
 
 impl MemoryEngine {
-    /// Applies the first tick of the script, if any, and uses it up. One for a container that isn't there or
-    /// isn't running changes nothing. No memory.
+    /// Applies the first tick of the script, if there is one, and uses it up. A tick for a container that
+    /// isn't there or doesn't run changes nothing. No memory.
     pub fn tick(&mut self)
         ensures engine { self.new.engine ≡ ticked self.old.engine self.old.script }
         ensures script { self.new.script ≡ later self.old.script }
@@ -43,7 +45,8 @@ fn apply(engine: &mut Engine, tick: Tick)
 /// Changes the container at a place, where it runs.
 fn change_at(alloc: Global, rows: &mut List<ContainerRow>, at: usize, change: Change)
     requires { at < length rows.old }
-    ensures { (row : ContainerRow) → slice_get rows.old at ≡ Some row → rows.new ≡ slice_set rows.old at (changed_row change row) }
+    ensures { (row : ContainerRow) → slice_get rows.old at ≡ Some row
+        → rows.new ≡ slice_set rows.old at (changed_row change row) }
 {
     let report = rows.as_slice()[at].report;
     if is_running(report.state) {
@@ -81,13 +84,17 @@ fn changed(change: Change, report: Report) -> Report
 
 /// Takes the first tick out.
 fn take_first(script: &mut List<Tick>) -> Option<Tick>
-    ensures { MatchOption result ((script.old ≡ []) × (script.new ≡ [])) (λ tick. script.old ≡ tick ∷ script.new) }
+    ensures { MatchOption result ((script.old ≡ []) × (script.new ≡ []))
+        (λ tick. script.old ≡ tick ∷ script.new) }
 {
     let last = script.pop()?;
     let Tick { container, change } = last;
     let name = container.into_string();
     let alloc = *name.allocator();
-    let last = Tick { container: Text::from_string(name), change };
+    let last = Tick {
+        container: Text::from_string(name),
+        change,
+    };
     let mut ticks = mem::replace(script, List::new(alloc)).into_vec();
     if ticks.is_empty() {
         return Some(last);

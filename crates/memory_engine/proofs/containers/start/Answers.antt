@@ -18,5 +18,5 @@ returns-clause-ok c =
     let can : can_start row.report.state ≡ true = cc in
     let same = ap (λ (t : Report). record row { report = t }) c.started_report-report.ensures in
     let rows_are : c.set_report.new.rows ≡ with_first has_id started_row c.args.engine.now.containers
-        = c.set_report.ensures ∙ with_first-agree has_id (λ r. record r { report = report }) started_row row c.args.engine.now.containers found same in
+    = c.set_report.ensures ∙ with_first-agree has_id (λ r. record r { report = report }) started_row row c.args.engine.now.containers found same in
     rw (found, waits, can, rows_are) refl

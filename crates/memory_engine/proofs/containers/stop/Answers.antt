@@ -14,5 +14,5 @@ returns-clause-ok c =
     let found : container_at c.args.engine.now c.args.id.now ≡ Some row = search rules in
     let live : is_live row.report.state ≡ true = cc in
     let rows_are : c.set_report.new.rows ≡ with_first has_id stopped_row c.args.engine.now.containers
-        = c.set_report.ensures ∙ with_first-agree has_id (λ r. record r { report = (stopped_row row).report }) stopped_row row c.args.engine.now.containers found refl in
+    = c.set_report.ensures ∙ with_first-agree has_id (λ r. record r { report = (stopped_row row).report }) stopped_row row c.args.engine.now.containers found refl in
     rw (found, live, rows_are) refl

@@ -12,12 +12,13 @@ loop-id-preserved c =
     let named = network_name c.args.engine.now in
     let was = ap (option_map (λ (row : NetRow). row.name)) (sym c.network.ensures) in
     elim c.match-network.branch [
-        in-Some+in_ok-put_name w ↦
-            let name = w.in-Some.row.now.name in
-            let gives : named c.id-item.result ≡ Some name = was ∙ ap (λ o. option_map (λ (row : NetRow). row.name) (option_copied o)) w.in-Some.is in
-            ap (λ names. names.items) w.names-is ∙ w.in_ok-put_name.ensures ∙ ap (λ (names : List (List ℕ)). with_name names name) c.loop-id.invariant
-            ∙ sym (fold-filter_map-some c.args.ids.now c.loop-id.id-index c.id-item.result c.loop-id-test.true c.id-item.is with_name [] named name gives)
+      | in-Some+in_ok-put_name w ↦
+          let name = w.in-Some.row.now.name in
+          let gives : named c.id-item.result ≡ Some name = was ∙ ap (λ o. option_map (λ (row : NetRow). row.name) (option_copied o)) w.in-Some.is in
+          ap (λ names. names.items) w.names-is ∙ w.in_ok-put_name.ensures ∙ ap (λ (names : List (List ℕ)). with_name names name) c.loop-id.invariant
+          ∙ sym (fold-filter_map-some c.args.ids.now c.loop-id.id-index c.id-item.result c.loop-id-test.true c.id-item.is with_name [] named name gives)
       | in_default w ↦
-            let gives : named c.id-item.result ≡ None = was ∙ ap (λ o. option_map (λ (row : NetRow). row.name) (option_copied o)) w.in_default.is in
-            ap (λ names. names.items) w.names-is ∙ c.loop-id.invariant
-            ∙ ap (fold with_name []) (sym (filter_map-none c.args.ids.now c.loop-id.id-index c.id-item.result c.loop-id-test.true c.id-item.is named gives)) ]
+          let gives : named c.id-item.result ≡ None = was ∙ ap (λ o. option_map (λ (row : NetRow). row.name) (option_copied o)) w.in_default.is in
+          ap (λ names. names.items) w.names-is ∙ c.loop-id.invariant
+          ∙ ap (fold with_name []) (sym (filter_map-none c.args.ids.now c.loop-id.id-index c.id-item.result c.loop-id-test.true c.id-item.is named gives))
+    ]

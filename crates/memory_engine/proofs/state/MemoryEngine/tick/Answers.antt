@@ -5,7 +5,7 @@ use Rattle.memory_engine.proofs.state.MemoryEngine.tick.Goals as goal
 
 pub invariant_of-self : goal.invariant_of-self
 invariant_of-self c = record {
-  kept = rw c.apply.ensures (ticked_keeps c.args.self.now.engine (c.in-Some.tick ∷ c.take_first.new.script) c.args.self.now.kept)
+  kept = rw c.apply.ensures (ticked_keeps c.args.self.now.engine (c.in-Some.tick ∷ c.take_first.new.script) c.args.self.now.kept);
 }
 
 pub returns-in-Some-clause-drifts : goal.returns-in-Some-clause-drifts
