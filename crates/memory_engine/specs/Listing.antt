@@ -10,6 +10,7 @@ use Rattle.engine_types.specs.declared.Engine.{Engine}
 use Rattle.engine_types.specs.declared.Listed.{Listed}
 use Rattle.run_model.specs.EngineRules.{is_of_project, network_at}
 
+-- a name before the first of others, as that one, or among the later ones, by how the two compare
 abbrev pub put_at : Ordering → List ℕ → List ℕ → List (List ℕ) → List (List ℕ) → List (List ℕ)
 put_at Ordering.Less name first rest later = name ∷ first ∷ rest
 put_at Ordering.Equal name first rest later = first ∷ rest

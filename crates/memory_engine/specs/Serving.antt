@@ -15,13 +15,15 @@ use Rattle.memory_engine.specs.declared.catalogue.Catalogue.{Catalogue}
 use Rattle.memory_engine.specs.Ids.{id_text, image_id_text}
 use Rattle.memory_engine.specs.Listing.{listing}
 
--- what isn't there, what stands in the way, and what isn't allowed: the Engine API's 404, 409 and 403
+-- the Engine API's 404: what the request names isn't there
 abbrev pub not_found : Reply
 not_found = Reply.Refused 404 (codes "not found")
 
+-- the Engine API's 409: something stands in the way
 abbrev pub conflict : Reply
 conflict = Reply.Refused 409 (codes "conflict")
 
+-- the Engine API's 403: it isn't allowed
 abbrev pub forbidden : Reply
 forbidden = Reply.Refused 403 (codes "forbidden")
 
@@ -39,10 +41,11 @@ with_first passes change (x ∷ xs) = if passes x then change x ∷ xs else x �
 abbrev pub with_container : Engine → List ℕ → (ContainerRow → ContainerRow) → Engine
 with_container engine id change = record engine { containers = with_first (λ row. bytes_eq row.id id) change engine.containers }
 
--- what comes of a request on the container with an id
+-- what comes of a request on the container with an id: it isn't found where there is none
 abbrev pub on_container : Engine → List ℕ → (ContainerRow → Reply × Engine) → Reply × Engine
 on_container engine id act = option_map_or act (container_at engine id) (not_found, engine)
 
+-- GET /containers/{id}/json
 abbrev pub inspected : Engine → List ℕ → Reply × Engine
 inspected engine id = on_container engine id (λ row. (Reply.State row.report, engine))
 
@@ -69,18 +72,21 @@ with_created engine name spec image = record engine {
   next = engine.next + 1;
 }
 
+-- POST /containers/create: in the way is a container with the name, and the image and the networks have to be there
 abbrev pub created : Engine → List ℕ → ContainerSpec → Reply × Engine
 created engine name spec =
     if has_container_named engine name then (conflict, engine)
     else (if is_none (image_for engine spec) || lacks_network engine spec then (not_found, engine)
     else (Reply.Made (id_text engine.next), with_created engine name spec (unwrap_or (image_for engine spec) [])))
 
+-- POST /containers/{id}/start: only a created container or one that exited can start
 abbrev pub started : Engine → List ℕ → Reply × Engine
 started engine id = on_container engine id (λ row.
     if is_started row.report.state then (Reply.Already, engine)
     else (if can_start row.report.state then (Reply.Done, with_container engine id started_row)
     else (conflict, engine)))
 
+-- POST /containers/{id}/stop
 abbrev pub stopped : Engine → List ℕ → Reply × Engine
 stopped engine id = on_container engine id (λ row.
     if is_live row.report.state then (Reply.Done, with_container engine id stopped_row) else (Reply.Already, engine))
@@ -89,6 +95,7 @@ stopped engine id = on_container engine id (λ row.
 abbrev pub without_container : Engine → List ℕ → Engine
 without_container engine id = record engine { containers = filter (λ row. not (bytes_eq row.id id)) engine.containers }
 
+-- DELETE /containers/{id}: in the way is that it is live
 abbrev pub removed : Engine → List ℕ → Reply × Engine
 removed engine id = on_container engine id (λ row.
     if is_live row.report.state then (conflict, engine) else (Reply.Done, without_container engine id))
@@ -104,12 +111,13 @@ with_network engine spec = record engine {
 abbrev pub joined_row : List ℕ → ContainerRow → ContainerRow
 joined_row network row = record row { networks = row.networks ++ network ∷ [] }
 
+-- POST /networks/{id}/connect: it isn't allowed where the container is on the network already
 abbrev pub connected : Engine → List ℕ → List ℕ → Reply × Engine
 connected engine network container =
     if is_none (network_at engine network) then (not_found, engine)
     else on_container engine container (λ row.
-        if is_on network row then (forbidden, engine)
-        else (Reply.Done, with_container engine container (joined_row network)))
+    if is_on network row then (forbidden, engine)
+    else (Reply.Done, with_container engine container (joined_row network)))
 
 -- whether a container is on a network
 abbrev pub network_in_use : Engine → List ℕ → Bool
@@ -119,6 +127,7 @@ network_in_use engine id = list_any (is_on id) engine.containers
 abbrev pub without_network : Engine → List ℕ → Engine
 without_network engine id = record engine { networks = filter (λ row. not (bytes_eq row.id id)) engine.networks }
 
+-- DELETE /networks/{id}: it isn't allowed while a container is on it
 abbrev pub network_removed : Engine → List ℕ → Reply × Engine
 network_removed engine id =
     if is_none (network_at engine id) then (not_found, engine)
@@ -136,11 +145,13 @@ volume_in_use engine name = list_any (binds_volume name) engine.containers
 abbrev pub without_volume : Engine → List ℕ → Engine
 without_volume engine name = record engine { volumes = filter (λ other. not (bytes_eq name other)) engine.volumes }
 
+-- DELETE /volumes/{name}: in the way is a container that binds it
 abbrev pub volume_removed : Engine → List ℕ → Reply × Engine
 volume_removed engine name =
     if not (has_volume engine name) then (not_found, engine)
     else (if volume_in_use engine name then (conflict, engine) else (Reply.Done, without_volume engine name))
 
+-- GET /images/{name}/json
 abbrev pub image_told : Engine → List ℕ → Reply × Engine
 image_told engine name = option_map_or (λ id. (Reply.ImageId id, engine)) (image_at engine name) (not_found, engine)
 
@@ -149,6 +160,7 @@ abbrev pub with_image : List ImageRow → List ℕ → List ℕ → List ImageRo
 with_image [] name id = record { name = name; id = id } ∷ []
 with_image (row ∷ rows) name id = if bytes_eq row.name name then record { name = name; id = id } ∷ rows else row ∷ with_image rows name id
 
+-- POST /images/create: it is found where the catalogue has it, and its id is the name's digest
 abbrev pub pulled : Catalogue → Engine → List ℕ → Reply × Engine
 pulled catalogue engine name =
     if can_be_pulled catalogue name then (Reply.Pulled, record engine { images = with_image engine.images name (image_id_text name) })

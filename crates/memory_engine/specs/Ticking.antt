@@ -9,6 +9,7 @@ use Rattle.memory_engine.specs.declared.script.Change.{Change}
 use Rattle.memory_engine.specs.declared.script.Tick.{Tick}
 use Rattle.memory_engine.specs.Serving.{with_first}
 
+-- whether a container runs
 abbrev pub is_running : ContainerState → Bool
 is_running ContainerState.Running = true
 is_running _ = false

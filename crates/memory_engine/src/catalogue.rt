@@ -1,6 +1,7 @@
 ghost use Rattle.std.specs.Prelude.{◌≡◌};
 ghost use Rattle.memory_engine.specs.Serving.{can_be_pulled};
 
+use crate::look_ups::is_among;
 use tree_base::{List, Text};
 
 /// The names of the images that can be pulled, as they are written.
@@ -19,7 +20,7 @@ impl Catalogue {
     {
         match self {
             Catalogue::All => true,
-            Catalogue::Only(names) => names.as_slice().iter().any(|known| *name == *known),
+            Catalogue::Only(names) => is_among(names.as_slice(), name),
         }
     }
 }

@@ -1,5 +1,6 @@
 ghost use Rattle.std.specs.Prelude.{◌≡◌, IfOk, OnErr};
-ghost use Rattle.run_model.specs.EngineRules.{is_live as is_live_state, can_start as can_start_from, is_started as is_started_state, has_test as has_health_test, started_row};
+ghost use Rattle.run_model.specs.EngineRules.{can_start as can_start_from, has_test as has_health_test};
+ghost use Rattle.run_model.specs.EngineRules.{is_live as is_live_state, is_started as is_started_state, started_row};
 ghost use Rattle.memory_engine.specs.Serving.{inspected, started, stopped, removed};
 
 use crate::{look_ups, refusals, rows};

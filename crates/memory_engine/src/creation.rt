@@ -1,8 +1,10 @@
-ghost use Rattle.std.specs.Prelude.{◌≡◌, ◌+◌, ◌∷◌, [], ◌++◌, IfOk, OnErr};
+ghost use Rattle.std.specs.Prelude.{◌≡◌, IfOk, OnErr, OnOk};
+ghost use Rattle.std.specs.List.{list_all};
 ghost use Rattle.std.specs.Option.{option_copied};
-ghost use Rattle.run_model.specs.EngineRules.{created_row, endpoints_of};
+ghost use Rattle.run_model.specs.EngineRules.{endpoints_of, has_network_named};
 ghost use Rattle.memory_engine.specs.Ids.{id_text};
-ghost use Rattle.memory_engine.specs.Serving.{created, image_for, lacks_network as lacks_network_for, networks_for, with_created};
+ghost use Rattle.memory_engine.specs.Serving.{created, image_for, lacks_network as lacks_network_for};
+ghost use Rattle.memory_engine.specs.Serving.{networks_for, with_created};
 
 use crate::{ids, look_ups, refusals};
 use engine_types::{
@@ -12,7 +14,12 @@ use std::alloc::Global;
 use tree_base::{List, Memory, Text, TryCopy};
 
 /// Makes a container.
-pub fn create(alloc: Global, engine: &mut Engine, name: &Text, spec: &ContainerSpec) -> Result<Reply, Memory>
+pub fn create(
+    alloc: Global,
+    engine: &mut Engine,
+    name: &Text,
+    spec: &ContainerSpec,
+) -> Result<Reply, Memory>
     ensures ok { IfOk result (λ reply. created engine.old name.now spec.now ≡ (reply, engine.new)) }
     ensures err { OnErr result (engine.new ≡ engine.old) }
 {
@@ -30,8 +37,15 @@ pub fn create(alloc: Global, engine: &mut Engine, name: &Text, spec: &ContainerS
 }
 
 /// Adds a container that nothing stands in the way of, under the next id.
-fn add(alloc: Global, engine: &mut Engine, name: &Text, spec: &ContainerSpec, image: Text) -> Result<Reply, Memory>
-    ensures ok { IfOk result (λ reply. (reply ≡ Reply.Made (id_text engine.old.next)) × (engine.new ≡ with_created engine.old name.now spec.now image)) }
+fn add(
+    alloc: Global,
+    engine: &mut Engine,
+    name: &Text,
+    spec: &ContainerSpec,
+    image: Text,
+) -> Result<Reply, Memory>
+    ensures reply { IfOk result (λ reply. reply ≡ Reply.Made (id_text engine.old.next)) }
+    ensures ok { OnOk result (engine.new ≡ with_created engine.old name.now spec.now image) }
     ensures err { OnErr result (engine.new ≡ engine.old) }
 {
     let next = engine.next.checked_add(1).ok_or(Memory)?;
@@ -80,9 +94,13 @@ fn endpoints(spec: &ContainerSpec) -> &[Endpoint]
 fn lacks_network(engine: &Engine, spec: &ContainerSpec) -> bool
     ensures { result ≡ lacks_network_for engine.now spec.now }
 {
-    !endpoints(spec)
-        .iter()
-        .all(|endpoint| look_ups::is_network_named(engine, &endpoint.key))
+    !are_there(engine, endpoints(spec))
+}
+
+fn are_there(engine: &Engine, endpoints: &[Endpoint]) -> bool
+    ensures { result ≡ list_all (λ e. has_network_named engine.now e.key) endpoints.now }
+{
+    endpoints.iter().all(|endpoint| look_ups::is_network_named(engine, &endpoint.key))
 }
 
 /// The ids of the networks that a container is to be on.

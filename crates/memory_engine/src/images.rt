@@ -1,4 +1,4 @@
-ghost use Rattle.std.specs.Prelude.{◌≡◌, IfOk, OnErr, position};
+ghost use Rattle.std.specs.Prelude.{◌≡◌, IfOk, OnErr, OnOk, position};
 ghost use Rattle.std.specs.Str.{bytes_eq};
 ghost use Rattle.memory_engine.specs.Ids.{image_id_text};
 ghost use Rattle.memory_engine.specs.Serving.{image_told, pulled, with_image};
@@ -20,8 +20,14 @@ pub fn tell(alloc: Global, engine: &Engine, name: &Text) -> Result<Reply, Memory
 }
 
 /// Pulls an image.
-pub fn pull(alloc: Global, catalogue: &Catalogue, engine: &mut Engine, name: &Text) -> Result<Reply, Memory>
-    ensures ok { IfOk result (λ reply. pulled catalogue.now engine.old name.now ≡ (reply, engine.new)) }
+pub fn pull(
+    alloc: Global,
+    catalogue: &Catalogue,
+    engine: &mut Engine,
+    name: &Text,
+) -> Result<Reply, Memory>
+    ensures ok { IfOk result
+        (λ reply. pulled catalogue.now engine.old name.now ≡ (reply, engine.new)) }
     ensures err { OnErr result (engine.new ≡ engine.old) }
 {
     if !catalogue.has(name) {
@@ -37,7 +43,7 @@ pub fn pull(alloc: Global, catalogue: &Catalogue, engine: &mut Engine, name: &Te
 
 /// Puts an image in place of the one with its name, or last where none has it.
 fn put(images: &mut List<ImageRow>, row: ImageRow) -> Result<(), Memory>
-    ensures ok { IfOk result (λ _. images.new ≡ with_image images.old row.name row.id) }
+    ensures ok { OnOk result (images.new ≡ with_image images.old row.name row.id) }
     ensures err { OnErr result (images.new ≡ images.old) }
 {
     match place(images.as_slice(), &row.name) {

@@ -1,9 +1,9 @@
-//! The Docker Engine in memory: it answers each request of the Docker Engine API that a run makes, and its
-//! containers change between requests by a script.
+//! The Docker Engine in memory: it answers each request of the Docker Engine API that a run makes, and
+//! its containers change between requests by a script.
 //!
-//! Contracts say its answer to every request exactly, and that it is one that an Engine may give. A request
-//! that it refuses changes nothing. It stays sound: ids and names differ, and the networks of each container
-//! are there.
+//! Contracts say its answer to every request exactly, and that it is one that an Engine may give. A
+//! request that it refuses changes nothing. It stays sound: ids and names differ, and the networks of
+//! each container are there; and it never gives an id twice.
 #![tactic(auto)]
 
 mod catalogue;

@@ -1,7 +1,8 @@
-ghost use Rattle.std.specs.Prelude.{◌≡◌, IfOk, OnErr, not, filter};
+ghost use Rattle.std.specs.Prelude.{◌≡◌, IfOk, OnErr, OnOk, not, filter};
 ghost use Rattle.std.specs.Str.{bytes_eq};
 ghost use Rattle.memory_engine.specs.Ids.{id_text};
-ghost use Rattle.memory_engine.specs.Serving.{connected, network_in_use, network_removed, with_network};
+ghost use Rattle.memory_engine.specs.Serving.{connected, network_in_use, network_removed};
+ghost use Rattle.memory_engine.specs.Serving.{with_network};
 
 use crate::{ids, look_ups, refusals, rows};
 use engine_types::{Engine, NetRow, NetworkSpec, Reply};
@@ -19,7 +20,7 @@ pub fn list(alloc: Global, engine: &Engine) -> Result<Reply, Memory>
 /// Makes a network, under the next id.
 pub fn make(alloc: Global, engine: &mut Engine, spec: &NetworkSpec) -> Result<Reply, Memory>
     ensures reply { IfOk result (λ reply. reply ≡ Reply.Made (id_text engine.old.next)) }
-    ensures ok { IfOk result (λ _. engine.new ≡ with_network engine.old spec.now) }
+    ensures ok { OnOk result (engine.new ≡ with_network engine.old spec.now) }
     ensures err { OnErr result (engine.new ≡ engine.old) }
 {
     let next = engine.next.checked_add(1).ok_or(Memory)?;
@@ -36,8 +37,14 @@ pub fn make(alloc: Global, engine: &mut Engine, spec: &NetworkSpec) -> Result<Re
 }
 
 /// Puts a container on a network.
-pub fn connect(alloc: Global, engine: &mut Engine, network: &Text, container: &Text) -> Result<Reply, Memory>
-    ensures ok { IfOk result (λ reply. connected engine.old network.now container.now ≡ (reply, engine.new)) }
+pub fn connect(
+    alloc: Global,
+    engine: &mut Engine,
+    network: &Text,
+    container: &Text,
+) -> Result<Reply, Memory>
+    ensures ok { IfOk result
+        (λ reply. connected engine.old network.now container.now ≡ (reply, engine.new)) }
     ensures err { OnErr result (engine.new ≡ engine.old) }
 {
     if look_ups::network(engine, network).is_none() {

@@ -1,5 +1,6 @@
 ghost use Rattle.std.specs.Prelude.{◌≡◌, IfOk};
-ghost use Rattle.memory_engine.specs.Serving.{not_found as NotFound, conflict as Conflict, forbidden as Forbidden};
+ghost use Rattle.memory_engine.specs.Serving.{conflict as conflicting, forbidden as denied};
+ghost use Rattle.memory_engine.specs.Serving.{not_found as missing};
 
 use engine_types::Reply;
 use std::alloc::Global;
@@ -14,21 +15,21 @@ fn refused(alloc: Global, status: u16, message: &str) -> Result<Reply, Memory>
 
 /// What the request names isn't there.
 pub fn not_found(alloc: Global) -> Result<Reply, Memory>
-    ensures { IfOk result (λ reply. reply ≡ NotFound) }
+    ensures { IfOk result (λ reply. reply ≡ missing) }
 {
     refused(alloc, 404, "not found")
 }
 
 /// Something stands in the request's way.
 pub fn conflict(alloc: Global) -> Result<Reply, Memory>
-    ensures { IfOk result (λ reply. reply ≡ Conflict) }
+    ensures { IfOk result (λ reply. reply ≡ conflicting) }
 {
     refused(alloc, 409, "conflict")
 }
 
 /// The request isn't allowed.
 pub fn forbidden(alloc: Global) -> Result<Reply, Memory>
-    ensures { IfOk result (λ reply. reply ≡ Forbidden) }
+    ensures { IfOk result (λ reply. reply ≡ denied) }
 {
     refused(alloc, 403, "forbidden")
 }

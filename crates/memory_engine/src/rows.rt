@@ -1,4 +1,5 @@
-ghost use Rattle.std.specs.Prelude.{◌≡◌, ◌<◌, length, position, slice_get, slice_set, Some, not, filter};
+ghost use Rattle.std.specs.Prelude.{◌≡◌, ◌<◌, Some, length, not, filter, position};
+ghost use Rattle.std.specs.Prelude.{slice_get, slice_set};
 ghost use Rattle.std.specs.Str.{bytes_eq};
 ghost use Rattle.engine_types.specs.declared.ContainerRow.{ContainerRow};
 ghost use Rattle.memory_engine.specs.Serving.{with_first};
@@ -25,7 +26,8 @@ pub fn place_of_name(rows: &[ContainerRow], name: &Text) -> Option<usize>
 /// Gives the container at a place another report. No memory.
 pub fn set_report_at(alloc: Global, rows: &mut List<ContainerRow>, at: usize, report: Report)
     requires { at < length rows.old }
-    ensures { (row : ContainerRow) → slice_get rows.old at ≡ Some row → rows.new ≡ slice_set rows.old at (record row { report = report }) }
+    ensures { (row : ContainerRow) → slice_get rows.old at ≡ Some row
+        → rows.new ≡ slice_set rows.old at (record row { report = report }) }
 {
     let mut items = mem::replace(rows, List::new(alloc)).into_vec();
     items[at].report = report;
@@ -34,7 +36,8 @@ pub fn set_report_at(alloc: Global, rows: &mut List<ContainerRow>, at: usize, re
 
 /// Gives the container with an id another report. No memory.
 pub fn set_report(alloc: Global, rows: &mut List<ContainerRow>, id: &Text, report: Report)
-    ensures { rows.new ≡ with_first (λ row. bytes_eq row.id id.now) (λ row. record row { report = report }) rows.old }
+    ensures { rows.new ≡ with_first (λ row. bytes_eq row.id id.now)
+        (λ row. record row { report = report }) rows.old }
 {
     if let Some(at) = place_of_id(rows.as_slice(), id) {
         set_report_at(alloc, rows, at, report);
@@ -43,7 +46,8 @@ pub fn set_report(alloc: Global, rows: &mut List<ContainerRow>, id: &Text, repor
 
 /// Gives the container with an id other networks. No memory.
 pub fn set_networks(alloc: Global, rows: &mut List<ContainerRow>, id: &Text, networks: List<Text>)
-    ensures { rows.new ≡ with_first (λ row. bytes_eq row.id id.now) (λ row. record row { networks = networks }) rows.old }
+    ensures { rows.new ≡ with_first (λ row. bytes_eq row.id id.now)
+        (λ row. record row { networks = networks }) rows.old }
 {
     if let Some(at) = place_of_id(rows.as_slice(), id) {
         set_networks_at(alloc, rows, at, networks);
@@ -53,7 +57,8 @@ pub fn set_networks(alloc: Global, rows: &mut List<ContainerRow>, id: &Text, net
 /// Gives the container at a place other networks. No memory.
 fn set_networks_at(alloc: Global, rows: &mut List<ContainerRow>, at: usize, networks: List<Text>)
     requires { at < length rows.old }
-    ensures { (row : ContainerRow) → slice_get rows.old at ≡ Some row → rows.new ≡ slice_set rows.old at (record row { networks = networks }) }
+    ensures { (row : ContainerRow) → slice_get rows.old at ≡ Some row
+        → rows.new ≡ slice_set rows.old at (record row { networks = networks }) }
 {
     let mut items = mem::replace(rows, List::new(alloc)).into_vec();
     items[at].networks = networks;

@@ -1,6 +1,7 @@
-use crate::{Catalogue, Change, MemoryEngine, Tick};
+use crate::{Catalogue, Change, MemoryEngine, Tick, rows};
 use engine_types::{
-    ContainerSpec, Endpoint, Health, Healthcheck, NetworkSpec, Reply, Request, VolumeSpec, labels,
+    ContainerSpec, ContainerState, Endpoint, Health, Healthcheck, Listed, NetRow, NetworkSpec,
+    Reply, Report, Request, VolumeSpec, labels,
 };
 use std::alloc::Global;
 use std::test::Fail;
@@ -153,16 +154,28 @@ fn volume_spec(alloc: Global, name: &str) -> Result<VolumeSpec, Memory> {
 /// A request by its name and what it is about: an id by its last digit, or a name.
 fn request(alloc: Global, call: &str, first: &str, second: &str) -> Result<Request, Memory> {
     match call {
-        "list" => Ok(Request::ListContainers { project: text(alloc, first)? }),
+        "list" => Ok(Request::ListContainers {
+            project: text(alloc, first)?,
+        }),
         "create" => Ok(Request::Create {
             name: text(alloc, first)?,
             spec: spec(alloc, first, second)?,
         }),
-        "image" => Ok(Request::Image { name: text(alloc, first)? }),
-        "pull" => Ok(Request::Pull { name: text(alloc, first)? }),
-        "make volume" => Ok(Request::MakeVolume { spec: volume_spec(alloc, first)? }),
-        "remove volume" => Ok(Request::RemoveVolume { name: text(alloc, first)? }),
-        "make network" => Ok(Request::MakeNetwork { spec: network_spec(alloc, first)? }),
+        "image" => Ok(Request::Image {
+            name: text(alloc, first)?,
+        }),
+        "pull" => Ok(Request::Pull {
+            name: text(alloc, first)?,
+        }),
+        "make volume" => Ok(Request::MakeVolume {
+            spec: volume_spec(alloc, first)?,
+        }),
+        "remove volume" => Ok(Request::RemoveVolume {
+            name: text(alloc, first)?,
+        }),
+        "make network" => Ok(Request::MakeNetwork {
+            spec: network_spec(alloc, first)?,
+        }),
         "networks" => Ok(Request::ListNetworks),
         "volumes" => Ok(Request::ListVolumes),
         _ => request_on(alloc, call, id(alloc, first)?, second),
@@ -173,7 +186,10 @@ fn request_on(alloc: Global, call: &str, id_given: Text, second: &str) -> Result
     match call {
         "inspect" => Ok(Request::Inspect { id: id_given }),
         "start" => Ok(Request::Start { id: id_given }),
-        "stop" => Ok(Request::Stop { id: id_given, seconds: 10 }),
+        "stop" => Ok(Request::Stop {
+            id: id_given,
+            seconds: 10,
+        }),
         "remove" => Ok(Request::Remove { id: id_given }),
         "remove network" => Ok(Request::RemoveNetwork { id: id_given }),
         _ => Ok(Request::Connect {
@@ -187,19 +203,7 @@ fn request_on(alloc: Global, call: &str, id_given: Text, second: &str) -> Result
 /// A reply in a few words.
 fn words(alloc: Global, reply: &Reply) -> Result<String, Fail> {
     match reply {
-        Reply::Containers(rows) => {
-            let mut all = String::new(alloc);
-            for row in rows.as_slice() {
-                let name = &row.name;
-                let state = row.state;
-                write!(all, "{name} {state:?}")?;
-                for network in row.networks.as_slice() {
-                    write!(all, " {network}")?;
-                }
-                write!(all, ";")?;
-            }
-            Ok(all)
-        }
+        Reply::Containers(rows) => containers(alloc, rows.as_slice()),
         Reply::State(report) => {
             let state = report.state;
             let exit_code = report.exit_code;
@@ -209,21 +213,8 @@ fn words(alloc: Global, reply: &Reply) -> Result<String, Fail> {
         Reply::Made(id) => Ok(format!(in alloc; "made {id}")?),
         Reply::Done => Ok(String::from_str(alloc, "done")?),
         Reply::Already => Ok(String::from_str(alloc, "already")?),
-        Reply::Networks(rows) => {
-            let mut all = String::new(alloc);
-            for row in rows.as_slice() {
-                let name = &row.name;
-                write!(all, "{name};")?;
-            }
-            Ok(all)
-        }
-        Reply::Volumes(names) => {
-            let mut all = String::new(alloc);
-            for name in names.as_slice() {
-                write!(all, "{name};")?;
-            }
-            Ok(all)
-        }
+        Reply::Networks(rows) => networks(alloc, rows.as_slice()),
+        Reply::Volumes(names) => volumes(alloc, names.as_slice()),
         Reply::ImageId(id) => Ok(format!(in alloc; "image {id}")?),
         Reply::Pulled => Ok(String::from_str(alloc, "pulled")?),
         Reply::PullFailed(message) => Ok(format!(in alloc; "failed {message}")?),
@@ -231,65 +222,200 @@ fn words(alloc: Global, reply: &Reply) -> Result<String, Fail> {
     }
 }
 
+fn containers(alloc: Global, rows: &[Listed]) -> Result<String, Fail> {
+    let mut all = String::new(alloc);
+    for row in rows {
+        let name = &row.name;
+        let state = row.state;
+        write!(all, "{name} {state:?}")?;
+        for network in row.networks.as_slice() {
+            write!(all, " {network}")?;
+        }
+        write!(all, ";")?;
+    }
+    Ok(all)
+}
+
+fn networks(alloc: Global, rows: &[NetRow]) -> Result<String, Fail> {
+    let mut all = String::new(alloc);
+    for row in rows {
+        let name = &row.name;
+        write!(all, "{name};")?;
+    }
+    Ok(all)
+}
+
+fn volumes(alloc: Global, names: &[Text]) -> Result<String, Fail> {
+    let mut all = String::new(alloc);
+    for name in names {
+        write!(all, "{name};")?;
+    }
+    Ok(all)
+}
+
+/// Requests in order, each with its answer: a call, what it is about, and the words of the reply.
+const CALLS: [(&str, &str, &str, &str); 45] = [
+    ("list", "shop", "", ""),
+    ("image", "nginx:1.25", "", "404 not found"),
+    ("create", "shop-web-1", "", "404 not found"),
+    ("pull", "nginx:1.25", "", "pulled"),
+    (
+        "image",
+        "nginx:1.25",
+        "",
+        "image sha256:251ad31786bae2bdf8f9435a21b808b3ddba91ac4bf8d995c416368ed5881c7a",
+    ),
+    (
+        "create",
+        "shop-web-1",
+        "",
+        "made 0000000000000000000000000000000000000000000000000000000000000000",
+    ),
+    ("create", "shop-web-1", "", "409 conflict"),
+    ("create", "shop-web-2", "shop_default", "404 not found"),
+    ("inspect", "0", "", "Created 0 Absent"),
+    ("inspect", "1", "", "404 not found"),
+    ("start", "0", "", "done"),
+    ("inspect", "0", "", "Running 0 Starting"),
+    ("start", "0", "", "already"),
+    ("start", "1", "", "404 not found"),
+    ("remove", "0", "", "409 conflict"),
+    (
+        "make network",
+        "shop_default",
+        "",
+        "made 0000000000000000000000000000000000000000000000000000000000000001",
+    ),
+    (
+        "create",
+        "other-1",
+        "shop_default",
+        "made 0000000000000000000000000000000000000000000000000000000000000002",
+    ),
+    (
+        "make network",
+        "shop_back",
+        "",
+        "made 0000000000000000000000000000000000000000000000000000000000000003",
+    ),
+    ("connect", "1", "0", "done"),
+    ("connect", "1", "0", "403 forbidden"),
+    ("connect", "3", "0", "done"),
+    ("connect", "0", "0", "404 not found"),
+    ("connect", "1", "1", "404 not found"),
+    ("networks", "", "", "shop_default;shop_back;"),
+    (
+        "list",
+        "shop",
+        "",
+        "shop-web-1 Running shop_back shop_default;",
+    ),
+    ("remove network", "1", "", "403 forbidden"),
+    ("remove network", "0", "", "404 not found"),
+    ("make volume", "data", "", "done"),
+    ("make volume", "cache", "", "done"),
+    ("make volume", "data", "", "done"),
+    ("volumes", "", "", "data;cache;"),
+    ("remove volume", "data", "", "409 conflict"),
+    ("remove volume", "cache", "", "done"),
+    ("remove volume", "cache", "", "404 not found"),
+    ("stop", "0", "", "done"),
+    ("inspect", "0", "", "Exited 0 Starting"),
+    ("stop", "0", "", "already"),
+    ("stop", "1", "", "404 not found"),
+    ("remove", "0", "", "done"),
+    ("remove", "0", "", "404 not found"),
+    ("list", "shop", "", ""),
+    ("remove", "2", "", "done"),
+    ("remove network", "3", "", "done"),
+    ("networks", "", "", "shop_default;"),
+    ("volumes", "", "", "data;"),
+];
+
 /// Every request, answered well and refused, on one Engine from the first to the last.
 #[test]
 fn answers_every_request(rt: HostRuntime) -> Result<(), Fail> {
     let alloc = rt.alloc();
     let mut engine = MemoryEngine::fresh(alloc)?;
-    let nothing = "";
-    let table = [
-        ("list", "shop", "", nothing),
-        ("image", "nginx:1.25", "", "404 not found"),
-        ("create", "shop-web-1", "", "404 not found"),
-        ("pull", "nginx:1.25", "", "pulled"),
-        ("image", "nginx:1.25", "", "image sha256:251ad31786bae2bdf8f9435a21b808b3ddba91ac4bf8d995c416368ed5881c7a"),
-        ("create", "shop-web-1", "", "made 0000000000000000000000000000000000000000000000000000000000000000"),
-        ("create", "shop-web-1", "", "409 conflict"),
-        ("create", "shop-web-2", "shop_default", "404 not found"),
-        ("inspect", "0", "", "Created 0 Absent"),
-        ("inspect", "1", "", "404 not found"),
-        ("start", "0", "", "done"),
-        ("inspect", "0", "", "Running 0 Starting"),
-        ("start", "0", "", "already"),
-        ("start", "1", "", "404 not found"),
-        ("remove", "0", "", "409 conflict"),
-        ("make network", "shop_default", "", "made 0000000000000000000000000000000000000000000000000000000000000001"),
-        ("create", "other-1", "shop_default", "made 0000000000000000000000000000000000000000000000000000000000000002"),
-        ("make network", "shop_back", "", "made 0000000000000000000000000000000000000000000000000000000000000003"),
-        ("connect", "1", "0", "done"),
-        ("connect", "1", "0", "403 forbidden"),
-        ("connect", "3", "0", "done"),
-        ("connect", "0", "0", "404 not found"),
-        ("connect", "1", "1", "404 not found"),
-        ("networks", "", "", "shop_default;shop_back;"),
-        ("list", "shop", "", "shop-web-1 Running shop_back shop_default;"),
-        ("remove network", "1", "", "403 forbidden"),
-        ("remove network", "0", "", "404 not found"),
-        ("make volume", "data", "", "done"),
-        ("make volume", "cache", "", "done"),
-        ("make volume", "data", "", "done"),
-        ("volumes", "", "", "data;cache;"),
-        ("remove volume", "data", "", "409 conflict"),
-        ("remove volume", "cache", "", "done"),
-        ("remove volume", "cache", "", "404 not found"),
-        ("stop", "0", "", "done"),
-        ("inspect", "0", "", "Exited 0 Starting"),
-        ("stop", "0", "", "already"),
-        ("stop", "1", "", "404 not found"),
-        ("remove", "0", "", "done"),
-        ("remove", "0", "", "404 not found"),
-        ("list", "shop", "", nothing),
-        ("remove", "2", "", "done"),
-        ("remove network", "3", "", "done"),
-        ("networks", "", "", "shop_default;"),
-        ("volumes", "", "", "data;"),
-    ];
-    for (call, first, second, want) in table {
+    for (call, first, second, want) in CALLS {
         let request = request(alloc, call, first, second)?;
         let reply = engine.serve(alloc, &request)?;
         let got = words(alloc, &reply)?;
         assert_eq!(rt; got.as_str(), want, "{call} {first} {second}");
     }
+    Ok(())
+}
+
+/// An Engine with one created container.
+fn with_container(alloc: Global) -> Result<MemoryEngine, Memory> {
+    let mut engine = MemoryEngine::fresh(alloc)?;
+    for (call, first) in [("pull", "nginx:1.25"), ("create", "shop-web-1")] {
+        let _ = engine.serve(alloc, &request(alloc, call, first, "")?)?;
+    }
+    Ok(engine)
+}
+
+/// Puts the first container into a state.
+fn set_state(
+    alloc: Global,
+    engine: &mut MemoryEngine,
+    state: ContainerState,
+) -> Result<(), Memory> {
+    let id = id(alloc, "0")?;
+    let report = Report {
+        state,
+        exit_code: 0,
+        health: Health::Absent,
+    };
+    rows::set_report(alloc, &mut engine.engine.containers, &id, report);
+    Ok(())
+}
+
+/// What a start, a stop and a removal come to in each state.
+#[test]
+fn goes_by_the_state(rt: HostRuntime) -> Result<(), Fail> {
+    let alloc = rt.alloc();
+    let refused = "409 conflict";
+    for (state, start, stop, remove) in [
+        (ContainerState::Created, "done", "already", "done"),
+        (ContainerState::Running, "already", "done", refused),
+        (ContainerState::Paused, refused, "done", refused),
+        (ContainerState::Restarting, "already", "done", refused),
+        (ContainerState::Removing, refused, "already", "done"),
+        (ContainerState::Exited, "done", "already", "done"),
+        (ContainerState::Dead, refused, "already", "done"),
+    ] {
+        for (call, want) in [("start", start), ("stop", stop), ("remove", remove)] {
+            let mut engine = with_container(alloc)?;
+            set_state(alloc, &mut engine, state)?;
+            let reply = engine.serve(alloc, &request(alloc, call, "0", "")?)?;
+            let got = words(alloc, &reply)?;
+            assert_eq!(rt; got.as_str(), want, "{call} {state:?}");
+        }
+    }
+    Ok(())
+}
+
+fn use_up_ids(engine: &mut MemoryEngine) {
+    let _next = engine.engine.next;
+    engine.engine.next = u64::MAX;
+}
+
+/// Where the ids are used up nothing more is made, and what is refused is refused.
+#[test]
+fn runs_out_of_ids(rt: HostRuntime) -> Result<(), Fail> {
+    let alloc = rt.alloc();
+    let mut engine = with_container(alloc)?;
+    use_up_ids(&mut engine);
+    for (call, first) in [("create", "shop-web-2"), ("make network", "shop_default")] {
+        let request = request(alloc, call, first, "")?;
+        assert!(rt; engine.serve(alloc, &request).is_err(), "{call}");
+    }
+    let reply = engine.serve(alloc, &request(alloc, "create", "shop-web-1", "")?)?;
+    let got = words(alloc, &reply)?;
+    assert_eq!(rt; got.as_str(), "409 conflict");
+    assert_eq!(rt; engine.engine.containers.len(), 1);
+    assert_eq!(rt; engine.engine.networks.len(), 0);
     Ok(())
 }
 
@@ -311,7 +437,7 @@ fn pulls_what_the_catalogue_has(rt: HostRuntime) -> Result<(), Fail> {
 #[test]
 fn follows_its_script(rt: HostRuntime) -> Result<(), Fail> {
     let alloc = rt.alloc();
-    let mut engine = MemoryEngine::fresh(alloc)?;
+    let mut engine = with_container(alloc)?;
     for (name, change) in [
         ("shop-web-1", Change::Health(Health::Healthy)),
         ("shop-db-1", Change::Exit(1)),
@@ -321,9 +447,7 @@ fn follows_its_script(rt: HostRuntime) -> Result<(), Fail> {
         let container = text(alloc, name)?;
         engine.script.push(Tick { container, change })?;
     }
-    for (call, first) in [("pull", "nginx:1.25"), ("create", "shop-web-1"), ("start", "0")] {
-        let _ = engine.serve(alloc, &request(alloc, call, first, "")?)?;
-    }
+    let _ = engine.serve(alloc, &request(alloc, "start", "0", "")?)?;
     for want in [
         "Running 0 Healthy",
         "Running 0 Healthy",

@@ -1,18 +1,21 @@
-ghost use Rattle.std.specs.Prelude.{◌≡◌, MatchOption, [], ◌∷◌};
+ghost use Rattle.std.specs.Prelude.{◌≡◌, ◌<◌, [], ◌∷◌, Some, MatchOption, length};
+ghost use Rattle.std.specs.Prelude.{slice_get, slice_set};
+ghost use Rattle.engine_types.specs.declared.ContainerRow.{ContainerRow};
 ghost use Rattle.run_model.specs.EngineRules.{Drifts, IsSound};
-ghost use Rattle.memory_engine.specs.Ticking.{changed_report, is_running, later, ticked, ticked_by};
+ghost use Rattle.memory_engine.specs.Ticking.{changed_report, changed_row, later, ticked, ticked_by};
+ghost use Rattle.memory_engine.specs.Ticking.{is_running as is_running_state};
 
 use crate::rows;
 use crate::script::{Change, Tick};
 use crate::state::MemoryEngine;
-use engine_types::{ContainerState, Engine, Report};
+use engine_types::{ContainerRow, ContainerState, Engine, Report};
 use std::alloc::Global;
 use std::mem;
 use tree_base::{List, Text};
 
 impl MemoryEngine {
-    /// Applies the first tick of the script, if any, and uses it up. One for a container that isn't there or
-    /// isn't running changes nothing. No memory.
+    /// Applies the first tick of the script, if there is one, and uses it up. A tick for a container that
+    /// isn't there or doesn't run changes nothing. No memory.
     pub fn tick(&mut self)
         ensures engine { self.new.engine ≡ ticked self.old.engine self.old.script }
         ensures script { self.new.script ≡ later self.old.script }
@@ -33,16 +36,31 @@ fn apply(engine: &mut Engine, tick: Tick)
     ensures { engine.new ≡ ticked_by engine.old tick }
 {
     let Tick { container, change } = tick;
-    let Some(at) = rows::place_of_name(engine.containers.as_slice(), &container) else {
-        return;
-    };
-    let alloc = *container.into_string().allocator();
-    let Some(row) = engine.containers.get(at) else {
-        return;
-    };
-    if row.report.state == ContainerState::Running {
-        let report = changed(change, row.report);
-        rows::set_report_at(alloc, &mut engine.containers, at, report);
+    if let Some(at) = rows::place_of_name(engine.containers.as_slice(), &container) {
+        let alloc = *container.into_string().allocator();
+        change_at(alloc, &mut engine.containers, at, change);
+    }
+}
+
+/// Changes the container at a place, where it runs.
+fn change_at(alloc: Global, rows: &mut List<ContainerRow>, at: usize, change: Change)
+    requires { at < length rows.old }
+    ensures { (row : ContainerRow) → slice_get rows.old at ≡ Some row
+        → rows.new ≡ slice_set rows.old at (changed_row change row) }
+{
+    let report = rows.as_slice()[at].report;
+    if is_running(report.state) {
+        rows::set_report_at(alloc, rows, at, changed(change, report));
+    }
+}
+
+/// Whether a container runs.
+fn is_running(state: ContainerState) -> bool
+    ensures { result ≡ is_running_state state }
+{
+    match state {
+        ContainerState::Running => true,
+        _ => false,
     }
 }
 
@@ -66,13 +84,17 @@ fn changed(change: Change, report: Report) -> Report
 
 /// Takes the first tick out.
 fn take_first(script: &mut List<Tick>) -> Option<Tick>
-    ensures { MatchOption result ((script.old ≡ []) × (script.new ≡ [])) (λ tick. script.old ≡ tick ∷ script.new) }
+    ensures { MatchOption result ((script.old ≡ []) × (script.new ≡ []))
+        (λ tick. script.old ≡ tick ∷ script.new) }
 {
     let last = script.pop()?;
     let Tick { container, change } = last;
     let name = container.into_string();
     let alloc = *name.allocator();
-    let last = Tick { container: Text::from_string(name), change };
+    let last = Tick {
+        container: Text::from_string(name),
+        change,
+    };
     let mut ticks = mem::replace(script, List::new(alloc)).into_vec();
     if ticks.is_empty() {
         return Some(last);

@@ -1,4 +1,4 @@
-ghost use Rattle.std.specs.Prelude.{◌≡◌, ◌==◌, IfOk, OnErr, not, filter};
+ghost use Rattle.std.specs.Prelude.{◌≡◌, ◌==◌, IfOk, OnErr, OnOk, not, filter};
 ghost use Rattle.std.specs.List.{before_first};
 ghost use Rattle.std.specs.Str.{bytes_eq};
 ghost use Rattle.run_model.specs.EngineRules.{binds_volume};
@@ -20,7 +20,7 @@ pub fn list(alloc: Global, engine: &Engine) -> Result<Reply, Memory>
 /// Makes a volume, where it isn't there yet.
 pub fn make(alloc: Global, engine: &mut Engine, name: &Text) -> Result<Reply, Memory>
     ensures reply { IfOk result (λ reply. reply ≡ Reply.Done) }
-    ensures ok { IfOk result (λ _. engine.new ≡ with_volume engine.old name.now) }
+    ensures ok { OnOk result (engine.new ≡ with_volume engine.old name.now) }
     ensures err { OnErr result (engine.new ≡ engine.old) }
 {
     if look_ups::is_volume(engine, name) {
