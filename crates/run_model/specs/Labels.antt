@@ -11,12 +11,12 @@ use Rattle.run_model.specs.EngineRules.{has_label, is_of_project}
 
 -- whether the service label names a service
 abbrev pub names_service : List ℕ → List Var → Bool
-names_service service labels = has_label labels the.service service
+names_service service labels = has_label labels the.service_label service
 
 -- whether the service label and the number label, as a text, name a slot
 abbrev pub names_slot : Slot → List Var → Bool
 names_slot slot labels =
-    names_service slot.service labels && has_label labels the.number (decimal slot.number)
+    names_service slot.service labels && has_label labels the.number_label (decimal slot.number)
 
 -- whether labels are those of a container of the project and of the slot
 abbrev pub is_of_slot : List ℕ → Slot → List Var → Bool
@@ -41,5 +41,5 @@ is_lost_state _ = false
 abbrev pub agrees : List ℕ → Slot → Option (List ℕ) → List Var → List ℕ → ContainerState → Bool
 agrees project slot None labels image_id state = false
 agrees project slot (Some image) labels image_id state =
-    is_of_slot project slot labels && has_label labels the.hash slot.hash && bytes_eq image image_id
+    is_of_slot project slot labels && has_label labels the.hash_label slot.hash && bytes_eq image image_id
     && not (is_lost_state state)

@@ -157,7 +157,7 @@ network_fault declared purpose rows network =
     of [] = if network.external && is_up purpose then Some (SeenFault.ExternalMissing Kind.Network network.name) else None
     of (row ∷ []) =
         if network.external then None
-        else if has_label row.labels the.project declared.project then None
+        else if has_label row.labels the.project_label declared.project then None
         else Some (SeenFault.ForeignNetwork network.name row.id)
     of (row ∷ other ∷ rest) = Some (SeenFault.NetworkTwice network.name row.id other.id)
 
