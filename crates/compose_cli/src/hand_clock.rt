@@ -1,9 +1,9 @@
-ghost use Rattle.std.specs.Prelude.{◌≡◌, ◌<◌, ◌^◌};
+ghost use Rattle.std.specs.Prelude.{◌≡◌, ◌<◌, ◌≤◌, ◌^◌};
 ghost use Rattle.outside_api.specs.Clock.{new_clock, after_now, after_pause, after_asked};
 
 /// The clock of a hand in memory: it begins at 0 and rises by the pauses. It counts its readings and pauses,
 /// and how often it was asked whether to stop.
-#[derive(Debug, Clone, Copy)]
+#[derive(Debug, Drop)]
 pub struct HandClock {
     /// The time in milliseconds.
     pub time: u64,
@@ -13,6 +13,7 @@ pub struct HandClock {
     pub paused: u64,
     pub looks: u64,
     pub yeses: u64,
+    pub ghost counted: { yeses ≤ looks },
 }
 
 impl HandClock {
@@ -57,12 +58,12 @@ impl HandClock {
 
     /// Counts a look whether to stop, and its answer.
     pub fn look(&mut self, answer: bool)
-        requires looks { self.old.looks < 2 ^ 62 }
+        requires { self.old.looks < 2 ^ 62 }
         ensures { counts_of self.new ≡ after_asked (counts_of self.old) answer }
     {
         self.looks += 1;
         if answer {
-            self.yeses = self.yeses.saturating_add(1);
+            self.yeses += 1;
         }
     }
 }

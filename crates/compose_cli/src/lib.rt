@@ -34,3 +34,6 @@ pub use memory_hand::MemoryHand;
 pub use memory_plug::MemoryPlug;
 pub use refusal::{LoadRefusal, Part, ProjectRefusal, Refusal, Unbuilt};
 pub use top::serial_main;
+
+#[cfg(test)]
+mod tests;
