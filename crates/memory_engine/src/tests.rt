@@ -332,26 +332,36 @@ const CALLS: [(&str, &str, &str, &str); 45] = [
     ("volumes", "", "", "data;"),
 ];
 
+/// The words of the reply to a request.
+fn said(
+    alloc: Global,
+    engine: &mut MemoryEngine,
+    call: &str,
+    first: &str,
+    second: &str,
+) -> Result<String, Fail> {
+    let request = request(alloc, call, first, second)?;
+    let reply = engine.serve(alloc, &request)?;
+    words(alloc, &reply)
+}
+
 /// Every request, answered well and refused, on one Engine from the first to the last.
 #[test]
 fn answers_every_request(rt: HostRuntime) -> Result<(), Fail> {
     let alloc = rt.alloc();
     let mut engine = MemoryEngine::fresh(alloc)?;
     for (call, first, second, want) in CALLS {
-        let request = request(alloc, call, first, second)?;
-        let reply = engine.serve(alloc, &request)?;
-        let got = words(alloc, &reply)?;
+        let got = said(alloc, &mut engine, call, first, second)?;
         assert_eq!(rt; got.as_str(), want, "{call} {first} {second}");
     }
     Ok(())
 }
 
 /// An Engine with one created container.
-fn with_container(alloc: Global) -> Result<MemoryEngine, Memory> {
+fn with_container(alloc: Global) -> Result<MemoryEngine, Fail> {
     let mut engine = MemoryEngine::fresh(alloc)?;
-    for (call, first) in [("pull", "nginx:1.25"), ("create", "shop-web-1")] {
-        let _ = engine.serve(alloc, &request(alloc, call, first, "")?)?;
-    }
+    let _ = said(alloc, &mut engine, "pull", "nginx:1.25", "")?;
+    let _ = said(alloc, &mut engine, "create", "shop-web-1", "")?;
     Ok(engine)
 }
 
@@ -371,27 +381,39 @@ fn set_state(
     Ok(())
 }
 
+/// The words of the reply to a request on a container in a state.
+fn said_in(alloc: Global, state: ContainerState, call: &str) -> Result<String, Fail> {
+    let mut engine = with_container(alloc)?;
+    set_state(alloc, &mut engine, state)?;
+    said(alloc, &mut engine, call, "0", "")
+}
+
 /// What a start, a stop and a removal come to in each state.
 #[test]
 fn goes_by_the_state(rt: HostRuntime) -> Result<(), Fail> {
     let alloc = rt.alloc();
-    let refused = "409 conflict";
     for (state, start, stop, remove) in [
         (ContainerState::Created, "done", "already", "done"),
-        (ContainerState::Running, "already", "done", refused),
-        (ContainerState::Paused, refused, "done", refused),
-        (ContainerState::Restarting, "already", "done", refused),
-        (ContainerState::Removing, refused, "already", "done"),
+        (ContainerState::Running, "already", "done", "409 conflict"),
+        (
+            ContainerState::Paused,
+            "409 conflict",
+            "done",
+            "409 conflict",
+        ),
+        (
+            ContainerState::Restarting,
+            "already",
+            "done",
+            "409 conflict",
+        ),
+        (ContainerState::Removing, "409 conflict", "already", "done"),
         (ContainerState::Exited, "done", "already", "done"),
-        (ContainerState::Dead, refused, "already", "done"),
+        (ContainerState::Dead, "409 conflict", "already", "done"),
     ] {
-        for (call, want) in [("start", start), ("stop", stop), ("remove", remove)] {
-            let mut engine = with_container(alloc)?;
-            set_state(alloc, &mut engine, state)?;
-            let reply = engine.serve(alloc, &request(alloc, call, "0", "")?)?;
-            let got = words(alloc, &reply)?;
-            assert_eq!(rt; got.as_str(), want, "{call} {state:?}");
-        }
+        assert_eq!(rt; said_in(alloc, state, "start")?.as_str(), start);
+        assert_eq!(rt; said_in(alloc, state, "stop")?.as_str(), stop);
+        assert_eq!(rt; said_in(alloc, state, "remove")?.as_str(), remove);
     }
     Ok(())
 }
@@ -407,12 +429,9 @@ fn runs_out_of_ids(rt: HostRuntime) -> Result<(), Fail> {
     let alloc = rt.alloc();
     let mut engine = with_container(alloc)?;
     use_up_ids(&mut engine);
-    for (call, first) in [("create", "shop-web-2"), ("make network", "shop_default")] {
-        let request = request(alloc, call, first, "")?;
-        assert!(rt; engine.serve(alloc, &request).is_err(), "{call}");
-    }
-    let reply = engine.serve(alloc, &request(alloc, "create", "shop-web-1", "")?)?;
-    let got = words(alloc, &reply)?;
+    assert!(rt; said(alloc, &mut engine, "create", "shop-web-2", "").is_err());
+    assert!(rt; said(alloc, &mut engine, "make network", "shop_default", "").is_err());
+    let got = said(alloc, &mut engine, "create", "shop-web-1", "")?;
     assert_eq!(rt; got.as_str(), "409 conflict");
     assert_eq!(rt; engine.engine.containers.len(), 1);
     assert_eq!(rt; engine.engine.networks.len(), 0);
@@ -426,18 +445,14 @@ fn pulls_what_the_catalogue_has(rt: HostRuntime) -> Result<(), Fail> {
     let mut engine = MemoryEngine::fresh(alloc)?;
     engine.catalogue = Catalogue::Only(one(text(alloc, "redis:7")?, alloc)?);
     for (name, want) in [("nginx:1.25", "404 not found"), ("redis:7", "pulled")] {
-        let reply = engine.serve(alloc, &request(alloc, "pull", name, "")?)?;
-        let got = words(alloc, &reply)?;
+        let got = said(alloc, &mut engine, "pull", name, "")?;
         assert_eq!(rt; got.as_str(), want, "{name}");
     }
     Ok(())
 }
 
-/// The script changes running containers alone, and each tick is used up.
-#[test]
-fn follows_its_script(rt: HostRuntime) -> Result<(), Fail> {
-    let alloc = rt.alloc();
-    let mut engine = with_container(alloc)?;
+fn script(alloc: Global) -> Result<List<Tick>, Memory> {
+    let mut script = List::new(alloc);
     for (name, change) in [
         ("shop-web-1", Change::Health(Health::Healthy)),
         ("shop-db-1", Change::Exit(1)),
@@ -445,9 +460,18 @@ fn follows_its_script(rt: HostRuntime) -> Result<(), Fail> {
         ("shop-web-1", Change::Exit(3)),
     ] {
         let container = text(alloc, name)?;
-        engine.script.push(Tick { container, change })?;
+        script.push(Tick { container, change })?;
     }
-    let _ = engine.serve(alloc, &request(alloc, "start", "0", "")?)?;
+    Ok(script)
+}
+
+/// The script changes running containers alone, and each tick is used up.
+#[test]
+fn follows_its_script(rt: HostRuntime) -> Result<(), Fail> {
+    let alloc = rt.alloc();
+    let mut engine = with_container(alloc)?;
+    engine.script = script(alloc)?;
+    let _ = said(alloc, &mut engine, "start", "0", "")?;
     for want in [
         "Running 0 Healthy",
         "Running 0 Healthy",
@@ -456,8 +480,7 @@ fn follows_its_script(rt: HostRuntime) -> Result<(), Fail> {
         "Exited 137 Healthy",
     ] {
         engine.tick();
-        let reply = engine.serve(alloc, &request(alloc, "inspect", "0", "")?)?;
-        let got = words(alloc, &reply)?;
+        let got = said(alloc, &mut engine, "inspect", "0", "")?;
         assert_eq!(rt; got.as_str(), want);
     }
     assert!(rt; engine.script.is_empty());

@@ -10,7 +10,7 @@ use Rattle.memory_engine.proofs.tests.set_state.Goals as goal
 pub invariant_of-engine : goal.invariant_of-engine
 invariant_of-engine c =
     let report : Report = record { state = c.args.state; exit_code = pos 0; health = Health.Absent } in record {
-  kept = rw c.set_report.ensures (keeps_changed c.args.engine.now.engine
-      (λ (row : ContainerRow). bytes_eq row.id c.in_ok-id.id) (λ (row : ContainerRow). record row { report = report })
-      (λ _. refl) (λ _. refl) (λ row there. there) c.args.engine.now.kept);
-}
+      kept = rw c.set_report.ensures (keeps_changed c.args.engine.now.engine
+          (λ (row : ContainerRow). bytes_eq row.id c.in_ok-id.id) (λ (row : ContainerRow). record row { report = report })
+          (λ _. refl) (λ _. refl) (λ row there. there) c.args.engine.now.kept);
+    }
