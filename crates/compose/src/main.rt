@@ -29,14 +29,7 @@ fn run(rt: &HostRuntime) -> Result<u8, Memory> {
     let mut out = OutSink::new(rt.stdout());
     let mut err = OutSink::new(rt.stderr());
     let ended = serial_main(
-        alloc,
-        &words,
-        &variables,
-        &directory,
-        &mut files,
-        &mut plug,
-        &mut out,
-        &mut err,
+        alloc, &words, &variables, &directory, &mut files, &mut plug, &mut out, &mut err,
     );
     Ok(ended.status)
 }

@@ -65,7 +65,11 @@ fn push_label(alloc: Global, pairs: &mut Pairs, name: &str, value: &str) -> Resu
     })
 }
 
-fn container_spec(alloc: Global, project: &Project, labels: Pairs) -> Result<ContainerSpec, Memory> {
+fn container_spec(
+    alloc: Global,
+    project: &Project,
+    labels: Pairs,
+) -> Result<ContainerSpec, Memory> {
     Ok(ContainerSpec {
         labels,
         platform: None,

@@ -105,7 +105,11 @@ fn seen_words(alloc: Global, fault: &SeenFault) -> Result<Text, Memory>
         SeenFault::PullFailed { image, message } => pull_words(alloc, image, message),
         SeenFault::Lost { request, cause } => lost_words(alloc, request, *cause),
         SeenFault::NotSent { request } => not_sent_words(alloc, request),
-        SeenFault::NetworkTwice { name, first, second } => twice_words(alloc, name, first, second),
+        SeenFault::NetworkTwice {
+            name,
+            first,
+            second,
+        } => twice_words(alloc, name, first, second),
         SeenFault::ForeignNetwork { name, id } => foreign_words(alloc, name, id),
         SeenFault::ExternalMissing { kind, name } => missing_words(alloc, *kind, name),
         SeenFault::NeedsBuild { service } => after_text(alloc, service, " needs a build"),
@@ -197,7 +201,12 @@ fn reply_words(alloc: Global, request: &Request, reply: &Reply) -> Result<Text, 
     }
 }
 
-fn refused_words(alloc: Global, request: &Request, status: u16, message: &str) -> Result<Text, Memory>
+fn refused_words(
+    alloc: Global,
+    request: &Request,
+    status: u16,
+    message: &str,
+) -> Result<Text, Memory>
     ensures { IfOk result (λ words. words ≡ refused_words request.now status message.now) }
 {
     let request = request_words(alloc, request)?;

@@ -9,12 +9,10 @@ ghost use Rattle.compose_cli.specs.declared.refusal.Refusal.{Refusal};
 ghost use Rattle.compose_cli.specs.declared.refusal.LoadRefusal.{LoadRefusal};
 ghost use Rattle.compose_cli.specs.declared.refusal.Unbuilt.{Unbuilt};
 
-use crate::directory;
 use crate::one_service::read_one_service;
 use crate::project::Project;
-use crate::project_name;
 use crate::refusal::{LoadRefusal, ProjectRefusal, Refusal, Unbuilt};
-use crate::words;
+use crate::{directory, project_name, words};
 use outside_api::{FileAnswer, Files};
 use std::alloc::Global;
 use tree_base::{List, Memory, Place, Text};

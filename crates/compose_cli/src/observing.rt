@@ -1,5 +1,6 @@
 use engine_types::{
-    Declared, Exchange, ImageRow, Listed, Observed, Outcome, Reply, Request, Seen, SeenEnd, SeenFault,
+    Declared, Exchange, ImageRow, Listed, Observed, Outcome, Reply, Request, Seen, SeenEnd,
+    SeenFault,
 };
 use outside_api::Hand;
 use std::alloc::Global;
@@ -105,10 +106,12 @@ fn list_containers<H: Hand>(
     let project = or_fault(project.copy(alloc))?;
     or_fault(ask(alloc, hand, Request::ListContainers { project }, exchanges))?;
     match exchanges.as_slice().last() {
-        Some(Exchange {
-            outcome: Outcome::Answered(Reply::Containers(rows)),
-            ..
-        }) => or_fault(distinct(alloc, rows.as_slice())),
+        Some(
+            Exchange {
+                outcome: Outcome::Answered(Reply::Containers(rows)),
+                ..
+            },
+        ) => or_fault(distinct(alloc, rows.as_slice())),
         _ => Err(fault_of(alloc, exchanges)),
     }
 }
@@ -154,14 +157,18 @@ fn look_for<H: Hand>(
     let name = or_fault(image.copy(alloc))?;
     or_fault(ask(alloc, hand, Request::Image { name }, exchanges))?;
     match exchanges.as_slice().last() {
-        Some(Exchange {
-            outcome: Outcome::Answered(Reply::ImageId(id)),
-            ..
-        }) => Ok(Some(or_fault(id.copy(alloc))?)),
-        Some(Exchange {
-            outcome: Outcome::Answered(Reply::Refused { status: 404, .. }),
-            ..
-        }) => Ok(None),
+        Some(
+            Exchange {
+                outcome: Outcome::Answered(Reply::ImageId(id)),
+                ..
+            },
+        ) => Ok(Some(or_fault(id.copy(alloc))?)),
+        Some(
+            Exchange {
+                outcome: Outcome::Answered(Reply::Refused { status: 404, .. }),
+                ..
+            },
+        ) => Ok(None),
         _ => Err(fault_of(alloc, exchanges)),
     }
 }
@@ -175,14 +182,18 @@ fn pull<H: Hand>(
     let name = or_fault(image.copy(alloc))?;
     or_fault(ask(alloc, hand, Request::Pull { name }, exchanges))?;
     match exchanges.as_slice().last() {
-        Some(Exchange {
-            outcome: Outcome::Answered(Reply::Pulled),
-            ..
-        }) => Ok(()),
-        Some(Exchange {
-            outcome: Outcome::Answered(Reply::PullFailed(message)),
-            ..
-        }) => Err(or_fault(pull_failed(alloc, image, message))?),
+        Some(
+            Exchange {
+                outcome: Outcome::Answered(Reply::Pulled),
+                ..
+            },
+        ) => Ok(()),
+        Some(
+            Exchange {
+                outcome: Outcome::Answered(Reply::PullFailed(message)),
+                ..
+            },
+        ) => Err(or_fault(pull_failed(alloc, image, message))?),
         _ => Err(fault_of(alloc, exchanges)),
     }
 }

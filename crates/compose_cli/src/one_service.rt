@@ -170,9 +170,7 @@ fn are_image_bytes(bytes: &[u8]) -> bool
 fn is_null_word(word: &[u8]) -> bool
     ensures { result ≡ is_null_word word.now }
 {
-    word == b"null".as_slice()
-        || word == b"Null".as_slice()
-        || word == b"NULL".as_slice()
+    word == b"null".as_slice() || word == b"Null".as_slice() || word == b"NULL".as_slice()
 }
 
 fn is_letter_or_digit(byte: u8) -> bool

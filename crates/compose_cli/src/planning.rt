@@ -14,7 +14,9 @@ pub(crate) fn plan_up(alloc: Global, declared: &Declared, seen: &Seen) -> Result
     for (at, slot) in declared.slots.as_slice().iter().enumerate() {
         if kept(declared, slot, seen).is_none() {
             let needs = removals_before(alloc, actions.as_slice(), declared, slot, seen)?;
-            let kind = ActionKind::CreateSlot { slot: as_number(at) };
+            let kind = ActionKind::CreateSlot {
+                slot: as_number(at),
+            };
             actions.push(Action { kind, needs })?;
         }
     }
@@ -34,7 +36,11 @@ pub(crate) fn as_number(at: usize) -> u32 {
     u32::try_from(at).unwrap_or(u32::MAX)
 }
 
-fn push_replacement(alloc: Global, actions: &mut List<Action>, container: u64) -> Result<(), Memory> {
+fn push_replacement(
+    alloc: Global,
+    actions: &mut List<Action>,
+    container: u64,
+) -> Result<(), Memory> {
     let stop = as_number(actions.len());
     let kind = ActionKind::StopContainer { container };
     let needs = List::new(alloc);

@@ -41,7 +41,11 @@ fn goes_on(name: &Text, character: u8) -> bool
 fn lower(byte: u8) -> u8
     ensures { result ≡ lower byte }
 {
-    if byte.is_ascii_uppercase() { byte + 32 } else { byte }
+    if byte.is_ascii_uppercase() {
+        byte + 32
+    } else {
+        byte
+    }
 }
 
 fn is_mark(byte: u8) -> bool

@@ -10,7 +10,9 @@ pub(crate) fn report(alloc: Global, setup: &Setup<'_>, journal: &[Entry]) -> Res
     for entry in journal {
         match entry {
             Entry::Claim { action, .. } => claimed = Some(*action),
-            Entry::Ended { outcome, .. } if is_well(outcome) => push_line(&mut text, setup, claimed)?,
+            Entry::Ended { outcome, .. } if is_well(outcome) => push_line(
+                &mut text, setup, claimed,
+            )?,
             _ => (),
         }
     }
@@ -38,7 +40,11 @@ fn container_name<'a>(setup: &Setup<'a>, action: &Action) -> &'a str {
                 None => "",
             }
         }
-        ActionKind::CreateSlot { slot } | ActionKind::StartSlot { slot } => match setup.declared.slots.get(slot as usize) {
+        ActionKind::CreateSlot { slot } | ActionKind::StartSlot { slot } => match setup
+            .declared
+            .slots
+            .get(slot as usize)
+        {
             Some(slot) => slot.name.as_str(),
             None => "",
         },

@@ -3,7 +3,10 @@ ghost use Rattle.compose_cli.specs.Ends.{IsOfRun};
 
 use crate::planning::{as_number, kept};
 use crate::refusal::Refusal;
-use engine_types::{Action, ActionKind, Declared, Entry, Listed, Outcome, Plan, Reply, Request, Seen, Slot, label, labels};
+use engine_types::{
+    Action, ActionKind, Declared, Entry, Listed, Outcome, Plan, Reply, Request, Seen, Slot, label,
+    labels,
+};
 use outside_api::Hand;
 use std::alloc::Global;
 use tree_base::{Memory, ReservedList, Text, TryCopy};
@@ -75,7 +78,13 @@ fn make_all<H: Hand>(
         let standing = if is_blocked(action, standings.as_slice()) {
             Standing::Blocked
         } else {
-            let request = request_of(alloc, setup, action, standings.as_slice(), journal.as_slice())?;
+            let request = request_of(
+                alloc,
+                setup,
+                action,
+                standings.as_slice(),
+                journal.as_slice(),
+            )?;
             let kept = request.copy(alloc)?;
             let standing = make(alloc, hand, as_number(at), request, journal)?;
             if standing == Standing::Badly && first.is_none() {
@@ -93,7 +102,12 @@ fn refusal_of(alloc: Global, request: Request, entry: Option<&Entry>) -> Refusal
     ensures { IsOfRun (Some result) }
 {
     match entry {
-        Some(Entry::Ended { outcome: Outcome::Memory, .. }) => Refusal::Memory,
+        Some(
+            Entry::Ended {
+                outcome: Outcome::Memory,
+                ..
+            },
+        ) => Refusal::Memory,
         Some(Entry::Ended { outcome, .. }) => match outcome.copy(alloc) {
             Ok(outcome) => Refusal::Request { request, outcome },
             Err(_) => Refusal::Memory,
@@ -158,7 +172,14 @@ fn request_of(
         }
         ActionKind::CreateSlot { slot } => create(alloc, slot_at(setup, slot)?),
         ActionKind::StartSlot { slot } => {
-            let id = container_id(alloc, setup, slot_at(setup, slot)?, action, standings, journal)?;
+            let id = container_id(
+                alloc,
+                setup,
+                slot_at(setup, slot)?,
+                action,
+                standings,
+                journal,
+            )?;
             Ok(Request::Start { id })
         }
         _ => Err(Memory),
@@ -208,7 +229,13 @@ fn container_id(
     }
     for need in start.needs.as_slice() {
         if let Some(Standing::Well(entry)) = standings.get(*need as usize) {
-            if let Some(Entry::Ended { outcome: Outcome::Answered(Reply::Made(id)), .. }) = journal.get(*entry) {
+            if let Some(
+                Entry::Ended {
+                    outcome: Outcome::Answered(Reply::Made(id)),
+                    ..
+                },
+            ) = journal.get(*entry)
+            {
                 return id.copy(alloc);
             }
         }

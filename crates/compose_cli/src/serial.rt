@@ -71,14 +71,32 @@ fn run_seen<H: Hand>(
     ensures { IfOk result (λ ran. IsOfRun ran.1) }
 {
     let seen = match journal.get(0) {
-        Some(Entry::Seen(Observed { end: SeenEnd::Good(seen), .. })) => seen.copy(alloc)?,
-        Some(Entry::Seen(Observed { end: SeenEnd::Bad(fault), .. })) => {
+        Some(
+            Entry::Seen(
+                Observed {
+                    end: SeenEnd::Good(seen),
+                    ..
+                },
+            ),
+        ) => seen.copy(alloc)?,
+        Some(
+            Entry::Seen(
+                Observed {
+                    end: SeenEnd::Bad(fault),
+                    ..
+                },
+            ),
+        ) => {
             return Ok((Text::new(alloc), Some(seen_refusal(alloc, fault)?)));
         }
         _ => return Err(Memory),
     };
     let plan = plan_up(alloc, declared, &seen)?;
-    let setup = Setup { declared, seen: &seen, plan: &plan };
+    let setup = Setup {
+        declared,
+        seen: &seen,
+        plan: &plan,
+    };
     let refusal = run(alloc, hand, &setup, journal);
     let report = report(alloc, &setup, journal.as_slice())?;
     Ok((report, refusal))

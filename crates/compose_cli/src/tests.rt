@@ -6,8 +6,7 @@ use std::alloc::Global;
 use std::test::Fail;
 use tree_base::{Env, List, Memory, Text, TextMap};
 
-const ONE_SERVICE: &str =
-    "services:\n  web:\n    image: nginx:1.25\n    network_mode: none\n";
+const ONE_SERVICE: &str = "services:\n  web:\n    image: nginx:1.25\n    network_mode: none\n";
 
 /// What a call ended with and wrote.
 #[derive(Drop)]
@@ -41,14 +40,15 @@ fn call(
     directory: &str,
     files: &mut MemoryFiles,
     plug: &mut MemoryPlug,
-) -> Result<Called, Memory>
-{
+) -> Result<Called, Memory> {
     let words = texts(alloc, words)?;
     let env = Env::new(alloc);
     let directory = Text::from_str(alloc, directory)?;
     let mut out = MemorySink::new(alloc, 4096, List::new(alloc))?;
     let mut err = MemorySink::new(alloc, 4096, List::new(alloc))?;
-    let ended = serial_main(alloc, &words, &env, &directory, files, plug, &mut out, &mut err);
+    let ended = serial_main(
+        alloc, &words, &env, &directory, files, plug, &mut out, &mut err,
+    );
     Ok(Called { ended, out, err })
 }
 
@@ -91,7 +91,14 @@ fn one_service_comes_up(rt: HostRuntime) -> Result<(), Fail> {
     }
     let hands = called.ended.hands.as_slice();
     assert_eq!(rt; hands.len(), 1);
-    let verbs = ["ListContainers", "Image", "Pull", "Image", "Create", "Start"];
+    let verbs = [
+        "ListContainers",
+        "Image",
+        "Pull",
+        "Image",
+        "Create",
+        "Start",
+    ];
     assert_eq!(rt; hands[0].log().len(), verbs.len());
     for (exchange, verb) in hands[0].log().iter().zip(verbs) {
         assert_eq!(rt; verb_of(&exchange.request), verb);

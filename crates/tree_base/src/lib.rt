@@ -11,6 +11,8 @@ mod memory;
 mod place;
 mod reserved_list;
 mod size;
+#[cfg(test)]
+mod tests;
 mod text;
 mod text_map;
 mod tree;

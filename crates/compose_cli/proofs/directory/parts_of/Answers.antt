@@ -16,7 +16,7 @@ pub returns : goal.returns
 returns c =
     let steps = c.as_slice-step-items.result.now in
     let whole : take c.loop-step.step-index (map (λ part. part.now) steps) ≡ map (λ part. part.now) steps =
-        take_all c.loop-step.step-index (map (λ part. part.now) steps) (rw (length-map steps (λ part. part.now)) c.loop-step-test.false) in
+    take_all c.loop-step.step-index (map (λ part. part.now) steps) (rw (length-map steps (λ part. part.now)) c.loop-step-test.false) in
     let split : map (λ part. part.now) c.in_ok-steps.steps.items ≡ slice_split (λ b. b == 47) c.args.directory.now =
-        rw c.in_ok-steps.was at (map_from_collect _ c.collect.ensures.ran (YieldsList-from_str_split 47 c.args.directory.now (omega arith) (c.split.ensures.text ∙ c.as_str.ensures.value) c.split.ensures.has_more c.split.ensures.pattern)) in
+    rw c.in_ok-steps.was at (map_from_collect _ c.collect.ensures.ran (YieldsList-from_str_split 47 c.args.directory.now (omega arith) (c.split.ensures.text ∙ c.as_str.ensures.value) c.split.ensures.has_more c.split.ensures.pattern)) in
     c.loop-step.invariant ∙ ap (fold after_part []) (whole ∙ ap (map (λ part. part.now)) c.as_slice-step-items.ensures.value ∙ split)
