@@ -111,3 +111,122 @@ fn one_service_comes_up(rt: HostRuntime) -> Result<(), Fail> {
     assert_eq!(rt; hands[0].engine.engine.containers.len(), 1);
     Ok(())
 }
+
+/// A call that is refused: its words, working directory, file, reads that fail, status and line.
+#[derive(Drop)]
+struct Refused {
+    words: &'static [&'static str],
+    directory: &'static str,
+    path: &'static str,
+    text: &'static str,
+    fails: &'static [u64],
+    status: u8,
+    line: &'static str,
+}
+
+const UP: &[&str] = &["--memory", "up"];
+
+const REFUSED: [Refused; 8] = [
+    Refused {
+        words: &[],
+        directory: "/w/shop",
+        path: "/w/shop/compose.yaml",
+        text: ONE_SERVICE,
+        fails: &[],
+        status: 1,
+        line: "compose: not built: words\n",
+    },
+    Refused {
+        words: &["up", "--memory"],
+        directory: "/w/shop",
+        path: "/w/shop/compose.yaml",
+        text: ONE_SERVICE,
+        fails: &[],
+        status: 1,
+        line: "compose: not built: words\n",
+    },
+    Refused {
+        words: UP,
+        directory: "/w/shop",
+        path: "/w/shop/compose.yaml",
+        text: "",
+        fails: &[],
+        status: 2,
+        line: "compose: /w/shop/compose.yaml:1:1: not built\n",
+    },
+    Refused {
+        words: UP,
+        directory: "/w/x/.././shop/",
+        path: "/w/shop/compose.yaml",
+        text: "services:\n  web:\n    image: null\n    network_mode: none\n",
+        fails: &[],
+        status: 2,
+        line: "compose: /w/shop/compose.yaml:3:1: not built\n",
+    },
+    Refused {
+        words: UP,
+        directory: "/w/shop",
+        path: "/w/shop/compose.yaml",
+        text: "services:\n  web:\n    image: a\n    network_mode: none\n\n",
+        fails: &[],
+        status: 2,
+        line: "compose: /w/shop/compose.yaml:5:1: not built\n",
+    },
+    Refused {
+        words: UP,
+        directory: "/w/shop",
+        path: "/w/compose.yaml",
+        text: ONE_SERVICE,
+        fails: &[],
+        status: 2,
+        line: "compose: /w/shop/compose.yaml: NotFound\n",
+    },
+    Refused {
+        words: UP,
+        directory: "/w/shop",
+        path: "/w/shop/compose.yaml",
+        text: ONE_SERVICE,
+        fails: &[1],
+        status: 7,
+        line: "compose: /w/shop/compose.yaml: ReadFault\n",
+    },
+    Refused {
+        words: UP,
+        directory: "/",
+        path: "/compose.yaml",
+        text: ONE_SERVICE,
+        fails: &[],
+        status: 2,
+        line: "compose: bad project name: \n",
+    },
+];
+
+#[test]
+fn refusals_send_nothing(rt: HostRuntime) -> Result<(), Fail> {
+    let alloc = rt.alloc();
+    for case in REFUSED {
+        let mut files = one_file(alloc, case.path, case.text, case.fails)?;
+        let mut plug = MemoryPlug::new(MemoryEngine::fresh(alloc)?, 1);
+        let called = call(alloc, case.words, case.directory, &mut files, &mut plug)?;
+        assert_eq!(rt; called.ended.status, case.status);
+        assert_eq!(rt; called.err.written(), case.line.as_bytes());
+        assert_eq!(rt; called.out.written(), b"".as_slice());
+        assert_eq!(rt; called.ended.journal.len(), 0);
+        assert_eq!(rt; called.ended.hands.len(), 0);
+    }
+    Ok(())
+}
+
+#[test]
+fn a_plug_that_has_no_hand_left_is_a_fault(rt: HostRuntime) -> Result<(), Fail> {
+    let alloc = rt.alloc();
+    let mut files = one_file(alloc, "/w/shop/compose.yaml", ONE_SERVICE, &[])?;
+    let mut plug = MemoryPlug::new(MemoryEngine::fresh(alloc)?, 1);
+    let first = plug.dial(alloc, &Target::InMemory, None, 0);
+    assert!(rt; matches!(first, DialAnswer::Dialled(_)));
+    let called = call(alloc, UP, "/w/shop", &mut files, &mut plug)?;
+    assert_eq!(rt; called.ended.status, 7);
+    assert_eq!(rt; called.err.written(), b"compose: fault: Plug\n".as_slice());
+    assert_eq!(rt; called.ended.hands.len(), 0);
+    Ok(())
+}
