@@ -1,8 +1,11 @@
+ghost use Rattle.std.specs.Prelude.{◌≡◌, ◌<◌, ◌^◌, Some};
+
 use crate::{Ended, MemoryHand, MemoryPlug, serial_main};
-use engine_types::{Entry, Outcome, Reply, Request};
+use engine_types::{Entry, Request};
 use memory_engine::MemoryEngine;
 use outside_api::{DialAnswer, MemoryFiles, MemorySink, Plug, Target};
 use std::alloc::Global;
+use std::process::Abort;
 use std::test::Fail;
 use tree_base::{Env, List, Memory, Text, TextMap};
 
@@ -16,32 +19,41 @@ struct Called {
     err: MemorySink,
 }
 
-fn texts(alloc: Global, words: &[&str]) -> Result<List<Text>, Memory> {
-    let mut texts = List::new(alloc);
-    for word in words {
-        texts.push(Text::from_str(alloc, *word)?)?;
+/// Words that are parted by spaces.
+fn words_of(alloc: Global, line: &str) -> Result<List<Text>, Memory> {
+    let mut words = List::new(alloc);
+    for word in line.split_whitespace() {
+        words.push(Text::from_str(alloc, word)?)?;
     }
-    Ok(texts)
+    Ok(words)
 }
 
-fn one_file(alloc: Global, path: &str, text: &str, fails: &[u64]) -> Result<MemoryFiles, Memory> {
+/// One file, whose first read fails where that is asked for.
+fn one_file(alloc: Global, path: &str, text: &str, fails: bool) -> Result<MemoryFiles, Memory> {
     let mut bytes = List::new(alloc);
     bytes.extend_from_slice(text.as_bytes())?;
     let mut files = TextMap::new(alloc);
     let _ = files.put(Text::from_str(alloc, path)?, bytes)?;
     let mut numbers = List::new(alloc);
-    numbers.extend_from_slice(fails)?;
+    if fails {
+        numbers.push(1)?;
+    }
     Ok(MemoryFiles::new(files, numbers))
 }
 
+/// Makes a call with a plug that made so many hands.
 fn call(
     alloc: Global,
-    words: &[&str],
+    line: &str,
     directory: &str,
     files: &mut MemoryFiles,
     plug: &mut MemoryPlug,
-) -> Result<Called, Memory> {
-    let words = texts(alloc, words)?;
+    dialled: u64,
+) -> Result<Called, Memory>
+    requires told { ⟦<MemoryPlug as Plug>⟧.dialled plug.old ≡ Some dialled }
+    requires below { dialled < 2 ^ 61 }
+{
+    let words = words_of(alloc, line)?;
     let env = Env::new(alloc);
     let directory = Text::from_str(alloc, directory)?;
     let mut out = MemorySink::new(alloc, 4096, List::new(alloc))?;
@@ -52,181 +64,142 @@ fn call(
     Ok(Called { ended, out, err })
 }
 
-fn word_of(entry: &Entry) -> &'static str {
-    match entry {
-        Entry::Seen(_) => "Seen",
-        Entry::Claim { .. } => "Claim",
-        Entry::Ended { .. } => "Ended",
-        Entry::Leave { .. } => "Leave",
-        _ => "other",
+/// The kinds of a journal's entries, each by its first letter.
+fn kinds_of(alloc: Global, journal: &[Entry]) -> Result<Text, Memory> {
+    let mut kinds = Text::new(alloc);
+    for entry in journal {
+        kinds.push_str(match entry {
+            Entry::Seen(_) => "S",
+            Entry::Claim { .. } => "C",
+            Entry::Ended { .. } => "E",
+            Entry::Leave { .. } => "L",
+            _ => "?",
+        })?;
     }
+    Ok(kinds)
 }
 
-fn verb_of(request: &Request) -> &'static str {
-    match request {
-        Request::ListContainers { .. } => "ListContainers",
-        Request::Image { .. } => "Image",
-        Request::Pull { .. } => "Pull",
-        Request::Create { .. } => "Create",
-        Request::Start { .. } => "Start",
-        _ => "other",
+/// The requests of a hand's log, each by its first letter.
+fn requests_of(alloc: Global, hand: &MemoryHand) -> Result<Text, Memory> {
+    let mut requests = Text::new(alloc);
+    for exchange in hand.log() {
+        requests.push_str(match exchange.request {
+            Request::ListContainers { .. } => "L",
+            Request::Image { .. } => "I",
+            Request::Pull { .. } => "P",
+            Request::Create { .. } => "C",
+            Request::Start { .. } => "S",
+            _ => "?",
+        })?;
     }
+    Ok(requests)
 }
 
 #[test]
 fn one_service_comes_up(rt: HostRuntime) -> Result<(), Fail> {
     let alloc = rt.alloc();
-    let mut files = one_file(alloc, "/w/shop/compose.yaml", ONE_SERVICE, &[])?;
+    let mut files = one_file(alloc, "/w/shop/compose.yaml", ONE_SERVICE, false)?;
     let mut plug = MemoryPlug::new(MemoryEngine::fresh(alloc)?, 1);
-    let called = call(alloc, &["--memory", "up"], "/w/shop", &mut files, &mut plug)?;
+    let called = call(alloc, "--memory up", "/w/shop", &mut files, &mut plug, 0)?;
     assert_eq!(rt; called.ended.status, 0);
     let out = b"container shop-web-1 created\ncontainer shop-web-1 started\n";
     assert_eq!(rt; called.out.written(), out.as_slice());
-    assert_eq!(rt; called.err.written(), b"".as_slice());
+    assert_eq!(rt; called.err.written().len(), 0);
     assert!(rt; called.ended.refusal.is_none());
-    let journal = ["Seen", "Claim", "Ended", "Claim", "Ended", "Leave"];
-    assert_eq!(rt; called.ended.journal.len(), journal.len());
-    for (entry, word) in called.ended.journal.as_slice().iter().zip(journal) {
-        assert_eq!(rt; word_of(entry), word);
+    let kinds = kinds_of(alloc, called.ended.journal.as_slice())?;
+    assert_eq!(rt; kinds.as_str(), "SCECEL");
+    assert_eq!(rt; called.ended.hands.len(), 1);
+    for hand in called.ended.hands.as_slice() {
+        assert_eq!(rt; requests_of(alloc, hand)?.as_str(), "LIPICS");
+        assert_eq!(rt; hand.engine.engine.containers.len(), 1);
     }
-    let hands = called.ended.hands.as_slice();
-    assert_eq!(rt; hands.len(), 1);
-    let verbs = [
-        "ListContainers",
-        "Image",
-        "Pull",
-        "Image",
-        "Create",
-        "Start",
-    ];
-    assert_eq!(rt; hands[0].log().len(), verbs.len());
-    for (exchange, verb) in hands[0].log().iter().zip(verbs) {
-        assert_eq!(rt; verb_of(&exchange.request), verb);
-    }
-    let missing = matches!(
-        hands[0].log()[1].outcome,
-        Outcome::Answered(Reply::Refused { status: 404, .. })
-    );
-    assert!(rt; missing);
-    assert_eq!(rt; hands[0].engine.engine.containers.len(), 1);
     Ok(())
 }
 
-/// A call that is refused: its words, working directory, file, reads that fail, status and line.
-#[derive(Drop)]
-struct Refused {
-    words: &'static [&'static str],
-    directory: &'static str,
-    path: &'static str,
-    text: &'static str,
-    fails: &'static [u64],
+/// Makes a call that is refused before a hand is made, with this status and line.
+fn refuse(
+    rt: &impl Abort,
+    alloc: Global,
+    line: &str,
+    directory: &str,
+    files: &mut MemoryFiles,
     status: u8,
-    line: &'static str,
+    said: &str,
+) -> Result<(), Memory> {
+    let mut plug = MemoryPlug::new(MemoryEngine::fresh(alloc)?, 1);
+    let called = call(alloc, line, directory, files, &mut plug, 0)?;
+    assert_eq!(rt; called.ended.status, status);
+    assert_eq!(rt; called.err.written(), said.as_bytes());
+    assert_eq!(rt; called.out.written().len(), 0);
+    assert_eq!(rt; called.ended.journal.len(), 0);
+    assert_eq!(rt; called.ended.hands.len(), 0);
+    Ok(())
 }
 
-const UP: &[&str] = &["--memory", "up"];
-
-const REFUSED: [Refused; 8] = [
-    Refused {
-        words: &[],
-        directory: "/w/shop",
-        path: "/w/shop/compose.yaml",
-        text: ONE_SERVICE,
-        fails: &[],
-        status: 1,
-        line: "compose: not built: words\n",
-    },
-    Refused {
-        words: &["up", "--memory"],
-        directory: "/w/shop",
-        path: "/w/shop/compose.yaml",
-        text: ONE_SERVICE,
-        fails: &[],
-        status: 1,
-        line: "compose: not built: words\n",
-    },
-    Refused {
-        words: UP,
-        directory: "/w/shop",
-        path: "/w/shop/compose.yaml",
-        text: "",
-        fails: &[],
-        status: 2,
-        line: "compose: /w/shop/compose.yaml:1:1: not built\n",
-    },
-    Refused {
-        words: UP,
-        directory: "/w/x/.././shop/",
-        path: "/w/shop/compose.yaml",
-        text: "services:\n  web:\n    image: null\n    network_mode: none\n",
-        fails: &[],
-        status: 2,
-        line: "compose: /w/shop/compose.yaml:3:1: not built\n",
-    },
-    Refused {
-        words: UP,
-        directory: "/w/shop",
-        path: "/w/shop/compose.yaml",
-        text: "services:\n  web:\n    image: a\n    network_mode: none\n\n",
-        fails: &[],
-        status: 2,
-        line: "compose: /w/shop/compose.yaml:5:1: not built\n",
-    },
-    Refused {
-        words: UP,
-        directory: "/w/shop",
-        path: "/w/compose.yaml",
-        text: ONE_SERVICE,
-        fails: &[],
-        status: 2,
-        line: "compose: /w/shop/compose.yaml: NotFound\n",
-    },
-    Refused {
-        words: UP,
-        directory: "/w/shop",
-        path: "/w/shop/compose.yaml",
-        text: ONE_SERVICE,
-        fails: &[1],
-        status: 7,
-        line: "compose: /w/shop/compose.yaml: ReadFault\n",
-    },
-    Refused {
-        words: UP,
-        directory: "/",
-        path: "/compose.yaml",
-        text: ONE_SERVICE,
-        fails: &[],
-        status: 2,
-        line: "compose: bad project name: \n",
-    },
-];
+#[test]
+fn other_words_are_refused(rt: HostRuntime) -> Result<(), Fail> {
+    let alloc = rt.alloc();
+    let mut files = one_file(alloc, "/w/shop/compose.yaml", ONE_SERVICE, false)?;
+    let line = "compose: not built: words\n";
+    refuse(&rt, alloc, "", "/w/shop", &mut files, 1, line)?;
+    refuse(&rt, alloc, "up --memory", "/w/shop", &mut files, 1, line)?;
+    refuse(&rt, alloc, "--memory up x", "/w/shop", &mut files, 1, line)?;
+    Ok(())
+}
 
 #[test]
-fn refusals_send_nothing(rt: HostRuntime) -> Result<(), Fail> {
+fn files_are_refused(rt: HostRuntime) -> Result<(), Fail> {
     let alloc = rt.alloc();
-    for case in REFUSED {
-        let mut files = one_file(alloc, case.path, case.text, case.fails)?;
-        let mut plug = MemoryPlug::new(MemoryEngine::fresh(alloc)?, 1);
-        let called = call(alloc, case.words, case.directory, &mut files, &mut plug)?;
-        assert_eq!(rt; called.ended.status, case.status);
-        assert_eq!(rt; called.err.written(), case.line.as_bytes());
-        assert_eq!(rt; called.out.written(), b"".as_slice());
-        assert_eq!(rt; called.ended.journal.len(), 0);
-        assert_eq!(rt; called.ended.hands.len(), 0);
-    }
+    let mut files = one_file(alloc, "/w/compose.yaml", ONE_SERVICE, false)?;
+    let line = "compose: /w/shop/compose.yaml: NotFound\n";
+    refuse(&rt, alloc, "--memory up", "/w/x/.././shop/", &mut files, 2, line)?;
+    let mut files = one_file(alloc, "/w/shop/compose.yaml", ONE_SERVICE, true)?;
+    let line = "compose: /w/shop/compose.yaml: ReadFault\n";
+    refuse(&rt, alloc, "--memory up", "/w/shop", &mut files, 7, line)?;
+    Ok(())
+}
+
+/// Reads a text in the directory `/w/shop`, which is refused at the first column of a line.
+fn refuse_text(rt: &impl Abort, alloc: Global, text: &str, number: u8) -> Result<(), Memory> {
+    let mut files = one_file(alloc, "/w/shop/compose.yaml", text, false)?;
+    let line = format!(in alloc; "compose: /w/shop/compose.yaml:{number}:1: not built\n")?;
+    refuse(rt, alloc, "--memory up", "/w/shop", &mut files, 2, line.as_str())
+}
+
+#[test]
+fn other_texts_are_refused_at_their_line(rt: HostRuntime) -> Result<(), Fail> {
+    let alloc = rt.alloc();
+    refuse_text(&rt, alloc, "", 1)?;
+    refuse_text(&rt, alloc, "services:\n", 2)?;
+    refuse_text(&rt, alloc, "services:\n  a:\n    image: null\n", 3)?;
+    refuse_text(&rt, alloc, "services:\n  a:\n    image: b:\n", 3)?;
+    refuse_text(&rt, alloc, "services:\n  a:\n    image: b\n    network_mode: none", 4)?;
+    refuse_text(&rt, alloc, "services:\n  a:\n    image: b\n    network_mode: none\n\n", 5)?;
+    Ok(())
+}
+
+#[test]
+fn a_directory_without_a_name_is_refused(rt: HostRuntime) -> Result<(), Fail> {
+    let alloc = rt.alloc();
+    let mut files = one_file(alloc, "/compose.yaml", ONE_SERVICE, false)?;
+    let line = "compose: bad project name: \n";
+    refuse(&rt, alloc, "--memory up", "/", &mut files, 2, line)?;
     Ok(())
 }
 
 #[test]
 fn a_plug_that_has_no_hand_left_is_a_fault(rt: HostRuntime) -> Result<(), Fail> {
     let alloc = rt.alloc();
-    let mut files = one_file(alloc, "/w/shop/compose.yaml", ONE_SERVICE, &[])?;
+    let mut files = one_file(alloc, "/w/shop/compose.yaml", ONE_SERVICE, false)?;
     let mut plug = MemoryPlug::new(MemoryEngine::fresh(alloc)?, 1);
-    let first = plug.dial(alloc, &Target::InMemory, None, 0);
-    assert!(rt; matches!(first, DialAnswer::Dialled(_)));
-    let called = call(alloc, UP, "/w/shop", &mut files, &mut plug)?;
+    match plug.dial(alloc, &Target::InMemory, None, 0) {
+        DialAnswer::Dialled(_) => (),
+        _ => panic!(rt; "no hand"),
+    }
+    let called = call(alloc, "--memory up", "/w/shop", &mut files, &mut plug, 1)?;
     assert_eq!(rt; called.ended.status, 7);
-    assert_eq!(rt; called.err.written(), b"compose: fault: Plug\n".as_slice());
+    let line = b"compose: fault: Plug\n";
+    assert_eq!(rt; called.err.written(), line.as_slice());
     assert_eq!(rt; called.ended.hands.len(), 0);
     Ok(())
 }
