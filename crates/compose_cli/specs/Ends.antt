@@ -1,5 +1,7 @@
 -- How a call ends.
 use Rattle.std.specs.Prelude.{◌≡◌, ℕ, ◌+◌, List, [], Option, Some, None}
+use Rattle.compose_cli.specs.Lines.{refusal_line}
+use Rattle.compose_cli.specs.Writing.{Says}
 use Rattle.compose_cli.specs.declared.ended.Ended.{Ended}
 use Rattle.compose_cli.specs.declared.refusal.Refusal.{Refusal}
 use Rattle.compose_cli.specs.declared.refusal.LoadRefusal.{LoadRefusal}
@@ -51,3 +53,8 @@ IsOfRun (Some (Refusal.Load refusal)) = ⊥
 IsOfRun (Some (Refusal.Name refusal)) = ⊥
 IsOfRun (Some (Refusal.Outside Part.Plug)) = ⊥
 IsOfRun _ = Unit {0}
+
+-- the line of the refusal was said, and nothing where there is none
+abbrev pub SaysRefusal : Option Refusal → Option (List ℕ) → Option (List ℕ) → ℕ → ℕ → Type 0
+SaysRefusal None old new faults_old faults_new = new ≡ old
+SaysRefusal (Some refusal) old new faults_old faults_new = Says (refusal_line refusal) old new faults_old faults_new

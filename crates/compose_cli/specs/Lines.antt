@@ -13,18 +13,22 @@ abbrev pub unbuilt_words : Unbuilt → List ℕ
 unbuilt_words Unbuilt.Words = codes "not built: words"
 unbuilt_words (Unbuilt.Text path place) = path ++ codes ":" ++ decimal place.line ++ codes ":" ++ decimal place.column ++ codes ": not built"
 
+-- a file is named by its path
 abbrev pub load_words : LoadRefusal → List ℕ
 load_words (LoadRefusal.NotFound path) = path ++ codes ": NotFound"
 load_words (LoadRefusal.ReadFault path) = path ++ codes ": ReadFault"
 load_words (LoadRefusal.FileTooLarge path) = path ++ codes ": FileTooLarge"
 
+-- a name that is none stands as it is
 abbrev pub name_words : ProjectRefusal → List ℕ
 name_words (ProjectRefusal.BadName name) = codes "bad project name: " ++ name
 
+-- the part of the outside that failed
 abbrev pub part_words : Part → List ℕ
 part_words Part.Out = codes "Out"
 part_words Part.Plug = codes "Plug"
 
+-- what a refusal says
 abbrev pub refusal_words : Refusal → List ℕ
 refusal_words (Refusal.NotBuilt unbuilt) = unbuilt_words unbuilt
 refusal_words (Refusal.Load refusal) = load_words refusal

@@ -13,6 +13,7 @@ use Rattle.compose_cli.specs.declared.refusal.LoadRefusal.{LoadRefusal}
 use Rattle.compose_cli.specs.declared.refusal.ProjectRefusal.{ProjectRefusal}
 use Rattle.compose_cli.specs.declared.refusal.Unbuilt.{Unbuilt}
 
+-- whether the word at a place is this one
 abbrev pub is_word : List (List ℕ) → ℕ → List ℕ → Bool
 is_word words at word = option_map_or (bytes_eq word) (slice_get words at) false
 

@@ -9,6 +9,7 @@ pub record OneService : Type 0 where
   pub name : List ℕ
   pub image : List ℕ
 
+-- an ASCII letter or digit
 abbrev pub is_letter_or_digit : ℕ → Bool
 is_letter_or_digit c = (nat_le 97 c && nat_le c 122) || (nat_le 65 c && nat_le c 90) || (nat_le 48 c && nat_le c 57)
 
@@ -32,12 +33,15 @@ next_line bytes = if nat_lt (line_length bytes) (length bytes) then Some (take (
 abbrev pub after_prefix : List ℕ → List ℕ → Option (List ℕ)
 after_prefix prefix line = if starts_with nat_eq line prefix then Some (drop (length prefix) line) else None
 
+-- a service's name: it isn't empty
 abbrev pub is_name : List ℕ → Bool
 is_name name = not (length name == 0) && list_all is_name_byte name
 
+-- the words that YAML reads as null
 abbrev pub is_null_word : List ℕ → Bool
 is_null_word word = bytes_eq word (codes "null") || bytes_eq word (codes "Null") || bytes_eq word (codes "NULL")
 
+-- whether the first byte is a letter or a digit
 abbrev pub begins_with_letter_or_digit : List ℕ → Bool
 begins_with_letter_or_digit [] = false
 begins_with_letter_or_digit (c ∷ cs) = is_letter_or_digit c

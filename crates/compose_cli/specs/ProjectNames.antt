@@ -1,6 +1,7 @@
 -- The name of a project, by the Compose Specification's rules for it.
 use Rattle.std.specs.Prelude.{ℕ, ◌+◌, ◌==◌, Bool, ◌||◌, ◌&&◌, not, if◌then◌else◌, List, [], ◌∷◌, nat_le, length, filter, map}
 
+-- an ASCII capital
 abbrev pub is_upper : ℕ → Bool
 is_upper c = nat_le 65 c && nat_le c 90
 
@@ -12,6 +13,7 @@ lower c = if is_upper c then c + 32 else c
 abbrev pub is_mark : ℕ → Bool
 is_mark c = (c == 45) || (c == 95)
 
+-- a small ASCII letter or a digit
 abbrev pub is_lower_or_digit : ℕ → Bool
 is_lower_or_digit c = (nat_le 97 c && nat_le c 122) || (nat_le 48 c && nat_le c 57)
 

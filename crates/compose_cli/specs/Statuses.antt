@@ -5,10 +5,12 @@ use Rattle.compose_cli.specs.declared.refusal.Refusal.{Refusal}
 use Rattle.compose_cli.specs.declared.refusal.LoadRefusal.{LoadRefusal}
 use Rattle.compose_cli.specs.declared.refusal.Unbuilt.{Unbuilt}
 
+-- words that aren't built have status 1, and a text has 2
 abbrev pub unbuilt_status : Unbuilt → ℕ
 unbuilt_status Unbuilt.Words = 1
 unbuilt_status (Unbuilt.Text path place) = 2
 
+-- a missing file has status 2, a read that failed 7, and one that is too large 8
 abbrev pub load_status : LoadRefusal → ℕ
 load_status (LoadRefusal.NotFound path) = 2
 load_status (LoadRefusal.ReadFault path) = 7

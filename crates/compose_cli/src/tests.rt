@@ -152,7 +152,15 @@ fn files_are_refused(rt: HostRuntime) -> Result<(), Fail> {
     let alloc = rt.alloc();
     let mut files = one_file(alloc, "/w/compose.yaml", ONE_SERVICE, false)?;
     let line = "compose: /w/shop/compose.yaml: NotFound\n";
-    refuse(&rt, alloc, "--memory up", "/w/x/.././shop/", &mut files, 2, line)?;
+    refuse(
+        &rt,
+        alloc,
+        "--memory up",
+        "/w/x/.././shop/",
+        &mut files,
+        2,
+        line,
+    )?;
     let mut files = one_file(alloc, "/w/shop/compose.yaml", ONE_SERVICE, true)?;
     let line = "compose: /w/shop/compose.yaml: ReadFault\n";
     refuse(&rt, alloc, "--memory up", "/w/shop", &mut files, 7, line)?;
@@ -163,7 +171,15 @@ fn files_are_refused(rt: HostRuntime) -> Result<(), Fail> {
 fn refuse_text(rt: &impl Abort, alloc: Global, text: &str, number: u8) -> Result<(), Memory> {
     let mut files = one_file(alloc, "/w/shop/compose.yaml", text, false)?;
     let line = format!(in alloc; "compose: /w/shop/compose.yaml:{number}:1: not built\n")?;
-    refuse(rt, alloc, "--memory up", "/w/shop", &mut files, 2, line.as_str())
+    refuse(
+        rt,
+        alloc,
+        "--memory up",
+        "/w/shop",
+        &mut files,
+        2,
+        line.as_str(),
+    )
 }
 
 #[test]
@@ -173,8 +189,18 @@ fn other_texts_are_refused_at_their_line(rt: HostRuntime) -> Result<(), Fail> {
     refuse_text(&rt, alloc, "services:\n", 2)?;
     refuse_text(&rt, alloc, "services:\n  a:\n    image: null\n", 3)?;
     refuse_text(&rt, alloc, "services:\n  a:\n    image: b:\n", 3)?;
-    refuse_text(&rt, alloc, "services:\n  a:\n    image: b\n    network_mode: none", 4)?;
-    refuse_text(&rt, alloc, "services:\n  a:\n    image: b\n    network_mode: none\n\n", 5)?;
+    refuse_text(
+        &rt,
+        alloc,
+        "services:\n  a:\n    image: b\n    network_mode: none",
+        4,
+    )?;
+    refuse_text(
+        &rt,
+        alloc,
+        "services:\n  a:\n    image: b\n    network_mode: none\n\n",
+        5,
+    )?;
     Ok(())
 }
 

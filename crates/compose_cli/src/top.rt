@@ -3,7 +3,9 @@ ghost use Rattle.std.specs.Option.{ForSome};
 ghost use Rattle.outside_api.specs.Counts.{Rose};
 ghost use Rattle.compose_cli.specs.Loading.{loaded, are_built};
 ghost use Rattle.compose_cli.specs.Statuses.{status_of};
-ghost use Rattle.compose_cli.specs.Ends.{IsRefusedWith, SendsNothing, CountsHands, IsOfLoading, IsOfRun, IsSaid};
+ghost use Rattle.compose_cli.specs.Ends.{IsRefusedWith, SendsNothing, CountsHands, IsOfLoading, IsOfRun, IsSaid, SaysRefusal};
+ghost use Rattle.compose_cli.specs.Lines.{refusal_line};
+ghost use Rattle.compose_cli.specs.Writing.{Says};
 ghost use Rattle.compose_cli.specs.declared.refusal.Refusal.{Refusal};
 ghost use Rattle.compose_cli.specs.declared.refusal.LoadRefusal.{LoadRefusal};
 ghost use Rattle.compose_cli.specs.declared.refusal.Unbuilt.{Unbuilt};
@@ -50,6 +52,11 @@ pub fn serial_main<F: Files, P: Plug, O: Sink, G: Sink>(
     // Every hand that was made is handed back.
     ensures dialled { CountsHands (P.dialled plug.old) (P.dialled plug.new) (length result.hands) }
     ensures status { result.status ≡ status_of result.refusal }
+
+    // The line of the refusal is written to `err`, and nothing to `out` where nothing was sent.
+    ensures line { SaysRefusal result.refusal (G.written err.old) (G.written err.new) (G.faults err.old) (G.faults err.new) }
+    ensures quiet { IsOfLoading result.refusal → O.written out.new ≡ O.written out.old }
+    ensures quiet_dial { result.refusal ≡ Some (Refusal.Outside Part.Plug) → O.written out.new ≡ O.written out.old }
 {
     let _ = env;
     match load(alloc, words, cwd, files) {
@@ -63,6 +70,7 @@ fn refused<H, G: Sink>(alloc: Global, refusal: Refusal, err: &mut G) -> Ended<H>
     ensures nothing { SendsNothing result }
     ensures refusal { IsSaid refusal result.refusal }
     ensures status { result.status ≡ status_of result.refusal }
+    ensures line { SaysRefusal result.refusal (G.written err.old) (G.written err.new) (G.faults err.old) (G.faults err.new) }
 {
     let refusal = say(alloc, refusal, err);
     Ended {
@@ -75,7 +83,8 @@ fn refused<H, G: Sink>(alloc: Global, refusal: Refusal, err: &mut G) -> Ended<H>
 
 /// Writes the line of a refusal. Where there is no memory for the line, the refusal is Memory.
 fn say<G: Sink>(alloc: Global, refusal: Refusal, err: &mut G) -> Refusal
-    ensures { IsSaid refusal (Some result) }
+    ensures refusal { IsSaid refusal (Some result) }
+    ensures line { Says (refusal_line result) (G.written err.old) (G.written err.new) (G.faults err.old) (G.faults err.new) }
 {
     match refusal_line(alloc, &refusal) {
         Ok(line) => {
@@ -102,6 +111,8 @@ fn run_project<P: Plug, O: Sink, G: Sink>(
     ensures dial { result.refusal ≡ Some (Refusal.Outside Part.Plug) → SendsNothing result × Rose (P.faults plug.old) (P.faults plug.new) }
     ensures dialled { CountsHands (P.dialled plug.old) (P.dialled plug.new) (length result.hands) }
     ensures status { result.status ≡ status_of result.refusal }
+    ensures line { SaysRefusal result.refusal (G.written err.old) (G.written err.new) (G.faults err.old) (G.faults err.new) }
+    ensures quiet { result.refusal ≡ Some (Refusal.Outside Part.Plug) → O.written out.new ≡ O.written out.old }
 {
     let Ok(hands) = Vec::with_capacity(alloc, 1) else {
         return refused(alloc, Refusal::Memory, err);
@@ -127,6 +138,7 @@ fn run_with<H: Hand, O: Sink, G: Sink>(
     ensures hands { length result.hands ≡ 1 }
     ensures refusal { IsOfRun result.refusal }
     ensures status { result.status ≡ status_of result.refusal }
+    ensures line { SaysRefusal result.refusal (G.written err.old) (G.written err.new) (G.faults err.old) (G.faults err.new) }
 {
     let ran = bring_up(alloc, &mut hand, project);
     let Ran {
@@ -135,16 +147,24 @@ fn run_with<H: Hand, O: Sink, G: Sink>(
         refusal,
     } = ran;
     hands.push(hand).unwrap();
-    let refusal = write_report(refusal, &report, out);
-    let refusal = match refusal {
-        Some(refusal) => Some(say(alloc, refusal, err)),
-        None => None,
-    };
+    let refusal = say_if_any(alloc, write_report(refusal, &report, out), err);
     Ended {
         status: status_of(&refusal),
         journal,
         hands: List::from_vec(hands),
         refusal,
+    }
+}
+
+/// Writes the line of a refusal, where there is one.
+fn say_if_any<G: Sink>(alloc: Global, refusal: Option<Refusal>, err: &mut G) -> Option<Refusal>
+    requires { IsOfRun refusal }
+    ensures refusal { IsOfRun result }
+    ensures line { SaysRefusal result (G.written err.old) (G.written err.new) (G.faults err.old) (G.faults err.new) }
+{
+    match refusal {
+        Some(refusal) => Some(say(alloc, refusal, err)),
+        None => None,
     }
 }
 

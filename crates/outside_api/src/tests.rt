@@ -1,6 +1,4 @@
-use crate::{
-    DiskFiles, FileAnswer, Files, MemoryFiles, MemorySink, OutSink, Sink, SinkAnswer,
-};
+use crate::{DiskFiles, FileAnswer, Files, MemoryFiles, MemorySink, OutSink, Sink, SinkAnswer};
 use std::alloc::Global;
 use std::test::Fail;
 use tree_base::{List, Memory, Text, TextMap};
@@ -15,7 +13,12 @@ fn word_of(answer: &FileAnswer) -> &'static str {
     }
 }
 
-fn read<F: Files>(alloc: Global, files: &mut F, path: &str, limit: u64) -> Result<&'static str, Memory> {
+fn read<F: Files>(
+    alloc: Global,
+    files: &mut F,
+    path: &str,
+    limit: u64,
+) -> Result<&'static str, Memory> {
     let path = Text::from_str(alloc, path)?;
     Ok(word_of(&files.read(alloc, &path, limit)))
 }
