@@ -1,6 +1,0 @@
-pub mod Ascii
-pub mod Ending
-pub mod Loads
-pub mod Walks
-pub mod Writes
-pub mod Names
