@@ -78,6 +78,7 @@ is_started ContainerState.Running = true
 is_started ContainerState.Restarting = true
 is_started _ = false
 
+-- whether the first item of a health test names one: it is there, and isn't NONE
 abbrev pub first_is_test : List (List ℕ) → Bool
 first_is_test [] = false
 first_is_test (first ∷ rest) = not (bytes_eq first (codes "NONE"))
@@ -127,28 +128,35 @@ abbrev pub Among : {X : Type 0} → List X → X → Type 0
 Among [] x = ⊥
 Among (y ∷ ys) x = (x ≡ y) ⊎ Among ys x
 
--- the second Engine has this at the id, and what the first has at every other
+-- the second Engine has this container at the id, and the first's at every other
 abbrev pub PutsContainer : Engine → Engine → List ℕ → Option ContainerRow → Type 0
 PutsContainer old new id now = (i : List ℕ) → container_at new i ≡ (if bytes_eq id i then now else container_at old i)
 
+-- the second Engine has this network at the id, and the first's at every other
 abbrev pub PutsNetwork : Engine → Engine → List ℕ → Option NetRow → Type 0
 PutsNetwork old new id now = (i : List ℕ) → network_at new i ≡ (if bytes_eq id i then now else network_at old i)
 
+-- the second Engine has the volume or not, and the first's under every other name
 abbrev pub PutsVolume : Engine → Engine → List ℕ → Bool → Type 0
 PutsVolume old new name now = (n : List ℕ) → has_volume new n ≡ (if bytes_eq name n then now else has_volume old n)
 
+-- the second Engine has this image under the name, and the first's under every other
 abbrev pub PutsImage : Engine → Engine → List ℕ → Option (List ℕ) → Type 0
 PutsImage old new name now = (n : List ℕ) → image_at new n ≡ (if bytes_eq name n then now else image_at old n)
 
+-- both Engines have the same container at each id
 abbrev pub SameContainers : Engine → Engine → Type 0
 SameContainers old new = (i : List ℕ) → container_at new i ≡ container_at old i
 
+-- both Engines have the same network at each id
 abbrev pub SameNetworks : Engine → Engine → Type 0
 SameNetworks old new = (i : List ℕ) → network_at new i ≡ network_at old i
 
+-- both Engines have the same volumes
 abbrev pub SameVolumes : Engine → Engine → Type 0
 SameVolumes old new = (n : List ℕ) → has_volume new n ≡ has_volume old n
 
+-- both Engines have the same image under each name
 abbrev pub SameImages : Engine → Engine → Type 0
 SameImages old new = (n : List ℕ) → image_at new n ≡ image_at old n
 

@@ -26,10 +26,11 @@ engine_with containers networks = record { containers = containers; networks = n
 abbrev pub bare : Engine
 bare = engine_with [] []
 
--- the first network, and both
+-- the first network
 abbrev pub one : List NetRow
 one = network_row (codes "n1") (codes "a") ∷ []
 
+-- the second network beside the first
 abbrev pub two : List NetRow
 two = network_row (codes "n2") (codes "b") ∷ one
 
@@ -41,10 +42,11 @@ made = created_row (codes "c1") web.name web.spec (codes "sha") (codes "n1" ∷ 
 abbrev pub joined : ContainerRow
 joined = record made { networks = codes "n2" ∷ codes "n1" ∷ [] }
 
--- the Engine between the runs, and after both
+-- the Engine between the runs
 abbrev pub between : Engine
 between = engine_with (made ∷ []) two
 
+-- the Engine after both runs
 abbrev pub after : Engine
 after = engine_with (started_row joined ∷ []) two
 

@@ -1,0 +1,56 @@
+//! The program `compose`: it gives the words of the command line, the working directory, the files of the disk
+//! and the standard streams to the top call of `compose_cli`, and ends with the status that this answers.
+#![tactic(auto)]
+
+use compose_cli::{MainPlug, serial_main};
+use outside_api::{DiskFiles, OutSink};
+use std::env;
+use std::process::ExitCode;
+use tree_base::{Env, List, Memory, Text};
+
+/// The exit status where memory is wanted before the top call begins.
+const NO_MEMORY: u8 = 9;
+
+fn main(rt: HostRuntime) -> ExitCode {
+    match run(&rt) {
+        Ok(status) => ExitCode::from(status),
+        Err(_) => ExitCode::from(NO_MEMORY),
+    }
+}
+
+fn run(rt: &HostRuntime) -> Result<u8, Memory> {
+    let alloc = rt.alloc();
+    let words = words(rt)?;
+    // No rule that is built so far reads a variable.
+    let variables = Env::new(alloc);
+    let directory = working_directory(rt)?;
+    let mut files = DiskFiles::new(rt);
+    let mut plug = MainPlug::new();
+    let mut out = OutSink::new(rt.stdout());
+    let mut err = OutSink::new(rt.stderr());
+    let ended = serial_main(
+        alloc, &words, &variables, &directory, &mut files, &mut plug, &mut out, &mut err,
+    );
+    Ok(ended.status)
+}
+
+/// The words of the command line after the program's name.
+fn words(rt: &HostRuntime) -> Result<List<Text>, Memory> {
+    let alloc = rt.alloc();
+    let mut words = List::new(alloc);
+    let Ok(args) = env::args(rt) else {
+        return Err(Memory);
+    };
+    for word in args.skip(1) {
+        words.push(Text::from_string(word))?;
+    }
+    Ok(words)
+}
+
+/// The working directory: the variable `PWD`, or the root where it is unset.
+fn working_directory(rt: &HostRuntime) -> Result<Text, Memory> {
+    match env::var(rt, "PWD") {
+        Ok(directory) => Ok(Text::from_string(directory)),
+        Err(_) => Text::from_str(rt.alloc(), "/"),
+    }
+}

@@ -1,0 +1,5 @@
+use Rattle.compose_cli.specs.Ends.{IsOfRun}
+use Rattle.compose_cli.proofs.running.make_all.Given as goal
+
+abbrev pub invariant-loop-at : goal.invariant-loop-at
+invariant-loop-at g l = IsOfRun l.first

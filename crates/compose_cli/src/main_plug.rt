@@ -1,0 +1,50 @@
+ghost use Rattle.std.specs.Prelude.{None};
+
+use engine_hand::MemoryHand;
+use memory_engine::MemoryEngine;
+use outside_api::{DialAnswer, Plug, Target};
+use std::alloc::Global;
+use tree_base::Text;
+
+/// The plug of the program: it makes hands of fresh Engines in memory. A socket is not built yet, and its
+/// dial fails.
+#[derive(Debug, Drop)]
+pub struct MainPlug {
+    failed: u64,
+}
+
+impl MainPlug {
+    /// A plug that made no hand yet. No memory.
+    pub fn new() -> MainPlug {
+        MainPlug { failed: 0 }
+    }
+}
+
+impl Plug for MainPlug {
+    type Hand = MemoryHand;
+
+    ghost engine = { λ _. None };
+
+    ghost dialled = { λ _. None };
+
+    ghost faults = { λ plug. plug.failed };
+
+    fn dial(
+        &mut self,
+        alloc: Global,
+        target: &Target,
+        _stop_file: Option<&Text>,
+        _number: u32,
+    ) -> DialAnswer<MemoryHand> {
+        match target {
+            Target::InMemory => match MemoryEngine::fresh(alloc) {
+                Ok(engine) => DialAnswer::Dialled(MemoryHand::new(alloc, engine)),
+                Err(_) => DialAnswer::Memory,
+            },
+            Target::Socket(_) => {
+                self.failed = self.failed.saturating_add(1);
+                DialAnswer::Failed
+            }
+        }
+    }
+}

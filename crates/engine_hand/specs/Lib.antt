@@ -1,0 +1,2 @@
+pub mod HandClocks
+pub mod MemoryHands

@@ -1,0 +1,16 @@
+//! The hands of a run over an Engine in memory, and the plug that makes one.
+//!
+//! `MemoryHand` meets the contract of `Hand`: its log grows by exactly the exchange, and its Engine changes by one
+//! answer that an Engine may give, or by none, as the outcome says.
+#![tactic(auto)]
+
+mod hand_clock;
+mod memory_hand;
+mod memory_plug;
+
+pub use hand_clock::HandClock;
+pub use memory_hand::MemoryHand;
+pub use memory_plug::MemoryPlug;
+
+#[cfg(test)]
+mod tests;

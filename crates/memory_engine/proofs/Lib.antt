@@ -1,0 +1,13 @@
+pub mod Texts
+pub mod Places
+pub mod KeyedRows
+pub mod AnyAll
+pub mod Distinct
+pub mod NumberedIds
+pub mod Loops
+pub mod Outcomes
+pub mod Keeps
+pub mod Listings
+pub mod Answering
+pub mod KeepsServed
+pub mod Drifting

@@ -1,0 +1,11 @@
+-- What is retained is what passes the test.
+use Rattle.std.proofs.Common.{◌≡◌, ◌∙◌, ap, not, rules, tests}
+use Rattle.std.specs.Prelude.{filter}
+use Rattle.std.specs.Str.{bytes_eq}
+use Rattle.std.proofs.lemmas.Fn.{filter_same}
+use Rattle.memory_engine.proofs.volumes.take_out.Goals as goal
+
+pub returns : goal.returns
+returns c =
+    let kept = filter_same _ (λ other. not (bytes_eq c.args.name.now other)) _ (λ x b f' k. search (rules, tests)) _ _ c.retain.ensures.filtered in
+    cc

@@ -1,0 +1,5 @@
+pub mod Ids
+pub mod Keeping
+pub mod Listing
+pub mod Serving
+pub mod Ticking

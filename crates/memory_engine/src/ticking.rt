@@ -1,0 +1,106 @@
+ghost use Rattle.std.specs.Prelude.{◌≡◌, ◌<◌, [], ◌∷◌, Some, MatchOption, length};
+ghost use Rattle.std.specs.Prelude.{slice_get, slice_set};
+ghost use Rattle.engine_types.specs.declared.ContainerRow.{ContainerRow};
+ghost use Rattle.run_model.specs.EngineRules.{Drifts, IsSound};
+ghost use Rattle.memory_engine.specs.Ticking.{changed_report, changed_row, later, ticked, ticked_by};
+ghost use Rattle.memory_engine.specs.Ticking.{is_running as is_running_state};
+
+use crate::rows;
+use crate::script::{Change, Tick};
+use crate::state::MemoryEngine;
+use engine_types::{ContainerRow, ContainerState, Engine, Report};
+use std::alloc::Global;
+use std::mem;
+use tree_base::{List, Text};
+
+impl MemoryEngine {
+    /// Applies the first tick of the script, if there is one, and uses it up. A tick for a container that
+    /// isn't there or doesn't run changes nothing. No memory.
+    pub fn tick(&mut self)
+        ensures engine { self.new.engine ≡ ticked self.old.engine self.old.script }
+        ensures script { self.new.script ≡ later self.old.script }
+        ensures drifts { Drifts self.old.engine self.new.engine }
+        ensures sound { IsSound self.new.engine }
+        ensures faults { self.new.faults ≡ self.old.faults }
+        ensures made { self.new.made ≡ self.old.made }
+        ensures catalogue { self.new.catalogue ≡ self.old.catalogue }
+    {
+        if let Some(tick) = take_first(&mut self.script) {
+            apply(&mut self.engine, tick);
+        }
+    }
+}
+
+/// Applies a tick.
+fn apply(engine: &mut Engine, tick: Tick)
+    ensures { engine.new ≡ ticked_by engine.old tick }
+{
+    let Tick { container, change } = tick;
+    if let Some(at) = rows::place_of_name(engine.containers.as_slice(), &container) {
+        let alloc = *container.into_string().allocator();
+        change_at(alloc, &mut engine.containers, at, change);
+    }
+}
+
+/// Changes the container at a place, where it runs.
+fn change_at(alloc: Global, rows: &mut List<ContainerRow>, at: usize, change: Change)
+    requires { at < length rows.old }
+    ensures { (row : ContainerRow) → slice_get rows.old at ≡ Some row
+        → rows.new ≡ slice_set rows.old at (changed_row change row) }
+{
+    let report = rows.as_slice()[at].report;
+    if is_running(report.state) {
+        rows::set_report_at(alloc, rows, at, changed(change, report));
+    }
+}
+
+/// Whether a container runs.
+fn is_running(state: ContainerState) -> bool
+    ensures { result ≡ is_running_state state }
+{
+    match state {
+        ContainerState::Running => true,
+        _ => false,
+    }
+}
+
+/// A report after a change.
+fn changed(change: Change, report: Report) -> Report
+    ensures { result ≡ changed_report change report }
+{
+    match change {
+        Change::Exit(exit_code) => Report {
+            state: ContainerState::Exited,
+            exit_code,
+            health: report.health,
+        },
+        Change::Health(health) => Report {
+            state: report.state,
+            exit_code: report.exit_code,
+            health,
+        },
+    }
+}
+
+/// Takes the first tick out.
+fn take_first(script: &mut List<Tick>) -> Option<Tick>
+    ensures { MatchOption result ((script.old ≡ []) × (script.new ≡ []))
+        (λ tick. script.old ≡ tick ∷ script.new) }
+{
+    let last = script.pop()?;
+    let Tick { container, change } = last;
+    let name = container.into_string();
+    let alloc = *name.allocator();
+    let last = Tick {
+        container: Text::from_string(name),
+        change,
+    };
+    let mut ticks = mem::replace(script, List::new(alloc)).into_vec();
+    if ticks.is_empty() {
+        return Some(last);
+    }
+    let first = ticks.remove(0);
+    let _ = ticks.push(last);
+    *script = List::from_vec(ticks);
+    Some(first)
+}

@@ -1,0 +1,4 @@
+pub mod Ascii
+pub mod Loads
+pub mod Names
+pub mod Walks

@@ -1,0 +1,4 @@
+pub mod Directories
+pub mod Loading
+pub mod OneServiceTexts
+pub mod ProjectNames

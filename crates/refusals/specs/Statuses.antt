@@ -1,0 +1,33 @@
+-- The exit status of each refusal.
+use Rattle.std.specs.Prelude.{ℕ, Option, Some, None}
+use Rattle.run_model.specs.Ending.{seen_status, outcome_status}
+use Rattle.refusals.specs.declared.refusal.Refusal.{Refusal}
+use Rattle.refusals.specs.declared.refusal.LoadRefusal.{LoadRefusal}
+use Rattle.refusals.specs.declared.refusal.Unbuilt.{Unbuilt}
+
+-- words that aren't built have status 1, and a text has 2
+abbrev pub unbuilt_status : Unbuilt → ℕ
+unbuilt_status Unbuilt.Words = 1
+unbuilt_status (Unbuilt.Text path place) = 2
+
+-- a missing file has status 2, a read that failed 7, and one that is too large 8
+abbrev pub load_status : LoadRefusal → ℕ
+load_status (LoadRefusal.NotFound path) = 2
+load_status (LoadRefusal.ReadFault path) = 7
+load_status (LoadRefusal.FileTooLarge path) = 8
+
+-- 1 for words, 2 for a project that isn't one, 3 where the Engine refused, 7 for a fault
+-- outside, 8 for a limit, 9 for memory
+abbrev pub refusal_status : Refusal → ℕ
+refusal_status (Refusal.NotBuilt unbuilt) = unbuilt_status unbuilt
+refusal_status (Refusal.Load refusal) = load_status refusal
+refusal_status (Refusal.Name refusal) = 2
+refusal_status (Refusal.Seen fault) = seen_status fault
+refusal_status (Refusal.Request request outcome) = outcome_status outcome
+refusal_status (Refusal.Outside part) = 7
+refusal_status Refusal.Memory = 9
+
+-- the exit status of a call: 0 where nothing is refused
+abbrev pub status_of : Option Refusal → ℕ
+status_of None = 0
+status_of (Some refusal) = refusal_status refusal

@@ -1,0 +1,53 @@
+use engine_types::{Outcome, Request, SeenFault};
+use tree_base::{Place, Text};
+
+/// Why a call ended otherwise than well. Each has its exit status and the line that it prints.
+#[derive(Debug, Drop)]
+pub enum Refusal {
+    /// What was asked for is not built yet.
+    NotBuilt(Unbuilt),
+    /// The project couldn't be loaded.
+    Load(LoadRefusal),
+    /// The project has no name.
+    Name(ProjectRefusal),
+    /// The observation ended so.
+    Seen(SeenFault),
+    /// An exchange of the run didn't end well.
+    Request { request: Request, outcome: Outcome },
+    /// Something outside failed.
+    Outside(Part),
+    /// Memory was wanted.
+    Memory,
+}
+
+/// What is not built yet.
+#[derive(Debug, Drop)]
+pub enum Unbuilt {
+    /// The words of the command line.
+    Words,
+    /// The text of a file, from a place on.
+    Text { path: Text, place: Place },
+}
+
+/// Why a project couldn't be loaded, with the path of the file.
+#[derive(Debug, Drop)]
+pub enum LoadRefusal {
+    NotFound { path: Text },
+    ReadFault { path: Text },
+    /// The file has more bytes than the limit.
+    FileTooLarge { path: Text },
+}
+
+/// What is wrong with a project.
+#[derive(Debug, Drop)]
+pub enum ProjectRefusal {
+    /// The project's name, or what is left of the directory's name, isn't one.
+    BadName { name: Text },
+}
+
+/// The parts of the outside whose faults end a call.
+#[derive(Debug, Clone, Copy, PartialEq, Eq)]
+pub enum Part {
+    Out,
+    Plug,
+}

@@ -1,0 +1,87 @@
+ghost use Rattle.std.specs.Prelude.{◌≡◌};
+ghost use Rattle.run_model.specs.Ending.{lost_status, seen_status, outcome_status};
+ghost use Rattle.refusals.specs.Statuses.{unbuilt_status, load_status, refusal_status, status_of};
+
+use crate::refusal::{LoadRefusal, Refusal, Unbuilt};
+use engine_types::{Outcome, SeenFault, WireEnd};
+
+/// The exit status of a call: 0 where nothing is refused.
+pub fn status_of(refusal: &Option<Refusal>) -> u8
+    ensures { result ≡ status_of refusal.now }
+{
+    match refusal {
+        None => 0,
+        Some(refusal) => refusal_status(refusal),
+    }
+}
+
+/// The exit status of a refusal.
+pub fn refusal_status(refusal: &Refusal) -> u8
+    ensures { result ≡ refusal_status refusal.now }
+{
+    match refusal {
+        Refusal::NotBuilt(unbuilt) => unbuilt_status(unbuilt),
+        Refusal::Load(refusal) => load_status(refusal),
+        Refusal::Name(_) => 2,
+        Refusal::Seen(fault) => seen_status(fault),
+        Refusal::Request { outcome, .. } => outcome_status(outcome),
+        Refusal::Outside(_) => 7,
+        Refusal::Memory => 9,
+    }
+}
+
+fn unbuilt_status(unbuilt: &Unbuilt) -> u8
+    ensures { result ≡ unbuilt_status unbuilt.now }
+{
+    match unbuilt {
+        Unbuilt::Words => 1,
+        Unbuilt::Text { .. } => 2,
+    }
+}
+
+fn load_status(refusal: &LoadRefusal) -> u8
+    ensures { result ≡ load_status refusal.now }
+{
+    match refusal {
+        LoadRefusal::NotFound { .. } => 2,
+        LoadRefusal::ReadFault { .. } => 7,
+        LoadRefusal::FileTooLarge { .. } => 8,
+    }
+}
+
+fn seen_status(fault: &SeenFault) -> u8
+    ensures { result ≡ seen_status fault.now }
+{
+    match fault {
+        SeenFault::RequestFailed { .. } => 3,
+        SeenFault::PullFailed { .. } => 3,
+        SeenFault::Lost { cause, .. } => lost_status(*cause),
+        SeenFault::NotSent { .. } => 7,
+        SeenFault::NetworkTwice { .. } => 3,
+        SeenFault::ForeignNetwork { .. } => 3,
+        SeenFault::ExternalMissing { .. } => 3,
+        SeenFault::NeedsBuild { .. } => 3,
+        SeenFault::TooManyActions { .. } => 8,
+        SeenFault::Memory => 9,
+    }
+}
+
+fn outcome_status(outcome: &Outcome) -> u8
+    ensures { result ≡ outcome_status outcome.now }
+{
+    match outcome {
+        Outcome::Answered(_) => 3,
+        Outcome::Lost(cause) => lost_status(*cause),
+        Outcome::NotSent => 7,
+        Outcome::Memory => 9,
+    }
+}
+
+fn lost_status(cause: WireEnd) -> u8
+    ensures { result ≡ lost_status cause }
+{
+    match cause {
+        WireEnd::TooLarge => 8,
+        _ => 7,
+    }
+}

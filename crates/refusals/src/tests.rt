@@ -1,0 +1,122 @@
+use crate::{
+    LoadRefusal, Part, ProjectRefusal, Refusal, Unbuilt, refusal_line, refusal_status, status_of,
+};
+use engine_types::{Outcome, Reply, Request, SeenFault, WireEnd};
+use std::alloc::Global;
+use std::process::Abort;
+use std::test::Fail;
+use tree_base::{Memory, Place, Text};
+
+/// A refusal has this status and prints this line.
+fn says(
+    rt: &impl Abort,
+    alloc: Global,
+    refusal: Refusal,
+    status: u8,
+    line: &str,
+) -> Result<(), Memory> {
+    assert_eq!(rt; refusal_line(alloc, &refusal)?.as_str(), line);
+    assert_eq!(rt; refusal_status(&refusal), status);
+    assert_eq!(rt; status_of(&Some(refusal)), status);
+    Ok(())
+}
+
+#[test]
+fn a_call_without_a_refusal_has_status_0(rt: HostRuntime) {
+    assert_eq!(rt; status_of(&None), 0);
+}
+
+#[test]
+fn what_is_not_built_is_named_by_its_place(rt: HostRuntime) -> Result<(), Fail> {
+    let alloc = rt.alloc();
+    let words = Refusal::NotBuilt(Unbuilt::Words);
+    says(&rt, alloc, words, 1, "compose: not built: words\n")?;
+    let path = Text::from_str(alloc, "/w/a.yaml")?;
+    let place = Place {
+        file: 0,
+        line: 12,
+        column: 1,
+    };
+    let text = Refusal::NotBuilt(Unbuilt::Text { path, place });
+    says(&rt, alloc, text, 2, "compose: /w/a.yaml:12:1: not built\n")?;
+    Ok(())
+}
+
+#[test]
+fn a_file_is_named_by_its_path(rt: HostRuntime) -> Result<(), Fail> {
+    let alloc = rt.alloc();
+    let path = Text::from_str(alloc, "/a")?;
+    let missing = Refusal::Load(LoadRefusal::NotFound { path });
+    says(&rt, alloc, missing, 2, "compose: /a: NotFound\n")?;
+    let path = Text::from_str(alloc, "/a")?;
+    let unread = Refusal::Load(LoadRefusal::ReadFault { path });
+    says(&rt, alloc, unread, 7, "compose: /a: ReadFault\n")?;
+    let path = Text::from_str(alloc, "/a")?;
+    let large = Refusal::Load(LoadRefusal::FileTooLarge { path });
+    says(&rt, alloc, large, 8, "compose: /a: FileTooLarge\n")?;
+    Ok(())
+}
+
+#[test]
+fn names_and_the_outside_have_lines(rt: HostRuntime) -> Result<(), Fail> {
+    let alloc = rt.alloc();
+    let name = Text::new(alloc);
+    let unnamed = Refusal::Name(ProjectRefusal::BadName { name });
+    says(&rt, alloc, unnamed, 2, "compose: bad project name: \n")?;
+    let plug = Refusal::Outside(Part::Plug);
+    says(&rt, alloc, plug, 7, "compose: fault: Plug\n")?;
+    let out = Refusal::Outside(Part::Out);
+    says(&rt, alloc, out, 7, "compose: fault: Out\n")?;
+    says(&rt, alloc, Refusal::Memory, 9, "compose: memory\n")?;
+    Ok(())
+}
+
+/// What an Engine answered to a request that it refused.
+fn refused(alloc: Global, id: &str, status: u16, message: &str) -> Result<Refusal, Memory> {
+    let request = Request::Start {
+        id: Text::from_str(alloc, id)?,
+    };
+    let message = Text::from_str(alloc, message)?;
+    let outcome = Outcome::Answered(Reply::Refused { status, message });
+    Ok(Refusal::Request { request, outcome })
+}
+
+/// A stop that was lost for this cause.
+fn lost(alloc: Global, id: &str, cause: WireEnd) -> Result<Refusal, Memory> {
+    let request = Request::Stop {
+        id: Text::from_str(alloc, id)?,
+        seconds: 10,
+    };
+    let outcome = Outcome::Lost(cause);
+    Ok(Refusal::Request { request, outcome })
+}
+
+#[test]
+fn requests_of_a_run_are_said_in_words(rt: HostRuntime) -> Result<(), Fail> {
+    let alloc = rt.alloc();
+    let refusal = refused(alloc, "c1", 500, "no space left")?;
+    let line = "compose: refused: start container c1: 500 no space left\n";
+    says(&rt, alloc, refusal, 3, line)?;
+    let cut = lost(alloc, "c2", WireEnd::Ended)?;
+    let line = "compose: lost: stop container c2: Ended\n";
+    says(&rt, alloc, cut, 7, line)?;
+    let large = lost(alloc, "c2", WireEnd::TooLarge)?;
+    let line = "compose: lost: stop container c2: TooLarge\n";
+    says(&rt, alloc, large, 8, line)?;
+    Ok(())
+}
+
+#[test]
+fn an_observation_that_failed_is_said_in_words(rt: HostRuntime) -> Result<(), Fail> {
+    let alloc = rt.alloc();
+    let request = Request::ListNetworks;
+    let unsent = Refusal::Seen(SeenFault::NotSent { request });
+    says(&rt, alloc, unsent, 7, "compose: not sent: list networks\n")?;
+    let image = Text::from_str(alloc, "a:1")?;
+    let message = Text::from_str(alloc, "denied")?;
+    let unpulled = Refusal::Seen(SeenFault::PullFailed { image, message });
+    says(&rt, alloc, unpulled, 3, "compose: pull a:1: denied\n")?;
+    let many = Refusal::Seen(SeenFault::TooManyActions { count: 10_001 });
+    says(&rt, alloc, many, 8, "compose: TooManyActions: 10001\n")?;
+    Ok(())
+}
