@@ -5,7 +5,6 @@ use Rattle.compose_cli.specs.Writing.{Says}
 use Rattle.compose_cli.specs.declared.ended.Ended.{Ended}
 use Rattle.refusals.specs.declared.Refusal.{Refusal}
 use Rattle.refusals.specs.declared.LoadRefusal.{LoadRefusal}
-use Rattle.refusals.specs.declared.Part.{Part}
 
 -- no hand was made, and the journal is empty
 abbrev pub SendsNothing : {H : Type 0} → Ended H → Type 0

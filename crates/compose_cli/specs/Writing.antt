@@ -1,5 +1,5 @@
 -- What a text leaves in a sink.
-use Rattle.std.specs.Prelude.{◌≡◌, ◌⊎◌, ℕ, ◌≤◌, Bool, true, false, List, ◌++◌, length, take, Option, Some, None}
+use Rattle.std.specs.Prelude.{ℕ, ◌≤◌, Bool, true, false, List, length, take, Option}
 use Rattle.outside_api.specs.Counts.{Rose}
 use Rattle.outside_api.specs.Sinks.{GrewBy}
 

@@ -1,4 +1,4 @@
-ghost use Rattle.std.specs.Prelude.{◌≡◌, ◌≤◌};
+ghost use Rattle.std.specs.Prelude.{◌≤◌};
 ghost use Rattle.compose_cli.specs.Writing.{Wrote};
 
 use outside_api::{Sink, SinkAnswer};

@@ -5,13 +5,13 @@
 #![tactic(auto)]
 
 mod directory;
-mod load;
+mod loading;
 mod project;
 mod project_name;
 mod text;
 mod words;
 
-pub use load::load;
+pub use loading::load;
 pub use project::Project;
 
 #[cfg(test)]

@@ -1,7 +1,7 @@
 use Rattle.std.proofs.Common.{◌≡◌, ◌∙◌, sym, refl, ap, true, rules, tests}
 use Rattle.one_service.specs.Loading.{are_built}
 use Rattle.one_service.proofs.Loads.{IfSome-map, loads_bytes, loads_missing, loads_longer}
-use Rattle.one_service.proofs.load.load.Goals as goal
+use Rattle.one_service.proofs.loading.load.Goals as goal
 
 pub returns-in-Bytes-clause-told : goal.returns-in-Bytes-clause-told
 returns-in-Bytes-clause-told g c =
