@@ -1,5 +1,5 @@
 ghost use Rattle.std.specs.Prelude.{Some};
-ghost use Rattle.compose_cli.specs.Ends.{IsOfRun};
+ghost use Rattle.refusals.specs.Origins.{IsOfRun};
 
 use crate::planning::{as_number, kept};
 use engine_types::{

@@ -1,5 +1,5 @@
 ghost use Rattle.std.specs.Prelude.{Some, IfOk};
-ghost use Rattle.compose_cli.specs.Ends.{IsOfRun};
+ghost use Rattle.refusals.specs.Origins.{IsOfRun};
 
 use crate::declaring::declare;
 use crate::observing::observe;

@@ -1,4 +1,4 @@
-use Rattle.compose_cli.specs.Ends.{IsOfRun}
+use Rattle.refusals.specs.Origins.{IsOfRun}
 use Rattle.compose_cli.proofs.running.make_all.Given as goal
 
 abbrev pub invariant-loop-at : goal.invariant-loop-at
