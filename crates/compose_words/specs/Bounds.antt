@@ -1,0 +1,28 @@
+-- The numbers of a command line are within their bounds, and the places of refusals within the words.
+use Rattle.std.specs.Prelude.{◌≤◌, ◌<◌, ℕ, IfSome}
+use Rattle.compose_words.specs.declared.options.Command.{Command}
+use Rattle.compose_words.specs.declared.options.Options.{Options}
+use Rattle.compose_words.specs.declared.refusal.WordsRefusal.{WordsRefusal}
+
+-- a time is at most a million seconds, and a simulated project has 1 to 1,000 services
+abbrev pub CommandIsBounded : Command → Type 0
+CommandIsBounded (Command.Config json quiet) = Unit {0}
+CommandIsBounded (Command.Up orphans wait seconds) = IfSome seconds (λ s. s ≤ 1000000)
+CommandIsBounded (Command.Down orphans volumes seconds) = IfSome seconds (λ s. s ≤ 1000000)
+CommandIsBounded (Command.Simulate number) = (1 ≤ number) × (number ≤ 1000)
+
+-- the options of a run that can be made: with 1 to 16 workers
+pub record IsBounded (options : Options) : Type 0 where
+  pub workers : (1 ≤ options.parallel) × (options.parallel ≤ 16)
+  pub command : CommandIsBounded options.command
+
+-- the place of a refusal is that of one of so many words, where it has a place
+abbrev pub IsWithin : ℕ → WordsRefusal → Type 0
+IsWithin count (WordsRefusal.UnknownWord at) = at < count
+IsWithin count (WordsRefusal.MissingValue at) = at < count
+IsWithin count (WordsRefusal.BadNumber at) = at < count
+IsWithin count (WordsRefusal.BadChoice at) = at < count
+IsWithin count (WordsRefusal.Twice at) = at < count
+IsWithin count WordsRefusal.NoCommand = Unit {0}
+IsWithin count WordsRefusal.BadHost = Unit {0}
+IsWithin count WordsRefusal.Memory = Unit {0}

@@ -1,0 +1,10 @@
+pub mod Bounds
+pub mod Contents
+pub mod Items
+pub mod Lookups
+pub mod Notices
+pub mod Printed
+pub mod Reading
+pub mod Refusals
+pub mod Table
+pub mod Tiling

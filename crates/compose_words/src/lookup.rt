@@ -1,0 +1,165 @@
+ghost use Rattle.std.specs.Prelude.{◌≡◌, IfOk};
+ghost use Rattle.std.specs.Option.{option_copied, option_map};
+ghost use Rattle.compose_words.specs.Lookups.{first_given, first_verb, format_in, number_in, text_in, value_given, values_given, verb_of};
+
+use crate::content::Content;
+use crate::item::{Item, Role, Value};
+use crate::options::Verb;
+use crate::table::{CommandName, OptionName};
+use std::alloc::Global;
+use tree_base::{List, Memory, Text};
+
+impl Content {
+    fn text(&self) -> Option<&Text>
+        ensures { option_copied result ≡ text_in self.now }
+    {
+        match self {
+            Content::Text(text) => Some(text),
+            Content::Number(_) => None,
+            Content::Format(_) => None,
+            Content::Wrong => None,
+        }
+    }
+
+    fn number(&self) -> Option<u32>
+        ensures { result ≡ number_in self.now }
+    {
+        match self {
+            Content::Text(_) => None,
+            Content::Number(number) => Some(*number),
+            Content::Format(_) => None,
+            Content::Wrong => None,
+        }
+    }
+
+    fn format(&self) -> Option<bool>
+        ensures { result ≡ format_in self.now }
+    {
+        match self {
+            Content::Text(_) => None,
+            Content::Number(_) => None,
+            Content::Format(json) => Some(*json),
+            Content::Wrong => None,
+        }
+    }
+}
+
+impl Item {
+    fn text_given(&self, name: OptionName) -> Option<&Text>
+        ensures { option_copied result ≡ value_given text_in name self.now }
+    {
+        match &self.value {
+            Some(value) if self.gives(name) => value.content.text(),
+            _ => None,
+        }
+    }
+
+    fn number_given(&self, name: OptionName) -> Option<u32>
+        ensures { result ≡ value_given number_in name self.now }
+    {
+        match &self.value {
+            Some(value) if self.gives(name) => value.content.number(),
+            _ => None,
+        }
+    }
+
+    fn format_given(&self, name: OptionName) -> Option<bool>
+        ensures { result ≡ value_given format_in name self.now }
+    {
+        match &self.value {
+            Some(value) if self.gives(name) => value.content.format(),
+            _ => None,
+        }
+    }
+
+    fn verb(&self) -> Option<Verb>
+        ensures { result ≡ verb_of self.now }
+    {
+        let Role::Command(rule) = self.role else {
+            return None;
+        };
+        match rule.name {
+            CommandName::Config => Some(Verb::Config),
+            CommandName::Up => Some(Verb::Up),
+            CommandName::Down => Some(Verb::Down),
+            CommandName::Simulate => match &self.value {
+                Some(value) => simulation(value),
+                None => None,
+            },
+        }
+    }
+}
+
+fn simulation(value: &Value) -> Option<Verb>
+    ensures { result ≡ option_map Verb.Simulate (number_in value.now.content) }
+{
+    match value.content.number() {
+        Some(number) => Some(Verb::Simulate(number)),
+        None => None,
+    }
+}
+
+/// The texts that were given to an option, from left to right.
+pub(crate) fn texts(alloc: Global, items: &[Item], name: OptionName) -> Result<List<Text>, Memory>
+    ensures { IfOk result (λ texts. texts ≡ values_given text_in name items.now) }
+{
+    let mut texts = List::new(alloc);
+    for item in items {
+        if let Some(text) = item.text_given(name) {
+            texts.push(text.copy(alloc)?)?;
+        }
+    }
+    Ok(texts)
+}
+
+/// The text that was given to an option first.
+pub(crate) fn first_text(
+    alloc: Global,
+    items: &[Item],
+    name: OptionName,
+) -> Result<Option<Text>, Memory>
+    ensures { IfOk result (λ text. text ≡ first_given text_in name items.now) }
+{
+    for item in items {
+        if let Some(text) = item.text_given(name) {
+            return Ok(Some(text.copy(alloc)?));
+        }
+    }
+    Ok(None)
+}
+
+/// The number that was given to an option first.
+pub(crate) fn first_number(items: &[Item], name: OptionName) -> Option<u32>
+    ensures { result ≡ first_given number_in name items.now }
+{
+    for item in items {
+        if let Some(number) = item.number_given(name) {
+            return Some(number);
+        }
+    }
+    None
+}
+
+/// Whether JSON was asked for, where a form of the page was.
+pub(crate) fn first_format(items: &[Item], name: OptionName) -> Option<bool>
+    ensures { result ≡ first_given format_in name items.now }
+{
+    for item in items {
+        if let Some(json) = item.format_given(name) {
+            return Some(json);
+        }
+    }
+    None
+}
+
+/// The first command.
+pub(crate) fn first_verb(items: &[Item]) -> Option<Verb>
+    ensures { result ≡ first_verb items.now }
+{
+    for item in items {
+        if let Some(verb) = item.verb() {
+            return Some(verb);
+        }
+    }
+    None
+}

@@ -1,0 +1,128 @@
+ghost use Rattle.std.specs.Prelude.{◌≡◌, IfOk};
+ghost use Rattle.compose_words.specs.Lookups.{command_with, format_in, name_of, number_in, options_with, values_given, first_given, text_in};
+
+use crate::item::Item;
+use crate::lookup::{first_format, first_number, first_text, texts};
+use crate::refusal::is_given;
+use crate::table::{CommandName, OptionName};
+use std::alloc::Global;
+use tree_base::{List, Memory, Text};
+
+/// How many workers there are where nothing is said.
+const USUAL_WORKERS: u32 = 4;
+
+/// A command with its options, as a command line gives them. Paths and names stand as they were given.
+#[derive(Debug, Drop)]
+pub struct Options {
+    /// The command with its own options.
+    pub command: Command,
+    /// `--file`, in order.
+    pub files: List<Text>,
+    /// `--project-name`.
+    pub project: Option<Text>,
+    /// `--project-directory`.
+    pub directory: Option<Text>,
+    /// `--profile`, in order.
+    pub profiles: List<Text>,
+    /// `--env-file`, in order.
+    pub env_files: List<Text>,
+    /// `--parallel`: 1 to 16 workers.
+    pub parallel: u32,
+    /// `--socket`.
+    pub socket: Option<Text>,
+    /// `--memory`.
+    pub in_memory: bool,
+    /// `--stop-file`.
+    pub stop_file: Option<Text>,
+}
+
+/// A command with the options that are its own. Times are in seconds, at most 1,000,000.
+#[derive(Debug, Drop, Clone, Copy, PartialEq, Eq)]
+pub enum Command {
+    /// Prints the project: as JSON, or nothing at all.
+    Config {
+        json: bool,
+        quiet: bool,
+    },
+    /// Creates and starts what the project declares.
+    Up {
+        orphans: bool,
+        wait: bool,
+        wait_seconds: Option<u32>,
+    },
+    /// Stops and removes it.
+    Down {
+        orphans: bool,
+        volumes: bool,
+        seconds: Option<u32>,
+    },
+    /// Runs a project of so many services against an Engine in memory, 1 to 1,000.
+    Simulate {
+        number: u32,
+    },
+}
+
+/// A command with its number alone.
+#[derive(Clone, Copy)]
+pub enum Verb {
+    Config,
+    Up,
+    Down,
+    Simulate(u32),
+}
+
+impl Verb {
+    /// The command without its number.
+    pub(crate) fn name(self) -> CommandName
+        ensures { result ≡ name_of self }
+    {
+        match self {
+            Verb::Config => CommandName::Config,
+            Verb::Up => CommandName::Up,
+            Verb::Down => CommandName::Down,
+            Verb::Simulate(_) => CommandName::Simulate,
+        }
+    }
+}
+
+/// The command with its own options.
+fn command_with(verb: Verb, items: &[Item]) -> Command
+    ensures { result ≡ command_with verb items.now }
+{
+    match verb {
+        Verb::Config => Command::Config {
+            json: first_format(items, OptionName::Format).unwrap_or(false),
+            quiet: is_given(items, OptionName::Quiet),
+        },
+        Verb::Up => Command::Up {
+            orphans: is_given(items, OptionName::RemoveOrphans),
+            wait: is_given(items, OptionName::Wait),
+            wait_seconds: first_number(items, OptionName::WaitTimeout),
+        },
+        Verb::Down => Command::Down {
+            orphans: is_given(items, OptionName::RemoveOrphans),
+            volumes: is_given(items, OptionName::Volumes),
+            seconds: first_number(items, OptionName::Timeout),
+        },
+        Verb::Simulate(number) => Command::Simulate { number },
+    }
+}
+
+/// The command and its options as a whole.
+pub(crate) fn options_with(alloc: Global, verb: Verb, items: &[Item]) -> Result<Options, Memory>
+    ensures { IfOk result (λ options. options ≡ options_with verb items.now) }
+{
+    let workers = first_number(items, OptionName::Parallel);
+    Ok(Options {
+        command: command_with(verb, items),
+        files: texts(alloc, items, OptionName::File)?,
+        project: first_text(alloc, items, OptionName::ProjectName)?,
+        directory: first_text(alloc, items, OptionName::ProjectDirectory)?,
+        profiles: texts(alloc, items, OptionName::Profile)?,
+        env_files: texts(alloc, items, OptionName::EnvFile)?,
+        parallel: workers.unwrap_or(USUAL_WORKERS),
+        socket: first_text(alloc, items, OptionName::Socket)?,
+        in_memory: is_given(items, OptionName::Memory),
+        stop_file: first_text(alloc, items, OptionName::StopFile)?,
+    })
+}
