@@ -1,0 +1,5 @@
+pub mod BlockSteps
+pub mod LineLemmas
+pub mod PlaceLemmas
+pub mod QuoteLemmas
+pub mod QuoteSteps

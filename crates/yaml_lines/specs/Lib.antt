@@ -1,0 +1,10 @@
+pub mod Answers
+pub mod Blanks
+pub mod Block
+pub mod Laws
+pub mod Plain
+pub mod Printed
+pub mod Quoted
+pub mod Rows
+pub mod Scan
+pub mod Spelling
