@@ -15,7 +15,9 @@ pub struct MainPlug {
 
 impl MainPlug {
     /// A plug that made no hand yet. No memory.
-    pub fn new() -> MainPlug {
+    pub fn new() -> MainPlug
+        ensures faults { ⟦<MainPlug as Plug>⟧.faults result ≡ 0 }
+    {
         MainPlug { failed: 0 }
     }
 }

@@ -6,19 +6,11 @@ use engine_types::{Entry, Request};
 use memory_engine::MemoryEngine;
 use outside_api::{DialAnswer, MemoryFiles, MemorySink, Plug, Target};
 use std::alloc::Global;
-use std::process::Abort;
+use std::str;
 use std::test::Fail;
 use tree_base::{Env, List, Memory, Text, TextMap};
 
 const ONE_SERVICE: &str = "services:\n  web:\n    image: nginx:1.25\n    network_mode: none\n";
-
-/// What a call ended with and wrote.
-#[derive(Drop)]
-struct Called {
-    ended: Ended<MemoryHand>,
-    out: MemorySink,
-    err: MemorySink,
-}
 
 /// Words that are parted by spaces.
 fn words_of(alloc: Global, line: &str) -> Result<List<Text>, Memory> {
@@ -42,6 +34,72 @@ fn one_file(alloc: Global, path: &str, text: &str, fails: bool) -> Result<Memory
     Ok(MemoryFiles::new(files, numbers))
 }
 
+/// The kinds of a journal's entries, each by its first letter.
+fn push_kinds(said: &mut Text, journal: &[Entry]) -> Result<(), Memory> {
+    for entry in journal {
+        said.push_str(match entry {
+            Entry::Seen(_) => "S",
+            Entry::Claim { .. } => "C",
+            Entry::Ended { .. } => "E",
+            Entry::Leave { .. } => "L",
+            _ => "?",
+        })?;
+    }
+    Ok(())
+}
+
+/// The requests of a hand's log, each by its first letter.
+fn push_requests(said: &mut Text, hand: &MemoryHand) -> Result<(), Memory> {
+    for exchange in hand.log() {
+        said.push_str(match exchange.request {
+            Request::ListContainers { .. } => "L",
+            Request::Image { .. } => "I",
+            Request::Pull { .. } => "P",
+            Request::Create { .. } => "C",
+            Request::Start { .. } => "S",
+            _ => "?",
+        })?;
+    }
+    Ok(())
+}
+
+/// A mark, and behind it the text that a sink took.
+fn push_written(said: &mut Text, mark: &str, sink: &MemorySink) -> Result<(), Memory> {
+    said.push_str(mark)?;
+    match str::from_utf8(sink.written()) {
+        Ok(text) => said.push_str(text),
+        Err(_) => said.push_str("?"),
+    }
+}
+
+/// What a call ended with: its status, its journal, and the requests of each hand.
+fn push_ended(alloc: Global, said: &mut Text, ended: &Ended<MemoryHand>) -> Result<(), Memory> {
+    let status = ended.status;
+    let status = format!(in alloc; "{status}")?;
+    said.push_str(status.as_str())?;
+    said.push_str(" journal ")?;
+    push_kinds(said, ended.journal.as_slice())?;
+    for hand in ended.hands.as_slice() {
+        said.push_str(" hand ")?;
+        push_requests(said, hand)?;
+    }
+    Ok(())
+}
+
+/// What a call ended with and wrote, in one text.
+fn said_by(
+    alloc: Global,
+    ended: &Ended<MemoryHand>,
+    out: &MemorySink,
+    err: &MemorySink,
+) -> Result<Text, Memory> {
+    let mut said = Text::new(alloc);
+    push_ended(alloc, &mut said, ended)?;
+    push_written(&mut said, " out ", out)?;
+    push_written(&mut said, " err ", err)?;
+    Ok(said)
+}
+
 /// Makes a call with a plug that made so many hands.
 fn call(
     alloc: Global,
@@ -50,7 +108,7 @@ fn call(
     files: &mut MemoryFiles,
     plug: &mut MemoryPlug,
     dialled: u64,
-) -> Result<Called, Memory>
+) -> Result<Text, Memory>
     requires told { ⟦<MemoryPlug as Plug>⟧.dialled plug.old ≡ Some dialled }
     requires below { dialled < 2 ^ 61 }
 {
@@ -62,143 +120,117 @@ fn call(
     let ended = serial_main(
         alloc, &words, &env, &directory, files, plug, &mut out, &mut err,
     );
-    Ok(Called { ended, out, err })
+    said_by(alloc, &ended, &out, &err)
 }
 
-/// The kinds of a journal's entries, each by its first letter.
-fn kinds_of(alloc: Global, journal: &[Entry]) -> Result<Text, Memory> {
-    let mut kinds = Text::new(alloc);
-    for entry in journal {
-        kinds.push_str(match entry {
-            Entry::Seen(_) => "S",
-            Entry::Claim { .. } => "C",
-            Entry::Ended { .. } => "E",
-            Entry::Leave { .. } => "L",
-            _ => "?",
-        })?;
-    }
-    Ok(kinds)
-}
-
-/// The requests of a hand's log, each by its first letter.
-fn requests_of(alloc: Global, hand: &MemoryHand) -> Result<Text, Memory> {
-    let mut requests = Text::new(alloc);
-    for exchange in hand.log() {
-        requests.push_str(match exchange.request {
-            Request::ListContainers { .. } => "L",
-            Request::Image { .. } => "I",
-            Request::Pull { .. } => "P",
-            Request::Create { .. } => "C",
-            Request::Start { .. } => "S",
-            _ => "?",
-        })?;
-    }
-    Ok(requests)
-}
-
-#[test]
-fn one_service_comes_up(rt: HostRuntime) -> Result<(), Fail> {
-    let alloc = rt.alloc();
-    let mut files = one_file(alloc, "/w/shop/compose.yaml", ONE_SERVICE, false)?;
-    let mut plug = MemoryPlug::new(MemoryEngine::fresh(alloc)?, 1);
-    let called = call(alloc, "--memory up", "/w/shop", &mut files, &mut plug, 0)?;
-    assert_eq!(rt; called.ended.status, 0);
-    let out = b"container shop-web-1 created\ncontainer shop-web-1 started\n";
-    assert_eq!(rt; called.out.written(), out.as_slice());
-    assert_eq!(rt; called.err.written().len(), 0);
-    assert!(rt; called.ended.refusal.is_none());
-    let kinds = kinds_of(alloc, called.ended.journal.as_slice())?;
-    assert_eq!(rt; kinds.as_str(), "SCECEL");
-    assert_eq!(rt; called.ended.hands.len(), 1);
-    for hand in called.ended.hands.as_slice() {
-        assert_eq!(rt; requests_of(alloc, hand)?.as_str(), "LIPICS");
-        assert_eq!(rt; hand.engine.engine.containers.len(), 1);
-    }
-    Ok(())
-}
-
-/// Makes a call that is refused before a hand is made, with this status and line.
-fn refuse(
-    rt: &impl Abort,
+/// Makes a call on a fresh Engine.
+fn fresh_call(
     alloc: Global,
     line: &str,
     directory: &str,
     files: &mut MemoryFiles,
-    status: u8,
-    said: &str,
-) -> Result<(), Memory> {
+) -> Result<Text, Memory> {
     let mut plug = MemoryPlug::new(MemoryEngine::fresh(alloc)?, 1);
-    let called = call(alloc, line, directory, files, &mut plug, 0)?;
-    assert_eq!(rt; called.ended.status, status);
-    assert_eq!(rt; called.err.written(), said.as_bytes());
-    assert_eq!(rt; called.out.written().len(), 0);
-    assert_eq!(rt; called.ended.journal.len(), 0);
-    assert_eq!(rt; called.ended.hands.len(), 0);
+    call(alloc, line, directory, files, &mut plug, 0)
+}
+
+/// Makes a call in a directory where there is one file.
+fn says(
+    alloc: Global,
+    line: &str,
+    directory: &str,
+    path: &str,
+    text: &str,
+) -> Result<Text, Memory> {
+    let mut files = one_file(alloc, path, text, false)?;
+    fresh_call(alloc, line, directory, &mut files)
+}
+
+#[test]
+fn one_service_comes_up(rt: HostRuntime) -> Result<(), Fail> {
+    let path = "/w/shop/compose.yaml";
+    let said = says(rt.alloc(), "--memory up", "/w/shop", path, ONE_SERVICE)?;
+    assert_eq!(rt;
+        said.as_str(),
+        "0 journal SCECEL hand LIPICS out container shop-web-1 created\ncontainer shop-web-1 started\n err "
+    );
     Ok(())
 }
 
 #[test]
 fn other_words_are_refused(rt: HostRuntime) -> Result<(), Fail> {
-    let alloc = rt.alloc();
-    let mut files = one_file(alloc, "/w/shop/compose.yaml", ONE_SERVICE, false)?;
-    let line = "compose: not built: words\n";
-    refuse(&rt, alloc, "", "/w/shop", &mut files, 1, line)?;
-    refuse(&rt, alloc, "up --memory", "/w/shop", &mut files, 1, line)?;
-    refuse(&rt, alloc, "--memory up x", "/w/shop", &mut files, 1, line)?;
+    for line in ["", "up --memory", "--memory up x"] {
+        let path = "/w/shop/compose.yaml";
+        let said = says(rt.alloc(), line, "/w/shop", path, ONE_SERVICE)?;
+        assert_eq!(rt;
+            said.as_str(),
+            "1 journal  out  err compose: not built: words\n"
+        );
+    }
     Ok(())
 }
 
 #[test]
-fn files_are_refused(rt: HostRuntime) -> Result<(), Fail> {
-    let alloc = rt.alloc();
-    let mut files = one_file(alloc, "/w/compose.yaml", ONE_SERVICE, false)?;
-    let line = "compose: /w/shop/compose.yaml: NotFound\n";
-    refuse(
-        &rt,
-        alloc,
-        "--memory up",
-        "/w/x/.././shop/",
-        &mut files,
-        2,
-        line,
-    )?;
-    let mut files = one_file(alloc, "/w/shop/compose.yaml", ONE_SERVICE, true)?;
-    let line = "compose: /w/shop/compose.yaml: ReadFault\n";
-    refuse(&rt, alloc, "--memory up", "/w/shop", &mut files, 7, line)?;
+fn a_missing_file_is_refused(rt: HostRuntime) -> Result<(), Fail> {
+    let path = "/w/compose.yaml";
+    let said = says(rt.alloc(), "--memory up", "/w/x/.././shop/", path, "")?;
+    assert_eq!(rt;
+        said.as_str(),
+        "2 journal  out  err compose: /w/shop/compose.yaml: NotFound\n"
+    );
     Ok(())
 }
 
 #[test]
 fn an_empty_file_is_refused_at_its_first_line(rt: HostRuntime) -> Result<(), Fail> {
-    let alloc = rt.alloc();
-    let mut files = one_file(alloc, "/w/shop/compose.yaml", "", false)?;
-    let line = "compose: /w/shop/compose.yaml:1:1: not built\n";
-    refuse(&rt, alloc, "--memory up", "/w/shop", &mut files, 2, line)?;
+    let path = "/w/shop/compose.yaml";
+    let said = says(rt.alloc(), "--memory up", "/w/shop", path, "")?;
+    assert_eq!(rt;
+        said.as_str(),
+        "2 journal  out  err compose: /w/shop/compose.yaml:1:1: not built\n"
+    );
     Ok(())
 }
 
 #[test]
 fn a_directory_without_a_name_is_refused(rt: HostRuntime) -> Result<(), Fail> {
-    let alloc = rt.alloc();
-    let mut files = one_file(alloc, "/compose.yaml", ONE_SERVICE, false)?;
-    let line = "compose: bad project name: \n";
-    refuse(&rt, alloc, "--memory up", "/", &mut files, 2, line)?;
+    let said = says(rt.alloc(), "--memory up", "/", "/compose.yaml", ONE_SERVICE)?;
+    assert_eq!(rt;
+        said.as_str(),
+        "2 journal  out  err compose: bad project name: \n"
+    );
     Ok(())
+}
+
+/// Makes a call whose file can't be read.
+fn unread(alloc: Global) -> Result<Text, Memory> {
+    let mut files = one_file(alloc, "/w/shop/compose.yaml", ONE_SERVICE, true)?;
+    fresh_call(alloc, "--memory up", "/w/shop", &mut files)
+}
+
+#[test]
+fn a_file_that_is_not_read_is_a_fault(rt: HostRuntime) -> Result<(), Fail> {
+    let said = unread(rt.alloc())?;
+    assert_eq!(rt;
+        said.as_str(),
+        "7 journal  out  err compose: /w/shop/compose.yaml: ReadFault\n"
+    );
+    Ok(())
+}
+
+/// Makes a call with a plug whose one hand was made before.
+fn without_a_hand(alloc: Global) -> Result<Text, Memory> {
+    let mut files = one_file(alloc, "/w/shop/compose.yaml", ONE_SERVICE, false)?;
+    let mut plug = MemoryPlug::new(MemoryEngine::fresh(alloc)?, 1);
+    match plug.dial(alloc, &Target::InMemory, None, 0) {
+        DialAnswer::Dialled(_) => call(alloc, "--memory up", "/w/shop", &mut files, &mut plug, 1),
+        _ => Err(Memory),
+    }
 }
 
 #[test]
 fn a_plug_that_has_no_hand_left_is_a_fault(rt: HostRuntime) -> Result<(), Fail> {
-    let alloc = rt.alloc();
-    let mut files = one_file(alloc, "/w/shop/compose.yaml", ONE_SERVICE, false)?;
-    let mut plug = MemoryPlug::new(MemoryEngine::fresh(alloc)?, 1);
-    match plug.dial(alloc, &Target::InMemory, None, 0) {
-        DialAnswer::Dialled(_) => (),
-        _ => panic!(rt; "no hand"),
-    }
-    let called = call(alloc, "--memory up", "/w/shop", &mut files, &mut plug, 1)?;
-    assert_eq!(rt; called.ended.status, 7);
-    let line = b"compose: fault: Plug\n";
-    assert_eq!(rt; called.err.written(), line.as_slice());
-    assert_eq!(rt; called.ended.hands.len(), 0);
+    let said = without_a_hand(rt.alloc())?;
+    assert_eq!(rt; said.as_str(), "7 journal  out  err compose: fault: Plug\n");
     Ok(())
 }
