@@ -1,4 +1,4 @@
-ghost use Rattle.std.specs.Prelude.{None};
+ghost use Rattle.std.specs.Prelude.{◌≡◌, None};
 
 use engine_hand::MemoryHand;
 use memory_engine::MemoryEngine;
