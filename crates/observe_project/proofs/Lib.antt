@@ -1,0 +1,10 @@
+pub mod Ways
+pub mod Walks
+pub mod Onward
+pub mod Readings
+pub mod Judged
+pub mod Least
+pub mod Firsts
+pub mod Sorting
+pub mod ListTests
+pub mod Ends

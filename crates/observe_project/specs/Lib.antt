@@ -1,0 +1,4 @@
+pub mod Exchanges
+pub mod Steps
+pub mod Reading
+pub mod LeastRows

@@ -1,0 +1,38 @@
+ghost use Rattle.std.specs.Prelude.{◌≡◌, ◌<◌, ◌++◌, ◌∷◌, [], OnOk};
+ghost use Rattle.observe_project.specs.Steps.{Asked, standing};
+
+use crate::outcomes::or_memory;
+use engine_types::{Exchange, Request, SeenFault};
+use outside_api::Hand;
+use std::alloc::Global;
+use tree_base::{ReservedList, TryCopy};
+
+/// Sends a request. Room for its exchange is taken before, so that an exchange that was made is kept.
+pub(crate) fn ask<H: Hand>(
+    alloc: Global,
+    hand: &mut H,
+    request: Request,
+    exchanges: &mut ReservedList<Exchange>,
+) -> Result<Exchange, SeenFault>
+    ensures same { exchanges.new.items ≡ exchanges.old.items }
+    ensures room { OnOk result (0 < exchanges.new.spare) }
+    ensures asked { Asked request result
+        (standing (H.log hand.old) (H.engine hand.old) (H.heard hand.old) (H.faults hand.old) (H.clock hand.old))
+        (standing (H.log hand.new) (H.engine hand.new) (H.heard hand.new) (H.faults hand.new) (H.clock hand.new)) }
+{
+    or_memory(exchanges.reserve(1))?;
+    let kept = or_memory(request.copy(alloc))?;
+    let outcome = hand.exchange(alloc, request);
+    Ok(Exchange {
+        request: kept,
+        outcome,
+    })
+}
+
+/// Keeps an exchange, for which there is room.
+pub(crate) fn keep(exchanges: &mut ReservedList<Exchange>, exchange: Exchange)
+    requires { 0 < exchanges.old.spare }
+    ensures { exchanges.new.items ≡ exchanges.old.items ++ exchange ∷ [] }
+{
+    let _ = exchanges.push(exchange);
+}

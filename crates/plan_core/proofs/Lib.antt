@@ -1,0 +1,9 @@
+pub mod Splits
+pub mod Rows
+pub mod Loops
+pub mod ByKey
+pub mod Least
+pub mod Ranks
+pub mod Orders
+pub mod OrderlyPlans
+pub mod Kept

@@ -1,0 +1,38 @@
+-- One turn more of a loop over a list.
+use Rattle.std.proofs.Common.{◌≡◌, ℕ, zero, suc, ◌+◌, ◌<◌, Bool, false, cond, List, [], ◌∷◌, ◌++◌, map, slice_get, length, get_or, take, refl, sym, ap, ◌∙◌}
+use Rattle.std.specs.Prelude.{filter}
+use Rattle.std.specs.Option.{option_map}
+use Rattle.std.proofs.lemmas.List.{map-append, take_more}
+use Rattle.std.proofs.lemmas.List.Elements.{filter-append}
+use Rattle.run_model.specs.Tests.{numbers_from}
+use Rattle.plan_core.proofs.Rows.{numbers_more}
+
+pub slice_get-map : {X Y : Type 0} (f : X → Y) (xs : List X) (i : ℕ) → slice_get (map f xs) i ≡ option_map f (slice_get xs i)
+slice_get-map f [] i = refl
+slice_get-map f (x ∷ xs) zero = refl
+slice_get-map f (x ∷ xs) (suc i) = slice_get-map f xs i
+
+pub length-mapped : {X Y : Type 0} (f : X → Y) (xs : List X) → length (map f xs) ≡ length xs
+length-mapped f [] = refl
+length-mapped f (x ∷ xs) = ap suc (length-mapped f xs)
+
+-- no element passes
+pub filter-none : {X : Type 0} (p : X → Bool) → ((x : X) → p x ≡ false) → (xs : List X) → filter p xs ≡ []
+filter-none p none [] = refl
+filter-none p none (x ∷ xs) = ap (λ (b : Bool). cond b (x ∷ filter p xs) (filter p xs)) (none x) ∙ filter-none p none xs
+
+-- the numbers that pass, with one more
+pub numbers_passed : (p : ℕ → Bool) (b : Bool) (n : ℕ) → p n ≡ b → filter p (numbers_from 0 (n + 1)) ≡ filter p (numbers_from 0 n) ++ cond b (n ∷ []) []
+numbers_passed p b n e =
+    ap (filter p) (numbers_more n) ∙ filter-append p (numbers_from 0 n) (n ∷ []) ∙ ap (λ (t : Bool). filter p (numbers_from 0 n) ++ cond t (n ∷ []) []) e
+
+module _ {X : Type 0} (xs : List X) (i : ℕ) (x : X) (within : i < length xs) (is : x ≡ get_or xs i x) where
+  pub taken_more : take (i + 1) xs ≡ take i xs ++ x ∷ []
+  taken_more = take_more xs i x within ∙ ap (λ (y : X). take i xs ++ y ∷ []) (sym is)
+
+  pub passed_more : (p : X → Bool) (b : Bool) → p x ≡ b → filter p (take (i + 1) xs) ≡ filter p (take i xs) ++ cond b (x ∷ []) []
+  passed_more p b e =
+      ap (filter p) taken_more ∙ filter-append p (take i xs) (x ∷ []) ∙ ap (λ (t : Bool). filter p (take i xs) ++ cond t (x ∷ []) []) e
+
+  pub mapped_more : {Y : Type 0} (f : X → Y) → map f (take (i + 1) xs) ≡ map f (take i xs) ++ f x ∷ []
+  mapped_more f = ap (map f) taken_more ∙ map-append f (take i xs) (x ∷ [])

@@ -1,0 +1,120 @@
+-- A plan is orderly where its kinds of actions have a rank that rises along needs and starts.
+use Rattle.std.proofs.Common.{◌≡◌, ℕ, ◌<◌, Bool, true, false, cond, List, [], ◌∷◌, length, Option, Some, None, slice_get, refl, sym, ap, ◌∙◌, subst, inl, inr, arith}
+use Rattle.std.specs.Prelude.{find}
+use Rattle.std.specs.Option.{option_map, option_map_or}
+use Rattle.std.proofs.lemmas.Bool.{eqb-true}
+use Rattle.std.proofs.lemmas.Option.{slice_get_within}
+use Rattle.engine_types.specs.declared.Action.{Action}
+use Rattle.engine_types.specs.declared.ActionKind.{ActionKind}
+use Rattle.engine_types.specs.declared.ActionKind.TheVariants.{StartSlot}
+use Rattle.engine_types.specs.declared.Need.{Need}
+use Rattle.run_model.specs.EngineRules.{Among}
+use Rattle.run_model.specs.Plans.{Basis, IsOrderly, is_needed_by, is_start_of, is_wanted, kind_of, needed_by, needs_of, planned, planned_kinds, slot_needs, start_of}
+use Rattle.run_model.specs.Tests.{places}
+use Rattle.run_model.proofs.DistinctLists.{among_numbers, from_filter, from_place}
+use Rattle.run_model.proofs.PlanLaws.{some_from}
+use Rattle.plan_core.proofs.Loops.{length-mapped, slice_get-map}
+use Rattle.plan_core.proofs.Ranks.{below, below_rises, below_short, length_numbers}
+use Rattle.plan_core.proofs.Splits.{by_cases}
+
+-- what a look-up finds is among the items, and passes
+pub among_find : {X : Type 0} (p : X → Bool) (xs : List X) (x : X) → find p xs ≡ Some x → Among xs x × (p x ≡ true)
+among_find p [] x found = absurd (cc found)
+among_find p (y ∷ ys) x found = by_cases (p y)
+    (λ t. let first : Some y ≡ Some x = sym (ap (λ (b : Bool). cond b (Some y) (find p ys)) t) ∙ found in let same : x ≡ y = cc first in (inl same, ap p same ∙ t))
+    (λ f. let rest : find p ys ≡ Some x = sym (ap (λ (b : Bool). cond b (Some y) (find p ys)) f) ∙ found in let r = among_find p ys x rest in (inr r.0, r.1))
+
+module _ (basis : Basis) where
+  abbrev listed : ActionKind → Action
+  listed kind = record { kind = kind; needs = needed_by basis (planned_kinds basis) kind }
+
+  -- the action at a place, whose kind is wanted
+  record IsAt (a : ℕ) (kind : ActionKind) : Type 0 where
+    at : slice_get (planned_kinds basis) a ≡ Some kind
+    is : kind_of (planned basis) a ≡ Some kind
+    wanted : is_wanted basis kind ≡ true
+    within : a < length (planned basis)
+
+  is_at : (a : ℕ) (kind : ActionKind) → slice_get (planned_kinds basis) a ≡ Some kind → IsAt a kind
+  is_at a kind e = record {
+    at = e;
+    is = ap (option_map (λ (action : Action). action.kind)) (slice_get-map listed (planned_kinds basis) a ∙ ap (option_map listed) e);
+    wanted = (from_filter (is_wanted basis) _ kind (from_place (planned_kinds basis) a kind e)).0;
+    within = let h = slice_get_within (planned_kinds basis) a kind e in let l = length-mapped listed (planned_kinds basis) in omega (arith, h, l);
+  }
+
+  from_kind : (a : ℕ) (kind : ActionKind) → kind_of (planned basis) a ≡ Some kind → IsAt a kind
+  from_kind a kind e = at (slice_get (planned_kinds basis) a) refl (sym (ap (option_map (λ (action : Action). action.kind)) (slice_get-map listed (planned_kinds basis) a)) ∙ e)
+    where
+      at : (o : Option ActionKind) → slice_get (planned_kinds basis) a ≡ o → option_map (λ (action : Action). action.kind) (option_map listed o) ≡ Some kind → IsAt a kind
+      at None h k = absurd (cc k)
+      at (Some other) h k = let same : other ≡ kind = cc k in is_at a kind (h ∙ ap Some same)
+
+  record Needs (a b : ℕ) : Type 0 where
+    kind : ActionKind
+    other : ActionKind
+    first : IsAt a kind
+    second : IsAt b other
+    needed : is_needed_by basis kind other ≡ true
+
+  from_needs : (a b : ℕ) → Among (needs_of (planned basis) a) b → Needs a b
+  from_needs a b m = at (slice_get (planned_kinds basis) a) refl
+      (subst (λ (o : Option Action). Among (option_map_or (λ (action : Action). action.needs) o []) b) (slice_get-map listed (planned_kinds basis) a) m)
+    where
+      at : (o : Option ActionKind) → slice_get (planned_kinds basis) a ≡ o → Among (option_map_or (λ (action : Action). action.needs) (option_map listed o) []) b → Needs a b
+      at None h k = absurd k
+      at (Some kind) h k =
+          let passed = from_filter (λ (c : ℕ). option_map_or (is_needed_by basis kind) (slice_get (planned_kinds basis) c) false) (places (planned_kinds basis)) b k in
+          let r = some_from (is_needed_by basis kind) (slice_get (planned_kinds basis) b) passed.0 in
+          record { kind = kind; other = r.0; first = is_at a kind h; second = is_at b r.0 r.1; needed = r.2 }
+
+  -- a rank of actions that rises along what is needed, and along the starts that a start waits for
+  pub record Rises (rank : ActionKind → ℕ) : Type 0 where
+    pub needs : (kind other : ActionKind) → is_needed_by basis kind other ≡ true → rank other < rank kind
+    pub starts : (s : ℕ) (need : Need) → is_wanted basis (StartSlot s) ≡ true → Among (slot_needs basis.declared (Some (StartSlot s))) need
+        → rank (StartSlot need.slot) < rank (StartSlot s)
+
+  start_at : (s : ℕ) (o : Option ActionKind) → is_start_of s o ≡ true → o ≡ Some (StartSlot s)
+  start_at s (Some (StartSlot t)) e = ap (λ (n : ℕ). Some (StartSlot n)) (eqb-true t s e)
+  start_at s _ e = absurd (cc e)
+
+  abbrev all : List ℕ
+  all = places (planned basis)
+
+  among_all : (a : ℕ) → a < length (planned basis) → Among all a
+  among_all a h = among_numbers 0 (length (planned basis)) a (omega arith) (omega (arith, h))
+
+  module _ (rank : ActionKind → ℕ) (rises : Rises rank) where
+    abbrev place_rank : ℕ → ℕ
+    place_rank a = option_map_or rank (kind_of (planned basis) a) 0
+
+    within : (a : ℕ) → a < length (planned basis) → below place_rank all (place_rank a) < length (planned basis)
+    within a h =
+        let short = below_short place_rank all a (among_all a h) in
+        let l = length_numbers 0 (length (planned basis)) in omega (arith, short, l)
+
+    rise : (a b : ℕ) (kind other : ActionKind) → IsAt a kind → IsAt b other → rank other < rank kind
+        → below place_rank all (place_rank b) < below place_rank all (place_rank a)
+    rise a b kind other first second h =
+        let at_a : place_rank a ≡ rank kind = ap (λ (o : Option ActionKind). option_map_or rank o 0) first.is in
+        let at_b : place_rank b ≡ rank other = ap (λ (o : Option ActionKind). option_map_or rank o 0) second.is in
+        below_rises place_rank all b (place_rank a) (among_all b second.within) (omega (arith, at_a, at_b, h))
+
+    starts : (a b : ℕ) (need : Need) (o : Option ActionKind) → kind_of (planned basis) a ≡ o → Among (slot_needs basis.declared (kind_of (planned basis) a)) need
+        → start_of (planned basis) need.slot ≡ Some b → below place_rank all (place_rank b) < below place_rank all (place_rank a)
+    starts a b need (Some (StartSlot s)) h m e =
+        let first = from_kind a (StartSlot s) h in
+        let found = among_find (λ (c : ℕ). is_start_of need.slot (kind_of (planned basis) c)) all b e in
+        let second = from_kind b (StartSlot need.slot) (start_at need.slot (kind_of (planned basis) b) found.1) in
+        rise a b (StartSlot s) (StartSlot need.slot) first second
+        (rises.starts s need first.wanted (subst (λ (k : Option ActionKind). Among (slot_needs basis.declared k) need) h m))
+    starts a b need o h m e = absurd (subst (λ (k : Option ActionKind). Among (slot_needs basis.declared k) need) h m)
+
+    pub orderly : IsOrderly basis.declared (planned basis)
+    orderly = record {
+      rank = λ a. below place_rank all (place_rank a);
+      within = within;
+      there = λ a b m. (from_needs a b m).second.within;
+      needs = λ a b m. let n = from_needs a b m in rise a b n.kind n.other n.first n.second (rises.needs n.kind n.other n.needed);
+      starts = λ a b need m e. starts a b need (kind_of (planned basis) a) refl m e;
+    }

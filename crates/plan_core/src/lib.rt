@@ -1,0 +1,24 @@
+//! The plan of a run: which actions bring the containers of a project from what an observation saw to what the
+//! project declares, or take them down, in which order they are numbered, and which ones each of them needs.
+//!
+//! Contracts say that the plan is the defined one, action by action, for any declared set and anything seen; that
+//! it is refused exactly where it has more actions than a run takes; and which container each slot keeps.
+#![tactic(auto)]
+
+mod keeping;
+mod kinds;
+mod laws;
+mod membership;
+mod needed;
+mod planner;
+mod plans;
+mod refusal;
+mod wanted;
+
+pub use keeping::kept_of;
+pub use laws::plans_are_orderly;
+pub use plans::{plan_down, plan_up};
+pub use refusal::PlanRefusal;
+
+#[cfg(test)]
+mod tests;

@@ -1,0 +1,222 @@
+//! Which actions an action needs to have ended well.
+
+ghost use Rattle.std.specs.Prelude.{◌≡◌, ◌==◌, ◌++◌, ◌∷◌, ℕ, [], false, slice_get, if◌then◌else◌, IfOk, OnOk};
+ghost use Rattle.std.specs.List.{before_first, list_any};
+ghost use Rattle.std.specs.Option.{option_map_or};
+ghost use Rattle.engine_types.specs.declared.ActionKind.TheVariants.{StopContainer, CreateSlot, ConnectSlot, StartSlot};
+ghost use Rattle.run_model.specs.Labels.{names_service};
+ghost use Rattle.run_model.specs.Plans.{Basis, attaches_to, depends_on, is_bound_by, is_in_way, is_needed_by, needed_by, slot_at};
+
+use crate::kinds::number_of;
+use crate::membership::{names_service, names_slot};
+use crate::planner::Planner;
+use engine_types::{ActionKind, ContainerSpec, Declared, Listed, Need, Slot};
+use std::alloc::Global;
+use tree_base::{List, Memory, Text, item_at};
+
+impl Planner<'_> {
+    /// The numbers of the actions that an action needs, of actions that are numbered by their places.
+    pub(crate) fn needed_by(
+        &self,
+        alloc: Global,
+        kinds: &[ActionKind],
+        kind: ActionKind,
+    ) -> Result<List<u32>, Memory>
+        ensures { IfOk result (λ needs. needs ≡ needed_by self.now kinds.now kind) }
+    {
+        let mut needs = List::new(alloc);
+        for at in 0..kinds.len() {
+            let is_needed = self.is_needed_at(alloc, kinds, kind, at)?;
+            push_if(&mut needs, at, is_needed)?;
+        }
+        Ok(needs)
+    }
+
+    /// Whether an action needs the one at a place.
+    fn is_needed_at(
+        &self,
+        alloc: Global,
+        kinds: &[ActionKind],
+        kind: ActionKind,
+        at: usize,
+    ) -> Result<bool, Memory>
+        ensures { IfOk result (λ needed.
+            needed ≡ option_map_or (is_needed_by self.now kind) (slice_get kinds.now at) false) }
+    {
+        match item_at(kinds, at) {
+            Some(other) => self.is_needed_by(alloc, kind, *other),
+            None => Ok(false),
+        }
+    }
+
+    /// Whether an action needs another one.
+    fn is_needed_by(
+        &self,
+        alloc: Global,
+        kind: ActionKind,
+        other: ActionKind,
+    ) -> Result<bool, Memory>
+        ensures { IfOk result (λ needed. needed ≡ is_needed_by self.now kind other) }
+    {
+        match kind {
+            ActionKind::MakeVolume { .. } | ActionKind::MakeNetwork { .. } => Ok(false),
+            ActionKind::StopContainer { container } => Ok(self.stop_needs(container, other)),
+            ActionKind::RemoveContainer { container } => {
+                Ok(other == ActionKind::StopContainer { container })
+            }
+            ActionKind::CreateSlot { slot } => self.create_needs(alloc, slot, other),
+            ActionKind::ConnectSlot { slot, attach } => Ok(self.connect_needs(slot, attach, other)),
+            ActionKind::StartSlot { slot } => Ok(start_needs(slot, other)),
+            ActionKind::RemoveNetwork { .. } | ActionKind::RemoveVolume { .. } => {
+                Ok(matches!(other, ActionKind::RemoveContainer { .. }))
+            }
+        }
+    }
+
+    /// The stop of a container, where the project goes down, needs the removals of the containers whose services
+    /// depend on its service.
+    fn stop_needs(&self, container: u64, other: ActionKind) -> bool
+        ensures { result ≡ is_needed_by self.now (StopContainer container) other }
+    {
+        let ActionKind::RemoveContainer { container: removed } = other else {
+            return false;
+        };
+        let Some(row) = self.seen.containers.get(container as usize) else {
+            return false;
+        };
+        let Some(dependent) = self.seen.containers.get(removed as usize) else {
+            return false;
+        };
+        !self.is_up() && depends_on(self.declared, dependent, row)
+    }
+
+    /// The create of a slot's container needs the removals of the containers that are in its way, and the networks
+    /// and volumes that it uses.
+    fn create_needs(&self, alloc: Global, slot: u32, other: ActionKind) -> Result<bool, Memory>
+        ensures { IfOk result (λ needed. needed ≡ is_needed_by self.now (CreateSlot slot) other) }
+    {
+        let Some(slot) = self.declared.slots.get(slot as usize) else {
+            return Ok(false);
+        };
+        match other {
+            ActionKind::RemoveContainer { container } => {
+                match self.seen.containers.get(container as usize) {
+                    Some(row) => is_in_way(alloc, slot, row),
+                    None => Ok(false),
+                }
+            }
+            ActionKind::MakeNetwork { network } => Ok(attaches_to(slot, network)),
+            ActionKind::MakeVolume { volume } => {
+                Ok(match self.declared.volumes.get(volume as usize) {
+                    Some(volume) => is_bound_by(&slot.spec, &volume.name),
+                    None => false,
+                })
+            }
+            _ => Ok(false),
+        }
+    }
+
+    /// A connect needs the slot's container and the network that it joins.
+    fn connect_needs(&self, slot: u32, attach: u32, other: ActionKind) -> bool
+        ensures { result ≡ is_needed_by self.now (ConnectSlot slot attach) other }
+    {
+        match other {
+            ActionKind::CreateSlot { slot: created } => slot == created,
+            ActionKind::MakeNetwork { network } => {
+                let Some(slot) = self.declared.slots.get(slot as usize) else {
+                    return false;
+                };
+                match slot.attach.get(attach as usize) {
+                    Some(joined) => joined.network == network,
+                    None => false,
+                }
+            }
+            _ => false,
+        }
+    }
+}
+
+/// Puts a place last where it is asked for.
+fn push_if(numbers: &mut List<u32>, at: usize, is_asked: bool) -> Result<(), Memory>
+    ensures { OnOk result (numbers.new ≡ numbers.old ++ (if is_asked then at ∷ [] else [])) }
+{
+    if is_asked {
+        numbers.push(number_of(at)?)?;
+    }
+    Ok(())
+}
+
+/// The start of a slot's container needs its create and its connects.
+fn start_needs(slot: u32, other: ActionKind) -> bool
+    ensures { (basis : Basis) → result ≡ is_needed_by basis (StartSlot slot) other }
+{
+    match other {
+        ActionKind::CreateSlot { slot: created } => slot == created,
+        ActionKind::ConnectSlot { slot: joined, .. } => slot == joined,
+        _ => false,
+    }
+}
+
+/// Whether a container is made with a volume: the name stands before the first colon of a bind.
+fn is_bound_by(spec: &ContainerSpec, name: &Text) -> bool
+    ensures { result ≡ is_bound_by spec.now name.now }
+{
+    match &spec.binds {
+        Some(binds) => binds
+            .as_slice()
+            .iter()
+            .any(|bind| name.as_str() == source_of(bind)),
+        None => false,
+    }
+}
+
+/// What stands before the first colon of a bind, or all of it.
+fn source_of(bind: &Text) -> &str
+    ensures { result.now ≡ before_first (λ (byte : ℕ). byte == 58) bind.now }
+{
+    match bind.as_str().split_once(':') {
+        Some((source, _)) => source,
+        None => bind.as_str(),
+    }
+}
+
+/// Whether a slot attaches to a network.
+fn attaches_to(slot: &Slot, network: u32) -> bool
+    ensures { result ≡ attaches_to network slot.now }
+{
+    slot.attach
+        .as_slice()
+        .iter()
+        .any(|attach| attach.network == network)
+}
+
+/// Whether a container's service depends on another container's.
+fn depends_on(declared: &Declared, row: &Listed, other: &Listed) -> bool
+    ensures { result ≡ depends_on declared.now row.now other.now }
+{
+    declared.slots.as_slice().iter().any(|slot| {
+        names_service(&slot.service, &row.labels)
+            && needs_service_of(declared, slot.needs.as_slice(), other)
+    })
+}
+
+/// Whether one of a slot's needs is of a container's service.
+fn needs_service_of(declared: &Declared, needs: &[Need], other: &Listed) -> bool
+    ensures { result ≡ list_any (λ need. option_map_or (λ slot. names_service slot.service other.now.labels)
+        (slot_at declared.now need.slot) false) needs.now }
+{
+    needs.iter().any(|need| match declared.slots.get(need.slot as usize) {
+        Some(slot) => names_service(&slot.service, &other.labels),
+        None => false,
+    })
+}
+
+/// Whether a container is of a slot or has its name.
+fn is_in_way(alloc: Global, slot: &Slot, row: &Listed) -> Result<bool, Memory>
+    ensures { IfOk result (λ answer. answer ≡ is_in_way slot.now row.now) }
+{
+    if row.name == slot.name {
+        return Ok(true);
+    }
+    names_slot(alloc, slot, &row.labels)
+}

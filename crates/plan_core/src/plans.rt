@@ -1,0 +1,83 @@
+ghost use Rattle.std.specs.Prelude.{◌≡◌, ℕ, IfOk, Err, map, false, true};
+ghost use Rattle.engine_types.specs.declared.Action.{Action};
+ghost use Rattle.run_model.specs.Plans.{action_count, down_basis, is_too_long, needed_by, planned, up_basis};
+
+use crate::planner::Planner;
+use crate::refusal::PlanRefusal;
+use engine_types::{Action, ActionKind, Declared, Plan, Purpose, Seen};
+use std::alloc::Global;
+use tree_base::{List, Memory};
+
+/// The greatest number of actions of a plan.
+const ACTIONS_LIMIT: usize = 65_536;
+
+/// The plan that brings a project up: the volumes and networks that weren't seen are made; the project's containers
+/// that no slot keeps are stopped and removed, orphans where these are asked for; then a container is created for
+/// each slot that keeps none, connected to its other networks, and started where it isn't live.
+pub fn plan_up(
+    alloc: Global,
+    declared: &Declared,
+    seen: &Seen,
+    orphans: bool,
+) -> Result<Plan, PlanRefusal>
+    ensures planned { IfOk result (λ plan. plan.actions ≡ planned (up_basis declared.now seen.now orphans)) }
+    ensures fits { IfOk result (λ plan. is_too_long (up_basis declared.now seen.now orphans) ≡ false) }
+    ensures too_many { (count : ℕ) → result ≡ Err (PlanRefusal.TooManyActions count)
+        → (is_too_long (up_basis declared.now seen.now orphans) ≡ true)
+        × (count ≡ action_count (up_basis declared.now seen.now orphans)) }
+{
+    let planner = Planner::new(alloc, declared, seen, Purpose::Up, orphans, false)?;
+    planner.plan(alloc)
+}
+
+/// The plan that takes a project down: the containers of its slots' services are stopped and removed, dependents
+/// first, and orphans where these are asked for; then its networks are removed, and its volumes where these are
+/// asked for.
+pub fn plan_down(
+    alloc: Global,
+    declared: &Declared,
+    seen: &Seen,
+    orphans: bool,
+    volumes: bool,
+) -> Result<Plan, PlanRefusal>
+    ensures planned { IfOk result (λ plan. plan.actions ≡ planned (down_basis declared.now seen.now orphans volumes)) }
+    ensures fits { IfOk result (λ plan. is_too_long (down_basis declared.now seen.now orphans volumes) ≡ false) }
+    ensures too_many { (count : ℕ) → result ≡ Err (PlanRefusal.TooManyActions count)
+        → (is_too_long (down_basis declared.now seen.now orphans volumes) ≡ true)
+        × (count ≡ action_count (down_basis declared.now seen.now orphans volumes)) }
+{
+    let planner = Planner::new(alloc, declared, seen, Purpose::Down, orphans, volumes)?;
+    planner.plan(alloc)
+}
+
+impl Planner<'_> {
+    /// The plan, or the refusal of one that is too long.
+    fn plan(&self, alloc: Global) -> Result<Plan, PlanRefusal>
+        ensures planned { IfOk result (λ plan. plan.actions ≡ planned self.now) }
+        ensures fits { IfOk result (λ plan. is_too_long self.now ≡ false) }
+        ensures too_many { (count : ℕ) → result ≡ Err (PlanRefusal.TooManyActions count)
+            → (is_too_long self.now ≡ true) × (count ≡ action_count self.now) }
+    {
+        let kinds = self.planned_kinds(alloc)?;
+        if kinds.len() > ACTIONS_LIMIT {
+            return Err(PlanRefusal::TooManyActions {
+                count: kinds.len() as u64,
+            });
+        }
+        let actions = self.actions_of(alloc, kinds.as_slice())?;
+        Ok(Plan { actions })
+    }
+
+    /// Each of a plan's actions with its needs.
+    fn actions_of(&self, alloc: Global, kinds: &[ActionKind]) -> Result<List<Action>, Memory>
+        ensures { IfOk result (λ actions. actions
+            ≡ map (λ kind. record { kind = kind; needs = needed_by self.now kinds.now kind }) kinds.now) }
+    {
+        let mut actions = List::new(alloc);
+        for kind in kinds {
+            let needs = self.needed_by(alloc, kinds, *kind)?;
+            actions.push(Action { kind: *kind, needs })?;
+        }
+        Ok(actions)
+    }
+}

@@ -1,0 +1,162 @@
+-- What a run leaves, from how it opened and how its plan was carried out.
+use Rattle.std.proofs.Common.{◌≡◌, ◌⊎◌, ℕ, ◌≤◌, Bool, true, false, List, [], ◌∷◌, ◌++◌, Option, Some, None, reverse, refl, sym, ap, ◌∙◌, subst, inl, inr, arith}
+use Rattle.std.specs.Prelude.{unwrap_or}
+use Rattle.engine_types.specs.declared.Action.{Action}
+use Rattle.engine_types.specs.declared.Declared.{Declared}
+use Rattle.engine_types.specs.declared.Entry.{Entry}
+use Rattle.engine_types.specs.declared.Exchange.{Exchange}
+use Rattle.engine_types.specs.declared.Observed.{Observed}
+use Rattle.engine_types.specs.declared.Outcome.{Outcome}
+use Rattle.engine_types.specs.declared.RunFault.{RunFault}
+use Rattle.engine_types.specs.declared.Seen.{Seen}
+use Rattle.engine_types.specs.declared.SeenEnd.{SeenEnd}
+use Rattle.engine_types.specs.declared.SeenFault.{SeenFault}
+use Rattle.observe_project.specs.Exchanges.{HasCauseOfEnd}
+use Rattle.observe_project.proofs.Ways.{cause-wider, fault-wider, grows-append, hears-append}
+use Rattle.outside_api.specs.Hands.{Heard, HearsMore}
+use Rattle.run_model.specs.Ending.{first_fault}
+use Rattle.run_model.specs.EngineRules.{Among}
+use Rattle.run_model.specs.Journals.{Setup, seen_in}
+use Rattle.run_model.specs.Legal.{IsLegal}
+use Rattle.run_model.specs.Lines.{report_text}
+use Rattle.run_model.specs.Logs.{GrowsBy, exchanges_of}
+use Rattle.run_model.specs.Plans.{planned, up_basis}
+use Rattle.run_model.specs.Runs.{IsRun, Task, run_exchanges, run_fault, run_report, run_seen, run_setup, unseen}
+use Rattle.serial_run.specs.Serial.{AllCaused, IsBegun, Telling, exchanges_since, serial_setup, up_aim}
+use Rattle.project_run.specs.Opening.{IsCarriedOut, IsObservedBadly, Opens}
+use Rattle.project_run.specs.Whole.{IsCaused, IsFault, IsReport, Leaves, upping}
+use Rattle.project_run.specs.declared.opening.Opening.{Opening}
+use Rattle.project_run.proofs.Joining.{exchanges_joined, seen_after}
+
+-- an end's cause within a longer time is one of it
+end_wider : (h g : Option (List Heard)) (a b c d : ℕ) (end : SeenEnd) → HearsMore h g → a ≤ b → b ≤ c → c ≤ d → HasCauseOfEnd g b c end → HasCauseOfEnd h a d end
+end_wider h g a b c d (SeenEnd.Good seen) more k m n t = tt
+end_wider h g a b c d (SeenEnd.Bad fault) more k m n t = fault-wider h g a b c d fault more k m n t
+
+hears_none : (h : Option (List Heard)) → HearsMore h h
+hears_none h = Rattle.observe_project.proofs.Ways.hears-same h
+
+-- a run that ended with its observation
+module _ (declared : Declared) (orphans : Bool) (journal : List Entry) (before now : Telling) (opens : Opens declared orphans Opening.Ended journal before now) where
+  abbrev observation : Observed
+  observation = opens.observation
+
+  abbrev fault : SeenFault
+  fault = opens.follows.0
+
+  abbrev bad : observation.end ≡ SeenEnd.Bad fault
+  bad = opens.follows.1
+
+  pub badly : IsObservedBadly journal
+  badly = record { observation = observation; only = opens.only; fault = fault; bad = bad }
+
+  bad_run : IsRun (upping declared orphans) (Entry.Seen observation ∷ [])
+  bad_run = record {
+    legal = (tt, (refl, opens.observed, rw bad tt));
+    over = inl (rw bad refl);
+  }
+
+  bad_caused : IsCaused (Entry.Seen observation ∷ []) before.heard before.faults now.faults
+  bad_caused = record {
+    observed = λ other e. let same : Some (Entry.Seen observation) ≡ Some (Entry.Seen other) = e in
+        let one : observation ≡ other = cc same in subst (λ (o : Observed). HasCauseOfEnd before.heard before.faults now.faults o.end) one opens.cause;
+    ended = λ outcome m. none outcome m;
+  }
+    where
+      none : (outcome : Outcome) → Among (Entry.Seen observation ∷ []) (Entry.Ended 0 outcome) → Rattle.outside_api.specs.Hands.HasCause before.heard before.faults now.faults outcome
+      none outcome (inl e) = absurd (cc e)
+      none outcome (inr m) = absurd m
+
+  pub leaves_badly : Leaves (upping declared orphans) journal before now
+  leaves_badly = rw opens.only (record {
+    run = bad_run;
+    begun = (Entry.Seen observation, [], refl);
+    log = opens.log;
+    caused = bad_caused;
+    hears = opens.hears;
+    hears_each = opens.hears_each;
+    counted = opens.counted;
+    timed = opens.timed;
+  })
+
+-- the fault and the report of a run that ended with its observation hang on no task
+pub bad_fault : (declared : Declared) (seen : Seen) (actions : List Action) (journal : List Entry) (task : Task) (badly : IsObservedBadly journal)
+    → first_fault (serial_setup declared seen actions) (reverse journal) ≡ run_fault task journal
+bad_fault declared seen actions journal task badly = rw badly.only refl
+
+pub bad_report : (declared : Declared) (seen : Seen) (actions : List Action) (journal : List Entry) (task : Task) (badly : IsObservedBadly journal)
+    → report_text (serial_setup declared seen actions) (reverse journal) ≡ run_report task journal
+bad_report declared seen actions journal task badly = rw badly.only refl
+
+-- a run whose plan was carried out
+module _ (declared : Declared) (orphans : Bool) (seen : Seen) (actions : List Action) (old new : List Entry) (before mid now : Telling) (plan : Rattle.engine_types.specs.declared.Plan.Plan)
+    (opens : Opens declared orphans (Opening.Planned seen plan) old before mid) (is : actions ≡ planned (up_basis declared seen orphans))
+    (carried : IsCarriedOut declared (up_aim orphans) seen actions old new mid now) where
+  abbrev look : Observed
+  look = opens.observation
+
+  good : look.end ≡ SeenEnd.Good seen
+  good = opens.follows.0
+
+  seen_first : seen_in (reverse old) ≡ Some seen
+  seen_first = rw (opens.only, good) refl
+
+  seen_last : seen_in (reverse new) ≡ Some seen
+  seen_last = seen_after (up_aim orphans) (serial_setup declared seen actions) old new seen carried.more carried.legal seen_first
+
+  saw : run_seen new ≡ seen
+  saw = rw seen_last refl
+
+  pub same_setup : serial_setup declared seen actions ≡ run_setup (upping declared orphans) new
+  same_setup = rw (saw, is) refl
+
+  run : IsRun (upping declared orphans) new
+  run = record {
+    legal = subst (λ (setup : Setup). IsLegal (up_aim orphans) setup (reverse new)) same_setup carried.legal;
+    over = inr (subst (λ (setup : Setup). Rattle.run_model.specs.Ending.IsRunOver setup (reverse new)) same_setup carried.over);
+  }
+
+  exchanges : run_exchanges (upping declared orphans) new 0 ≡ look.exchanges ++ exchanges_since (serial_setup declared seen actions) old new
+  exchanges =
+      ap (λ (setup : Setup). exchanges_of setup (reverse new) 0) (sym same_setup)
+      ∙ exchanges_joined (serial_setup declared seen actions) old new carried.more
+      ∙ ap (λ (l : List Exchange). l ++ exchanges_since (serial_setup declared seen actions) old new) first
+    where
+      first : exchanges_of (serial_setup declared seen actions) (reverse old) 0 ≡ look.exchanges
+      first = ap (λ (entries : List Entry). exchanges_of (serial_setup declared seen actions) (reverse entries) 0) opens.only
+
+  starts : new ≡ Entry.Seen look ∷ carried.more.0
+  starts = carried.more.1 ∙ ap (λ (l : List Entry). l ++ carried.more.0) opens.only
+
+  begins : (entry : Entry) × (rest : List Entry) × (new ≡ entry ∷ rest)
+  begins = (Entry.Seen look, carried.more.0, starts)
+
+  caused : IsCaused new before.heard before.faults now.faults
+  caused = record {
+    observed = λ other e. at other starts e;
+    ended = λ outcome m. cause-wider before.heard mid.heard before.faults mid.faults now.faults now.faults outcome opens.hears opens.counted carried.counted (omega arith) (carried.caused outcome m);
+  }
+    where
+      at : (other : Observed) → new ≡ Entry.Seen look ∷ carried.more.0 → Rattle.std.specs.Prelude.slice_get new 0 ≡ Some (Entry.Seen other)
+          → HasCauseOfEnd before.heard before.faults now.faults other.end
+      at other e f =
+          let same : Some (Entry.Seen look) ≡ Some (Entry.Seen other) = rw e at f in
+          let one : look ≡ other = cc same in
+          subst (λ (o : Observed). HasCauseOfEnd before.heard before.faults now.faults o.end) one
+          (end_wider before.heard before.heard before.faults before.faults mid.faults now.faults look.end (hears_none before.heard) (omega arith) opens.counted carried.counted opens.cause)
+
+  pub leaves_well : Leaves (upping declared orphans) new before now
+  leaves_well = record {
+    run = run;
+    begun = begins;
+    log = subst (λ (l : List Exchange). GrowsBy l before.log now.log) (sym exchanges)
+        (grows-append look.exchanges (exchanges_since (serial_setup declared seen actions) old new) before.log mid.log now.log opens.log carried.log);
+    caused = caused;
+    hears = hears-append before.heard mid.heard now.heard opens.hears carried.hears;
+    hears_each = λ h. carried.hears_each (opens.hears_each h);
+    counted = omega (arith, opens.counted, carried.counted);
+    timed = carried.timed ∙ opens.timed;
+  }
+
+  pub begun : IsBegun declared (up_aim orphans) seen old
+  begun = record { observation = look; only = opens.only; observed = opens.observed; good = good }

@@ -1,0 +1,70 @@
+-- Every run of `up` leaves kept containers alone.
+use Rattle.std.proofs.Common.{◌≡◌, ℕ, Bool, true, false, List, [], ◌∷◌, map, Option, Some, None, slice_get, refl, sym, ap, ◌∙◌, reverse}
+use Rattle.std.specs.List.{IsDistinct}
+use Rattle.std.specs.Prelude.{IfSome}
+use Rattle.std.specs.Str.{bytes_eq}
+use Rattle.engine_types.specs.declared.ActionKind.{ActionKind}
+use Rattle.engine_types.specs.declared.ActionKind.TheVariants.{ConnectSlot, CreateSlot, MakeNetwork, MakeVolume, RemoveContainer, RemoveNetwork, RemoveVolume, StartSlot, StopContainer}
+use Rattle.engine_types.specs.declared.Declared.{Declared}
+use Rattle.engine_types.specs.declared.Entry.{Entry}
+use Rattle.engine_types.specs.declared.Listed.{Listed}
+use Rattle.engine_types.specs.declared.Seen.{Seen}
+use Rattle.run_model.specs.EngineRules.{Among}
+use Rattle.run_model.specs.Journals.{seen_in}
+use Rattle.run_model.specs.Plans.{Basis, LeavesKept, is_kept, is_wanted, kept, kind_of, planned}
+use Rattle.run_model.specs.Runs.{IsRun, run_seen, run_setup, unseen}
+use Rattle.run_model.proofs.KeptLaws.{leaves_kept}
+use Rattle.run_model.proofs.PlanLaws.{planned_is_plan}
+use Rattle.serial_run.specs.Serial.{up_aim}
+use Rattle.project_run.proofs.Observing.{ids_differ, seen_by}
+use Rattle.project_run.specs.Laws.{RunsSpareKept}
+use Rattle.project_run.specs.Whole.{IsSparing, SparesKept, upping}
+
+-- a plan's action is sparing
+module _ (basis : Basis) (leaves : LeavesKept basis) where
+  wanted_sparing : (kind : ActionKind) → is_wanted basis kind ≡ true → IsSparing basis.declared basis.seen (Some kind)
+  wanted_sparing (StopContainer c) w = at (slice_get basis.seen.containers c) refl
+    where
+      on : (row : Listed) → slice_get basis.seen.containers c ≡ Some row → (t : Bool) → is_kept basis.declared basis.seen row ≡ t → is_kept basis.declared basis.seen row ≡ false
+      on row e false h = h
+      on row e true h = let bad : true ≡ false = sym w ∙ leaves.stops c row e h in absurd (cc bad)
+
+      at : (o : Option Listed) → slice_get basis.seen.containers c ≡ o → IfSome o (λ row. is_kept basis.declared basis.seen row ≡ false)
+      at None e = tt
+      at (Some row) e = on row e (is_kept basis.declared basis.seen row) refl
+  wanted_sparing (RemoveContainer c) w = at (slice_get basis.seen.containers c) refl
+    where
+      on : (row : Listed) → slice_get basis.seen.containers c ≡ Some row → (t : Bool) → is_kept basis.declared basis.seen row ≡ t → is_kept basis.declared basis.seen row ≡ false
+      on row e false h = h
+      on row e true h = let bad : true ≡ false = sym w ∙ leaves.removes c row e h in absurd (cc bad)
+
+      at : (o : Option Listed) → slice_get basis.seen.containers c ≡ o → IfSome o (λ row. is_kept basis.declared basis.seen row ≡ false)
+      at None e = tt
+      at (Some row) e = on row e (is_kept basis.declared basis.seen row) refl
+  wanted_sparing (CreateSlot s) w = at (kept basis.declared basis.seen s) refl
+    where
+      at : (o : Option Listed) → kept basis.declared basis.seen s ≡ o → kept basis.declared basis.seen s ≡ None
+      at None e = e
+      at (Some row) e = let bad : true ≡ false = sym w ∙ leaves.creates s row e in absurd (cc bad)
+  wanted_sparing (MakeVolume v) w = tt
+  wanted_sparing (MakeNetwork n) w = tt
+  wanted_sparing (ConnectSlot s k) w = tt
+  wanted_sparing (StartSlot s) w = tt
+  wanted_sparing (RemoveNetwork n) w = tt
+  wanted_sparing (RemoveVolume v) w = tt
+
+  planned_sparing : (a : ℕ) (kind : Option ActionKind) → kind_of (planned basis) a ≡ kind → IsSparing basis.declared basis.seen kind
+  planned_sparing a None e = tt
+  planned_sparing a (Some kind) e = wanted_sparing kind ((planned_is_plan basis).wanted a kind e)
+
+pub runs_spare_kept : RunsSpareKept
+unfolding IsDistinct
+runs_spare_kept declared orphans journal run w a m =
+    planned_sparing basis (leaves_kept basis refl (distinct (seen_in (reverse journal)) refl)) a (kind_of (planned basis) a) refl
+  where
+    basis : Basis
+    basis = record { declared = declared; seen = run_seen journal; aim = up_aim orphans }
+
+    distinct : (o : Option Seen) → seen_in (reverse journal) ≡ o → IsDistinct bytes_eq (map (λ (row : Listed). row.id) (run_seen journal).containers)
+    distinct None e = rw e tt
+    distinct (Some seen) e = rw e (ids_differ declared (up_aim orphans) seen (seen_by (up_aim orphans) (run_setup (upping declared orphans) journal) (reverse journal) seen run.legal e))

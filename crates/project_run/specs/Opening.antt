@@ -1,0 +1,59 @@
+-- How a run opens: what follows from the end of its observation.
+use Rattle.std.specs.Prelude.{◌≡◌, ◌⊎◌, ◌≤◌, ◌∷◌, [], List, Bool, false, reverse}
+use Rattle.engine_types.specs.declared.Action.{Action}
+use Rattle.engine_types.specs.declared.Declared.{Declared}
+use Rattle.engine_types.specs.declared.Entry.{Entry}
+use Rattle.engine_types.specs.declared.Observed.{Observed}
+use Rattle.engine_types.specs.declared.Seen.{Seen}
+use Rattle.engine_types.specs.declared.SeenEnd.{SeenEnd}
+use Rattle.engine_types.specs.declared.SeenFault.{SeenFault}
+use Rattle.observe_project.specs.Exchanges.{HasCauseOfEnd}
+use Rattle.outside_api.specs.Hands.{HearsEach, HearsMore}
+use Rattle.project_run.specs.declared.opening.Opening.{Opening}
+use Rattle.run_model.specs.Ending.{IsRunOver}
+use Rattle.run_model.specs.Legal.{IsLegal, IsObserved, whole_end}
+use Rattle.run_model.specs.Logs.{GrowsBy}
+use Rattle.run_model.specs.Plans.{Aim, is_too_long, planned, up_basis}
+use Rattle.serial_run.specs.Serial.{AllCaused, GoesOn, Telling, exchanges_since, serial_setup, up_aim}
+
+-- an end is the whole one of what was observed, or want of memory stands in its place
+abbrev pub IsWholeEnd : Declared → Aim → SeenEnd → SeenEnd → Type 0
+IsWholeEnd declared aim before after = (after ≡ whole_end declared aim before) ⊎ (after ≡ SeenEnd.Bad SeenFault.Memory)
+
+-- a run goes on with what was seen and its plan, and after a fault it has ended
+abbrev pub Follows : Declared → Bool → SeenEnd → Opening → Type 0
+Follows declared orphans end (Opening.Planned seen plan) =
+    (end ≡ SeenEnd.Good seen) × (plan.actions ≡ planned (up_basis declared seen orphans)) × (is_too_long (up_basis declared seen orphans) ≡ false)
+Follows declared orphans end Opening.Ended = (fault : SeenFault) × (end ≡ SeenEnd.Bad fault)
+
+-- a run has opened: its journal is the observation that was made with the hand
+pub record Opens (declared : Declared) (orphans : Bool) (opening : Opening) (journal : List Entry) (before now : Telling) : Type 0 where
+  pub observation : Observed
+  pub only : journal ≡ Entry.Seen observation ∷ []
+  pub observed : IsObserved declared (up_aim orphans) observation
+  pub follows : Follows declared orphans observation.end opening
+  pub log : GrowsBy observation.exchanges before.log now.log
+  pub cause : HasCauseOfEnd before.heard before.faults now.faults observation.end
+  pub hears : HearsMore before.heard now.heard
+  pub hears_each : HearsEach before.log before.heard → HearsEach now.log now.heard
+  pub counted : before.faults ≤ now.faults
+  pub timed : now.clock ≡ before.clock
+
+-- the journal is an observation that ended badly
+pub record IsObservedBadly (journal : List Entry) : Type 0 where
+  pub observation : Observed
+  pub only : journal ≡ Entry.Seen observation ∷ []
+  pub fault : SeenFault
+  pub bad : observation.end ≡ SeenEnd.Bad fault
+
+-- a plan was carried out with the hand: what its run leaves, from the journal that it began with
+pub record IsCarriedOut (declared : Declared) (aim : Aim) (seen : Seen) (actions : List Action) (old new : List Entry) (before now : Telling) : Type 0 where
+  pub legal : IsLegal aim (serial_setup declared seen actions) (reverse new)
+  pub over : IsRunOver (serial_setup declared seen actions) (reverse new)
+  pub more : GoesOn old new
+  pub log : GrowsBy (exchanges_since (serial_setup declared seen actions) old new) before.log now.log
+  pub caused : AllCaused new before.heard before.faults now.faults
+  pub hears : HearsMore before.heard now.heard
+  pub hears_each : HearsEach before.log before.heard → HearsEach now.log now.heard
+  pub counted : before.faults ≤ now.faults
+  pub timed : now.clock ≡ before.clock

@@ -1,0 +1,62 @@
+-- What a whole run of one worker leaves.
+use Rattle.std.specs.Prelude.{◌≡◌, ◌⊎◌, ◌≤◌, ℕ, Bool, List, [], ◌∷◌, Option, Some, None, false, IfSome, slice_get}
+use Rattle.engine_types.specs.declared.ActionKind.{ActionKind}
+use Rattle.engine_types.specs.declared.ActionKind.TheVariants.{CreateSlot, RemoveContainer, StopContainer}
+use Rattle.engine_types.specs.declared.Declared.{Declared}
+use Rattle.engine_types.specs.declared.Entry.{Entry}
+use Rattle.engine_types.specs.declared.Observed.{Observed}
+use Rattle.engine_types.specs.declared.RunFault.{RunFault}
+use Rattle.engine_types.specs.declared.Seen.{Seen}
+use Rattle.observe_project.specs.Exchanges.{HasCauseOfEnd}
+use Rattle.outside_api.specs.Hands.{Heard, HearsEach, HearsMore}
+use Rattle.run_model.specs.EngineRules.{Among}
+use Rattle.run_model.specs.Logs.{GrowsBy}
+use Rattle.run_model.specs.Plans.{is_kept, kept, kind_of}
+use Rattle.run_model.specs.Runs.{IsRun, Task, run_exchanges, run_seen, run_setup}
+use Rattle.serial_run.specs.Serial.{AllCaused, Telling, one_worker, up_aim}
+
+-- to bring a declared set up with one worker, with or without the removal of orphans
+abbrev pub upping : Declared → Bool → Task
+upping declared orphans = record { declared = declared; aim = up_aim orphans; limits = one_worker }
+
+-- a fact on a journal that has an entry
+abbrev pub IfBegun : List Entry → Type 0 → Type 0
+IfBegun [] fact = Unit {0}
+IfBegun (entry ∷ rest) fact = fact
+
+-- the fault that is told: the expected one, if any, or want of memory in its place
+abbrev pub IsFault : Option RunFault → Option RunFault → Type 0
+IsFault expected fault = (fault ≡ expected) ⊎ (fault ≡ Some RunFault.Memory)
+
+-- the report that is told: the expected one, or none of it where memory was wanted
+abbrev pub IsReport : List ℕ → Option RunFault → List ℕ → Type 0
+IsReport expected fault report = (report ≡ expected) ⊎ ((report ≡ []) × (fault ≡ Some RunFault.Memory))
+
+-- each outcome of a journal that tells of a fault has its cause: the count of faults rose, or, where the hand tells what it
+-- heard, the response may be broken
+pub record IsCaused (journal : List Entry) (heard : Option (List Heard)) (old new : ℕ) : Type 0 where
+  pub observed : (observation : Observed) → slice_get journal 0 ≡ Some (Entry.Seen observation) → HasCauseOfEnd heard old new observation.end
+  pub ended : AllCaused journal heard old new
+
+-- an action that leaves kept containers alone: it stops and removes none, and creates no other one for their slots
+abbrev pub IsSparing : Declared → Seen → Option ActionKind → Type 0
+IsSparing declared seen (Some (StopContainer c)) = IfSome (slice_get seen.containers c) (λ row. is_kept declared seen row ≡ false)
+IsSparing declared seen (Some (RemoveContainer c)) = IfSome (slice_get seen.containers c) (λ row. is_kept declared seen row ≡ false)
+IsSparing declared seen (Some (CreateSlot s)) = kept declared seen s ≡ None
+IsSparing declared seen _ = Unit {0}
+
+-- each action that a run claims leaves kept containers alone
+abbrev pub SparesKept : Task → List Entry → Type 0
+SparesKept task journal = (w a : ℕ) → Among journal (Entry.Claim w a)
+    → IsSparing task.declared (run_seen journal) (kind_of (run_setup task journal).actions a)
+
+-- a run of the task was made with the hand, whole
+pub record Leaves (task : Task) (journal : List Entry) (before now : Telling) : Type 0 where
+  pub run : IsRun task journal
+  pub begun : (entry : Entry) × (rest : List Entry) × (journal ≡ entry ∷ rest)
+  pub log : GrowsBy (run_exchanges task journal 0) before.log now.log
+  pub caused : IsCaused journal before.heard before.faults now.faults
+  pub hears : HearsMore before.heard now.heard
+  pub hears_each : HearsEach before.log before.heard → HearsEach now.log now.heard
+  pub counted : before.faults ≤ now.faults
+  pub timed : now.clock ≡ before.clock

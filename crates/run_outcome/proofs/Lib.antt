@@ -1,0 +1,9 @@
+pub mod Newest
+pub mod Holdings
+pub mod ReportLines
+pub mod Asked
+pub mod Tellings
+pub mod Polls
+pub mod Backward
+pub mod Firsts
+pub mod Numbers

@@ -1,0 +1,4 @@
+pub mod Permits
+pub mod Reports
+pub mod Faults
+pub mod Telling

@@ -1,0 +1,14 @@
+pub mod InOrder
+pub mod LowerNeeds
+pub mod Lists
+pub mod Deciding
+pub mod Stepping
+pub mod Logging
+pub mod Requesting
+pub mod Running
+pub mod LeastRow
+pub mod OneVolume
+pub mod Carrying
+pub mod Turns
+pub mod Making
+pub mod Ending

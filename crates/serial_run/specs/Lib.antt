@@ -1,0 +1,5 @@
+pub mod Serial
+pub mod Asking
+pub mod LastEntries
+pub mod Laws
+pub mod OneVolume

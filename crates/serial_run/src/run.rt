@@ -1,0 +1,177 @@
+ghost use Rattle.std.specs.Prelude.{◌≡◌, ◌≤◌, true, false, reverse, length, slice_get, is_some, IfOk, OnOk, OnErr, Some, ◌⊎◌};
+ghost use Rattle.outside_api.specs.Hands.{HearsEach, HearsMore};
+ghost use Rattle.run_model.specs.Ending.{IsRunOver};
+ghost use Rattle.run_model.specs.Legal.{IsLegal};
+ghost use Rattle.run_model.specs.Logs.{GrowsBy};
+ghost use Rattle.run_model.specs.Plans.{IsWhole, is_too_long, planned, up_basis};
+ghost use Rattle.serial_run.specs.Asking.{course, request_by};
+ghost use Rattle.serial_run.specs.LastEntries.{last_entry};
+ghost use Rattle.serial_run.specs.Serial.{AllCaused, GoesOn, IsBegun, IsDone, IsGrounded, IsLeftAlone, IsMade, IsOnItsWay, IsSkipped, NeedsNoSlot, ToldBy, exchanges_since, is_clear, serial_setup, telling, up_aim};
+
+use crate::mark::{Mark, is_clear, mark_of};
+use crate::requests::request_of;
+use engine_types::{Action, ActionKind, Declared, Entry, Plan, Request, Seen};
+use outside_api::Hand;
+use std::alloc::Global;
+use tree_base::{Memory, ReservedList};
+
+/// Runs a plan of `up` with one worker, number 0, without deadline or waiting: goes through the actions by number, skips
+/// those of which one that they need didn't end well, claims each other one, makes its exchange and ends it, and
+/// leaves. Where memory is wanted before a claim, the worker falls short in place of leaving. The journal has the
+/// observation that the plan was made from, and room for one entry.
+pub fn run_plan<H: Hand>(
+    alloc: Global,
+    hand: &mut H,
+    declared: &Declared,
+    seen: &Seen,
+    plan: &Plan,
+    orphans: bool,
+    journal: &mut ReservedList<Entry>,
+)
+    requires planned { plan.now.actions ≡ planned (up_basis declared.now seen.now orphans) }
+    requires fits { is_too_long (up_basis declared.now seen.now orphans) ≡ false }
+    requires whole { IsWhole declared.now }
+    requires unconditional { NeedsNoSlot declared.now }
+    requires begun { IsBegun declared.now (up_aim orphans) seen.now journal.old.items }
+    requires room { 1 ≤ journal.old.spare }
+    ensures legal { IsLegal (up_aim orphans) (serial_setup declared.now seen.now plan.now.actions) (reverse journal.new.items) }
+    ensures over { IsRunOver (serial_setup declared.now seen.now plan.now.actions) (reverse journal.new.items) }
+    ensures more { GoesOn journal.old.items journal.new.items }
+    ensures log { GrowsBy (exchanges_since (serial_setup declared.now seen.now plan.now.actions) journal.old.items journal.new.items) (H.log hand.old) (H.log hand.new) }
+    ensures told { ToldBy (exchanges_since (serial_setup declared.now seen.now plan.now.actions) journal.old.items journal.new.items) (H.engine hand.old) (H.engine hand.new) }
+    ensures heard { HearsMore (H.heard hand.old) (H.heard hand.new) }
+    ensures heard_each { HearsEach (H.log hand.old) (H.heard hand.old) → HearsEach (H.log hand.new) (H.heard hand.new) }
+    ensures counted { H.faults hand.old ≤ H.faults hand.new }
+    ensures cause { AllCaused journal.new.items (H.heard hand.old) (H.faults hand.old) (H.faults hand.new) }
+    ensures clock { H.clock hand.new ≡ H.clock hand.old }
+{
+    let through = make_all(alloc, hand, declared, seen, plan, orphans, journal);
+    let last = last_entry(through);
+    journal.push(last).unwrap();
+}
+
+/// The worker leaves where it came through the plan, and falls short where memory was wanted.
+fn last_entry(through: Result<(), Memory>) -> Entry
+    ensures { result ≡ last_entry through }
+{
+    match through {
+        Ok(()) => Entry::Leave { worker: 0 },
+        Err(_) => Entry::Short { worker: 0 },
+    }
+}
+
+/// Goes through the actions. Memory is wanted only before a claim.
+fn make_all<H: Hand>(
+    alloc: Global,
+    hand: &mut H,
+    declared: &Declared,
+    seen: &Seen,
+    plan: &Plan,
+    orphans: bool,
+    journal: &mut ReservedList<Entry>,
+) -> Result<(), Memory>
+    requires grounded { IsGrounded declared.now seen.now plan.now.actions orphans }
+    requires begun { IsBegun declared.now (up_aim orphans) seen.now journal.old.items }
+    requires room { 1 ≤ journal.old.spare }
+    ensures on_its_way { IsOnItsWay (up_aim orphans) (serial_setup declared.now seen.now plan.now.actions) journal.old.items journal.new.items
+        (telling (H.log hand.old) (H.heard hand.old) (H.faults hand.old) (H.clock hand.old) (H.engine hand.old))
+        (telling (H.log hand.new) (H.heard hand.new) (H.faults hand.new) (H.clock hand.new) (H.engine hand.new)) }
+    ensures done { OnOk result (IsDone (serial_setup declared.now seen.now plan.now.actions) (reverse journal.new.items)) }
+    ensures room { 1 ≤ journal.new.spare }
+{
+    let mut marks = Vec::new(alloc);
+    for (at, action) in plan.actions.as_slice().iter().enumerate() {
+        marks.reserve(1)?;
+        let mark = take(
+            alloc,
+            hand,
+            declared,
+            seen,
+            plan,
+            action,
+            at as u32,
+            marks.as_slice(),
+            journal,
+        )?;
+        marks.push(mark)?;
+    }
+    Ok(())
+}
+
+/// Makes an action, or skips it where one that it needs didn't end well.
+fn take<H: Hand>(
+    alloc: Global,
+    hand: &mut H,
+    declared: &Declared,
+    seen: &Seen,
+    plan: &Plan,
+    action: &Action,
+    number: u32,
+    marks: &[Mark],
+    journal: &mut ReservedList<Entry>,
+) -> Result<Mark, Memory>
+    requires asked { is_clear action.now.needs marks.now ≡ true
+        → is_some (request_by (course declared.now seen.now plan.now.actions marks.now journal.old.items) action.now.needs action.now.kind) ≡ true }
+    requires room { 1 ≤ journal.old.spare }
+    ensures taken { IfOk result (λ mark. IsSkipped action.now.needs marks.now journal.old.items journal.new.items
+        (telling (H.log hand.old) (H.heard hand.old) (H.faults hand.old) (H.clock hand.old) (H.engine hand.old))
+        (telling (H.log hand.new) (H.heard hand.new) (H.faults hand.new) (H.clock hand.new) (H.engine hand.new)) mark
+        ⊎ ((is_clear action.now.needs marks.now ≡ true)
+        × IsMade (request_by (course declared.now seen.now plan.now.actions marks.now journal.old.items) action.now.needs action.now.kind) action.now.kind number journal.old.items journal.new.items
+        (telling (H.log hand.old) (H.heard hand.old) (H.faults hand.old) (H.clock hand.old) (H.engine hand.old))
+        (telling (H.log hand.new) (H.heard hand.new) (H.faults hand.new) (H.clock hand.new) (H.engine hand.new)) mark)) }
+    ensures short { OnErr result (IsLeftAlone journal.old.items journal.new.items
+        (telling (H.log hand.old) (H.heard hand.old) (H.faults hand.old) (H.clock hand.old) (H.engine hand.old))
+        (telling (H.log hand.new) (H.heard hand.new) (H.faults hand.new) (H.clock hand.new) (H.engine hand.new))) }
+    ensures room { 1 ≤ journal.new.spare }
+{
+    let clear = is_clear(action.needs.as_slice(), marks);
+    if !clear {
+        return Ok(Mark::Blocked);
+    }
+    let asked = request_of(
+        alloc,
+        declared,
+        seen,
+        plan,
+        marks,
+        journal.as_slice(),
+        action,
+    )?;
+    match asked {
+        Some(request) => make(alloc, hand, number, action.kind, request, journal),
+        None => unreachable!(),
+    }
+}
+
+/// Claims an action, makes its exchange, and ends it. Room for both entries is taken first, beside that for
+/// the worker's last one.
+fn make<H: Hand>(
+    alloc: Global,
+    hand: &mut H,
+    number: u32,
+    kind: ActionKind,
+    request: Request,
+    journal: &mut ReservedList<Entry>,
+) -> Result<Mark, Memory>
+    requires room { 1 ≤ journal.old.spare }
+    ensures made { IfOk result (λ mark. IsMade (Some request) kind number journal.old.items journal.new.items
+        (telling (H.log hand.old) (H.heard hand.old) (H.faults hand.old) (H.clock hand.old) (H.engine hand.old))
+        (telling (H.log hand.new) (H.heard hand.new) (H.faults hand.new) (H.clock hand.new) (H.engine hand.new)) mark) }
+    ensures short { OnErr result (IsLeftAlone journal.old.items journal.new.items
+        (telling (H.log hand.old) (H.heard hand.old) (H.faults hand.old) (H.clock hand.old) (H.engine hand.old))
+        (telling (H.log hand.new) (H.heard hand.new) (H.faults hand.new) (H.clock hand.new) (H.engine hand.new))) }
+    ensures room { 1 ≤ journal.new.spare }
+{
+    journal.reserve(3)?;
+    journal
+        .push(Entry::Claim {
+            worker: 0,
+            action: number,
+        })
+        .unwrap();
+    let outcome = hand.exchange(alloc, request);
+    let mark = mark_of(kind, &outcome, journal.len());
+    journal.push(Entry::Ended { worker: 0, outcome }).unwrap();
+    Ok(mark)
+}
