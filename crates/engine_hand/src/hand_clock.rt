@@ -1,4 +1,4 @@
-ghost use Rattle.std.specs.Prelude.{◌≡◌, ◌<◌, ◌≤◌, ◌^◌};
+ghost use Rattle.std.specs.Prelude.{◌≡◌, ◌+◌, ◌<◌, ◌≤◌, ◌^◌, min};
 ghost use Rattle.outside_api.specs.Clock.{new_clock, after_now, after_pause, after_asked};
 
 /// The clock of a hand in memory: it begins at 0 and rises by the pauses. It counts its readings and pauses,
@@ -21,7 +21,8 @@ impl HandClock {
 
     /// A clock that was never used.
     pub fn new() -> HandClock
-        ensures { counts_of result ≡ new_clock }
+        ensures counts { counts_of result ≡ new_clock }
+        ensures time { result.time ≡ 0 }
     {
         HandClock {
             time: 0,
@@ -37,7 +38,9 @@ impl HandClock {
     /// Reads the time.
     pub fn now(&mut self) -> u64
         requires { self.old.readings < 2 ^ 62 }
-        ensures { counts_of self.new ≡ after_now (counts_of self.old) result }
+        ensures counts { counts_of self.new ≡ after_now (counts_of self.old) result }
+        ensures reading { result ≡ self.old.time }
+        ensures time { self.new.time ≡ self.old.time }
     {
         if self.readings == 0 {
             self.first = self.time;
@@ -47,10 +50,11 @@ impl HandClock {
         self.time
     }
 
-    /// Lets so many milliseconds go by.
+    /// Lets so many milliseconds go by; the time stands still at the greatest `u64`.
     pub fn pause(&mut self, ms: u32)
         requires { self.old.paused < 2 ^ 62 }
-        ensures { counts_of self.new ≡ after_pause (counts_of self.old) ms }
+        ensures counts { counts_of self.new ≡ after_pause (counts_of self.old) ms }
+        ensures time { self.new.time ≡ min (self.old.time + ms) 18446744073709551615 }
     {
         self.paused += u64::from(ms);
         self.time = self.time.saturating_add(u64::from(ms));
@@ -59,7 +63,8 @@ impl HandClock {
     /// Counts a look whether to stop, and its answer.
     pub fn look(&mut self, answer: bool)
         requires { self.old.looks < 2 ^ 62 }
-        ensures { counts_of self.new ≡ after_asked (counts_of self.old) answer }
+        ensures counts { counts_of self.new ≡ after_asked (counts_of self.old) answer }
+        ensures time { self.new.time ≡ self.old.time }
     {
         self.looks += 1;
         if answer {

@@ -35,6 +35,9 @@ refusal_words (Refusal.Load refusal) = load_words refusal
 refusal_words (Refusal.Name refusal) = name_words refusal
 refusal_words (Refusal.Seen fault) = fault_words (RunFault.Seen fault)
 refusal_words (Refusal.Request request outcome) = fault_words (RunFault.Request request outcome)
+refusal_words (Refusal.Condition slot condition report) = fault_words (RunFault.Condition slot condition report)
+refusal_words Refusal.Stopped = fault_words RunFault.Stopped
+refusal_words (Refusal.Late why) = fault_words (RunFault.Late why)
 refusal_words (Refusal.Outside part) = codes "fault: " ++ part_words part
 refusal_words Refusal.Memory = fault_words RunFault.Memory
 

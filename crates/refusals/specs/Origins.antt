@@ -1,5 +1,6 @@
 -- Where in a call a refusal comes from: before a hand is made, or from the run.
 use Rattle.std.specs.Prelude.{Option, Some, None}
+use Rattle.engine_types.specs.declared.RunFault.{RunFault}
 use Rattle.refusals.specs.declared.refusal.Refusal.{Refusal}
 use Rattle.refusals.specs.declared.refusal.Part.{Part}
 
@@ -25,3 +26,12 @@ IsOfRun (Some (Refusal.Load refusal)) = ⊥
 IsOfRun (Some (Refusal.Name refusal)) = ⊥
 IsOfRun (Some (Refusal.Outside Part.Plug)) = ⊥
 IsOfRun _ = Unit {0}
+
+-- what a call is refused with where its run is refused so
+abbrev pub run_refusal : RunFault → Refusal
+run_refusal (RunFault.Seen fault) = Refusal.Seen fault
+run_refusal (RunFault.Request request outcome) = Refusal.Request request outcome
+run_refusal (RunFault.Condition slot condition report) = Refusal.Condition slot condition report
+run_refusal RunFault.Stopped = Refusal.Stopped
+run_refusal (RunFault.Late why) = Refusal.Late why
+run_refusal RunFault.Memory = Refusal.Memory

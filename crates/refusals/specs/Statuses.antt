@@ -16,14 +16,17 @@ load_status (LoadRefusal.NotFound path) = 2
 load_status (LoadRefusal.ReadFault path) = 7
 load_status (LoadRefusal.FileTooLarge path) = 8
 
--- 1 for words, 2 for a project that isn't one, 3 where the Engine refused, 7 for a fault
--- outside, 8 for a limit, 9 for memory
+-- 1 for words, 2 for a project that isn't one, 3 where the Engine refused, 4 where a condition failed, 5 where the run was
+-- stopped, 6 where it was late, 7 for a fault outside, 8 for a limit, 9 for memory
 abbrev pub refusal_status : Refusal → ℕ
 refusal_status (Refusal.NotBuilt unbuilt) = unbuilt_status unbuilt
 refusal_status (Refusal.Load refusal) = load_status refusal
 refusal_status (Refusal.Name refusal) = 2
 refusal_status (Refusal.Seen fault) = seen_status fault
 refusal_status (Refusal.Request request outcome) = outcome_status outcome
+refusal_status (Refusal.Condition slot condition report) = 4
+refusal_status Refusal.Stopped = 5
+refusal_status (Refusal.Late why) = 6
 refusal_status (Refusal.Outside part) = 7
 refusal_status Refusal.Memory = 9
 

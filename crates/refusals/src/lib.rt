@@ -3,12 +3,15 @@
 //! Contracts say the status and the line of every refusal exactly.
 #![tactic(auto)]
 
+mod condition;
 mod line;
 mod refusal;
+mod run_refusal;
 mod status;
 
 pub use line::refusal_line;
 pub use refusal::{LoadRefusal, Part, ProjectRefusal, Refusal, Unbuilt};
+pub use run_refusal::refusal_of;
 pub use status::{refusal_status, status_of};
 
 #[cfg(test)]

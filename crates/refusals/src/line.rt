@@ -6,6 +6,7 @@ ghost use Rattle.refusals.specs.declared.refusal.Refusal.{Refusal};
 ghost use Rattle.refusals.specs.declared.refusal.Unbuilt.{Unbuilt};
 ghost use Rattle.refusals.specs.Lines.{refusal_line, refusal_words, unbuilt_words, load_words, name_words, part_words};
 
+use crate::condition::failed_words;
 use crate::refusal::{LoadRefusal, Part, ProjectRefusal, Refusal, Unbuilt};
 use engine_types::{Kind, Outcome, Reply, Request, SeenFault, WireEnd};
 use std::alloc::Global;
@@ -29,6 +30,13 @@ fn refusal_words(alloc: Global, refusal: &Refusal) -> Result<Text, Memory>
         Refusal::Name(refusal) => name_words(alloc, refusal),
         Refusal::Seen(fault) => seen_words(alloc, fault),
         Refusal::Request { request, outcome } => outcome_words(alloc, request, outcome),
+        Refusal::Condition {
+            slot,
+            condition,
+            report,
+        } => failed_words(alloc, slot, *condition, report),
+        Refusal::Stopped => Text::from_str(alloc, "stopped"),
+        Refusal::Late(_) => Text::from_str(alloc, "late"),
         Refusal::Outside(part) => fault_words(alloc, *part),
         Refusal::Memory => Text::from_str(alloc, "memory"),
     }
@@ -69,7 +77,7 @@ fn after_text(alloc: Global, text: &Text, words: &str) -> Result<Text, Memory>
     Ok(Text::from_string(all))
 }
 
-fn before_text(alloc: Global, words: &str, text: &Text) -> Result<Text, Memory>
+pub(crate) fn before_text(alloc: Global, words: &str, text: &Text) -> Result<Text, Memory>
     ensures { IfOk result (λ all. all ≡ words.now ++ text.now) }
 {
     let all = format!(in alloc; "{words}{text}")?;

@@ -1,4 +1,4 @@
-use engine_types::{Outcome, Request, SeenFault};
+use engine_types::{Condition, LateWhy, Outcome, Report, Request, SeenFault};
 use tree_base::{Place, Text};
 
 /// Why a call ended otherwise than well. Each has its exit status and the line that it prints.
@@ -13,7 +13,20 @@ pub enum Refusal {
     /// The observation ended so.
     Seen(SeenFault),
     /// An exchange of the run didn't end well.
-    Request { request: Request, outcome: Outcome },
+    Request {
+        request: Request,
+        outcome: Outcome,
+    },
+    /// A slot's container failed a condition that the run needed, with the report that shows it.
+    Condition {
+        slot: Text,
+        condition: Condition,
+        report: Report,
+    },
+    /// The run was asked to stop.
+    Stopped,
+    /// The run met its deadline, or its journal was full.
+    Late(LateWhy),
     /// Something outside failed.
     Outside(Part),
     /// Memory was wanted.

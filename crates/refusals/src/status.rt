@@ -25,6 +25,9 @@ pub fn refusal_status(refusal: &Refusal) -> u8
         Refusal::Name(_) => 2,
         Refusal::Seen(fault) => seen_status(fault),
         Refusal::Request { outcome, .. } => outcome_status(outcome),
+        Refusal::Condition { .. } => 4,
+        Refusal::Stopped => 5,
+        Refusal::Late(_) => 6,
         Refusal::Outside(_) => 7,
         Refusal::Memory => 9,
     }

@@ -1,7 +1,11 @@
 use crate::{
-    LoadRefusal, Part, ProjectRefusal, Refusal, Unbuilt, refusal_line, refusal_status, status_of,
+    LoadRefusal, Part, ProjectRefusal, Refusal, Unbuilt, refusal_line, refusal_of, refusal_status,
+    status_of,
 };
-use engine_types::{Outcome, Reply, Request, SeenFault, WireEnd};
+use engine_types::{
+    Condition, ContainerState, Health, LateWhy, Outcome, Reply, Report, Request, RunFault,
+    SeenFault, WireEnd,
+};
 use std::alloc::Global;
 use std::process::Abort;
 use std::test::Fail;
@@ -118,5 +122,30 @@ fn an_observation_that_failed_is_said_in_words(rt: HostRuntime) -> Result<(), Fa
     says(&rt, alloc, unpulled, 3, "compose: pull a:1: denied\n")?;
     let many = Refusal::Seen(SeenFault::TooManyActions { count: 10_001 });
     says(&rt, alloc, many, 8, "compose: TooManyActions: 10001\n")?;
+    Ok(())
+}
+
+/// A container that runs and isn't well.
+fn unhealthy(alloc: Global) -> Result<Refusal, Memory> {
+    Ok(refusal_of(RunFault::Condition {
+        slot: Text::from_str(alloc, "shop-db-1")?,
+        condition: Condition::Healthy,
+        report: Report {
+            state: ContainerState::Running,
+            exit_code: 0,
+            health: Health::Unhealthy,
+        },
+    }))
+}
+
+#[test]
+fn faults_of_a_run_keep_their_lines(rt: HostRuntime) -> Result<(), Fail> {
+    let alloc = rt.alloc();
+    let line = "compose: condition failed: shop-db-1 Healthy Running 0 Unhealthy\n";
+    says(&rt, alloc, unhealthy(alloc)?, 4, line)?;
+    let stopped = refusal_of(RunFault::Stopped);
+    says(&rt, alloc, stopped, 5, "compose: stopped\n")?;
+    let late = refusal_of(RunFault::Late(LateWhy::Entries));
+    says(&rt, alloc, late, 6, "compose: late\n")?;
     Ok(())
 }
