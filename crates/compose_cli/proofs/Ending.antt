@@ -33,10 +33,13 @@ loaded_refusal expected (Refusal.Load (LoadRefusal.FileTooLarge path)) h = same 
 loaded_refusal expected (Refusal.Name refusal) h = same expected (Refusal.Name refusal) h refl
 loaded_refusal expected (Refusal.Seen fault) h = same expected (Refusal.Seen fault) h refl
 loaded_refusal expected (Refusal.Request request outcome) h = same expected (Refusal.Request request outcome) h refl
+loaded_refusal expected (Refusal.Condition slot condition report) h = same expected (Refusal.Condition slot condition report) h refl
+loaded_refusal expected Refusal.Stopped h = same expected Refusal.Stopped h refl
+loaded_refusal expected (Refusal.Late why) h = same expected (Refusal.Late why) h refl
 loaded_refusal expected (Refusal.Outside part) h = same expected (Refusal.Outside part) h refl
 loaded_refusal expected Refusal.Memory h = free_memory expected
 
-said : (refusal : Refusal) (found : Option Refusal) → IsSaid refusal found → (P : Option Refusal → Type 0) → P (Some Refusal.Memory) → P (Some refusal) → P found
+pub said : (refusal : Refusal) (found : Option Refusal) → IsSaid refusal found → (P : Option Refusal → Type 0) → P (Some Refusal.Memory) → P (Some refusal) → P found
 said refusal None h P memory is = subst P (sym h) is
 said refusal (Some Refusal.Memory) h P memory is = memory
 said refusal (Some (Refusal.NotBuilt unbuilt)) h P memory is = subst P (sym h) is
@@ -44,6 +47,9 @@ said refusal (Some (Refusal.Load load)) h P memory is = subst P (sym h) is
 said refusal (Some (Refusal.Name name)) h P memory is = subst P (sym h) is
 said refusal (Some (Refusal.Seen fault)) h P memory is = subst P (sym h) is
 said refusal (Some (Refusal.Request request outcome)) h P memory is = subst P (sym h) is
+said refusal (Some (Refusal.Condition slot condition report)) h P memory is = subst P (sym h) is
+said refusal (Some Refusal.Stopped) h P memory is = subst P (sym h) is
+said refusal (Some (Refusal.Late why)) h P memory is = subst P (sym h) is
 said refusal (Some (Refusal.Outside part)) h P memory is = subst P (sym h) is
 
 -- what loading refuses is what the call is refused with
@@ -67,6 +73,9 @@ not_plug (Refusal.Name name) h e = cc
 not_plug Refusal.Memory h e = cc
 not_plug (Refusal.Seen fault) h e = h
 not_plug (Refusal.Request request outcome) h e = h
+not_plug (Refusal.Condition slot condition report) h e = h
+not_plug Refusal.Stopped h e = h
+not_plug (Refusal.Late why) h e = h
 not_plug (Refusal.Outside part) h e = h
 
 -- a refusal before the dial is no fault of the plug

@@ -1,2 +1,4 @@
-pub mod Ending
 pub mod Writes
+pub mod Ending
+pub mod Ran
+pub mod Declares

@@ -34,3 +34,8 @@ IsSaid refusal found = found ≡ Some refusal
 abbrev pub SaysRefusal : Option Refusal → Option (List ℕ) → Option (List ℕ) → ℕ → ℕ → Type 0
 SaysRefusal None old new faults_old faults_new = new ≡ old
 SaysRefusal (Some refusal) old new faults_old faults_new = Says (refusal_line refusal) old new faults_old faults_new
+
+-- the same of a refusal, if any
+abbrev pub IsSaidIfAny : Option Refusal → Option Refusal → Type 0
+IsSaidIfAny None found = found ≡ None
+IsSaidIfAny (Some refusal) found = IsSaid refusal found

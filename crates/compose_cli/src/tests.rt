@@ -3,7 +3,9 @@ ghost use Rattle.std.specs.Prelude.{◌≡◌, ◌<◌, ◌^◌, Some};
 use crate::{Ended, serial_main};
 use engine_hand::{MemoryHand, MemoryPlug};
 use engine_types::{Entry, Request};
-use memory_engine::MemoryEngine;
+use identity::declare;
+use memory_engine::{Catalogue, LostAt, MemoryEngine};
+use one_service::Project;
 use outside_api::{DialAnswer, MemoryFiles, MemorySink, Plug, Target};
 use std::alloc::Global;
 use std::str;
@@ -48,7 +50,7 @@ fn push_kinds(said: &mut Text, journal: &[Entry]) -> Result<(), Memory> {
     Ok(())
 }
 
-/// The requests of a hand's log, each by its first letter.
+/// The requests of a hand's log, each by its first letter; a stop by H.
 fn push_requests(said: &mut Text, hand: &MemoryHand) -> Result<(), Memory> {
     for exchange in hand.log() {
         said.push_str(match exchange.request {
@@ -57,6 +59,8 @@ fn push_requests(said: &mut Text, hand: &MemoryHand) -> Result<(), Memory> {
             Request::Pull { .. } => "P",
             Request::Create { .. } => "C",
             Request::Start { .. } => "S",
+            Request::Stop { .. } => "H",
+            Request::Remove { .. } => "R",
             _ => "?",
         })?;
     }
@@ -100,6 +104,44 @@ fn said_by(
     Ok(said)
 }
 
+/// What a call said, and the Engine that its hand left, if there was a hand.
+#[derive(Drop)]
+struct Called {
+    said: Text,
+    engine: Option<MemoryEngine>,
+}
+
+/// The Engine of the hand that a call handed back.
+fn engine_of(mut hands: List<MemoryHand>) -> Option<MemoryEngine> {
+    let MemoryHand { engine, .. } = hands.pop()?;
+    Some(engine)
+}
+
+/// Makes a call with a plug that made so many hands, and an output.
+fn call_with(
+    alloc: Global,
+    line: &str,
+    directory: &str,
+    files: &mut MemoryFiles,
+    plug: &mut MemoryPlug,
+    dialled: u64,
+    out: &mut MemorySink,
+) -> Result<Called, Memory>
+    requires told { ⟦<MemoryPlug as Plug>⟧.dialled plug.old ≡ Some dialled }
+    requires below { dialled < 2 ^ 61 }
+{
+    let words = words_of(alloc, line)?;
+    let env = Env::new(alloc);
+    let directory = Text::from_str(alloc, directory)?;
+    let mut err = MemorySink::new(alloc, 4096, List::new(alloc))?;
+    let ended = serial_main(alloc, &words, &env, &directory, files, plug, out, &mut err);
+    let said = said_by(alloc, &ended, out, &err)?;
+    Ok(Called {
+        said,
+        engine: engine_of(ended.hands),
+    })
+}
+
 /// Makes a call with a plug that made so many hands.
 fn call(
     alloc: Global,
@@ -112,15 +154,9 @@ fn call(
     requires told { ⟦<MemoryPlug as Plug>⟧.dialled plug.old ≡ Some dialled }
     requires below { dialled < 2 ^ 61 }
 {
-    let words = words_of(alloc, line)?;
-    let env = Env::new(alloc);
-    let directory = Text::from_str(alloc, directory)?;
     let mut out = MemorySink::new(alloc, 4096, List::new(alloc))?;
-    let mut err = MemorySink::new(alloc, 4096, List::new(alloc))?;
-    let ended = serial_main(
-        alloc, &words, &env, &directory, files, plug, &mut out, &mut err,
-    );
-    said_by(alloc, &ended, &out, &err)
+    let called = call_with(alloc, line, directory, files, plug, dialled, &mut out)?;
+    Ok(called.said)
 }
 
 /// Makes a call on a fresh Engine.
@@ -232,5 +268,178 @@ fn without_a_hand(alloc: Global) -> Result<Text, Memory> {
 fn a_plug_that_has_no_hand_left_is_a_fault(rt: HostRuntime) -> Result<(), Fail> {
     let said = without_a_hand(rt.alloc())?;
     assert_eq!(rt; said.as_str(), "7 journal  out  err compose: fault: Plug\n");
+    Ok(())
+}
+
+/// Brings the one service up on an Engine, with an output.
+fn up_into(alloc: Global, engine: MemoryEngine, out: &mut MemorySink) -> Result<Called, Memory> {
+    let mut files = one_file(alloc, "/w/shop/compose.yaml", ONE_SERVICE, false)?;
+    let mut plug = MemoryPlug::new(engine, 1);
+    call_with(
+        alloc,
+        "--memory up",
+        "/w/shop",
+        &mut files,
+        &mut plug,
+        0,
+        out,
+    )
+}
+
+/// Brings the one service up on an Engine.
+fn up(alloc: Global, engine: MemoryEngine) -> Result<Called, Memory> {
+    let mut out = MemorySink::new(alloc, 4096, List::new(alloc))?;
+    up_into(alloc, engine, &mut out)
+}
+
+/// Brings the one service up again, on the Engine that a call left.
+fn up_again(alloc: Global, called: Called) -> Result<Text, Memory> {
+    let Called { engine, .. } = called;
+    match engine {
+        Some(engine) => Ok(up(alloc, engine)?.said),
+        None => Text::from_str(alloc, "no Engine"),
+    }
+}
+
+fn up_twice(alloc: Global) -> Result<Text, Memory> {
+    let first = up(alloc, MemoryEngine::fresh(alloc)?)?;
+    up_again(alloc, first)
+}
+
+#[test]
+fn the_same_again_changes_nothing(rt: HostRuntime) -> Result<(), Fail> {
+    let said = up_twice(rt.alloc())?;
+    assert_eq!(rt; said.as_str(), "0 journal SL hand LI out  err ");
+    Ok(())
+}
+
+/// The create of the service's container, without its labels.
+fn unlabelled_create(alloc: Global) -> Result<Request, Memory> {
+    let project = Project {
+        name: Text::from_str(alloc, "shop")?,
+        service: Text::from_str(alloc, "web")?,
+        image: Text::from_str(alloc, "nginx:1.25")?,
+    };
+    let mut declared = declare(alloc, &project)?;
+    match declared.slots.pop() {
+        Some(mut slot) => {
+            slot.spec.labels = List::new(alloc);
+            Ok(Request::Create {
+                name: slot.name,
+                spec: slot.spec,
+            })
+        }
+        None => Err(Memory),
+    }
+}
+
+fn pull(alloc: Global) -> Result<Request, Memory> {
+    let name = Text::from_str(alloc, "nginx:1.25")?;
+    Ok(Request::Pull { name })
+}
+
+/// Brings the one service up where a container without labels has its name.
+fn up_beside_its_name(alloc: Global) -> Result<Text, Memory> {
+    let mut engine = MemoryEngine::fresh(alloc)?;
+    engine.serve(alloc, &pull(alloc)?)?;
+    engine.serve(alloc, &unlabelled_create(alloc)?)?;
+    Ok(up(alloc, engine)?.said)
+}
+
+#[test]
+fn a_name_in_use_is_refused(rt: HostRuntime) -> Result<(), Fail> {
+    let said = up_beside_its_name(rt.alloc())?;
+    assert_eq!(rt;
+        said.as_str(),
+        "3 journal SCEL hand LIC out  err compose: refused: create container shop-web-1: 409 conflict\n"
+    );
+    Ok(())
+}
+
+fn up_without_images(alloc: Global) -> Result<Text, Memory> {
+    let mut engine = MemoryEngine::fresh(alloc)?;
+    engine.catalogue = Catalogue::Only(List::new(alloc));
+    Ok(up(alloc, engine)?.said)
+}
+
+#[test]
+fn an_image_that_is_nowhere_is_refused(rt: HostRuntime) -> Result<(), Fail> {
+    let said = up_without_images(rt.alloc())?;
+    assert_eq!(rt;
+        said.as_str(),
+        "3 journal S hand LIP out  err compose: refused: pull nginx:1.25: 404 not found\n"
+    );
+    Ok(())
+}
+
+/// A fresh Engine that takes the create, which is the fifth exchange on it, and loses the answer.
+fn engine_that_loses_the_create(alloc: Global) -> Result<MemoryEngine, Memory> {
+    let mut engine = MemoryEngine::fresh(alloc)?;
+    engine.faults.lost.push(LostAt {
+        exchange: 5,
+        effect: true,
+    })?;
+    Ok(engine)
+}
+
+fn up_with_a_lost_create(alloc: Global) -> Result<Text, Memory> {
+    Ok(up(alloc, engine_that_loses_the_create(alloc)?)?.said)
+}
+
+fn up_after_a_lost_create(alloc: Global) -> Result<Text, Memory> {
+    let first = up(alloc, engine_that_loses_the_create(alloc)?)?;
+    up_again(alloc, first)
+}
+
+#[test]
+fn a_lost_create_is_a_fault(rt: HostRuntime) -> Result<(), Fail> {
+    let said = up_with_a_lost_create(rt.alloc())?;
+    assert_eq!(rt;
+        said.as_str(),
+        "7 journal SCEL hand LIPIC out  err compose: lost: create container shop-web-1: Fault\n"
+    );
+    Ok(())
+}
+
+#[test]
+fn a_run_after_a_lost_create_finishes_it(rt: HostRuntime) -> Result<(), Fail> {
+    let said = up_after_a_lost_create(rt.alloc())?;
+    assert_eq!(rt;
+        said.as_str(),
+        "0 journal SCEL hand LIS out container shop-web-1 started\n err "
+    );
+    Ok(())
+}
+
+fn up_into_a_failing_output(alloc: Global) -> Result<Text, Memory> {
+    let mut failing = List::new(alloc);
+    failing.push(1)?;
+    let mut out = MemorySink::new(alloc, 4096, failing)?;
+    Ok(up_into(alloc, MemoryEngine::fresh(alloc)?, &mut out)?.said)
+}
+
+#[test]
+fn an_output_that_fails_is_a_fault(rt: HostRuntime) -> Result<(), Fail> {
+    let said = up_into_a_failing_output(rt.alloc())?;
+    assert_eq!(rt;
+        said.as_str(),
+        "7 journal SCECEL hand LIPICS out  err compose: fault: Out\n"
+    );
+    Ok(())
+}
+
+fn up_without_sending(alloc: Global) -> Result<Text, Memory> {
+    let mut engine = MemoryEngine::fresh(alloc)?;
+    engine.faults.unsent.push(1)?;
+    Ok(up(alloc, engine)?.said)
+}
+
+#[test]
+fn a_request_that_is_not_sent_is_a_fault(rt: HostRuntime) -> Result<(), Fail> {
+    let said = up_without_sending(rt.alloc())?;
+    assert_eq!(rt;
+        said.as_str(),
+        "7 journal S hand L out  err compose: not sent: list containers\n"
+    );
     Ok(())
 }

@@ -1,23 +1,27 @@
-ghost use Rattle.std.specs.Prelude.{◌≡◌, ◌<◌, ◌^◌, Some, IfSome, IfErr, length, false, vec_len, vec_capacity};
+ghost use Rattle.std.specs.Prelude.{◌≡◌, ◌<◌, ◌^◌, [], Some, IfSome, IfErr, length, false};
 ghost use Rattle.std.specs.Option.{ForSome};
+ghost use Rattle.compose_cli.specs.Ends.{CountsHands, IsRefusedWith, SaysRefusal, SendsNothing};
+ghost use Rattle.compose_cli.specs.Runs.{ForProject, IsRefusalOf, IsStatusOf, IsUnbegun, Reports, RunsTask, up_of};
+ghost use Rattle.identity.specs.Declaring.{declared_of};
+ghost use Rattle.one_service.specs.Loading.{are_built, loaded};
 ghost use Rattle.outside_api.specs.Counts.{Rose};
-ghost use Rattle.one_service.specs.Loading.{loaded, are_built};
+ghost use Rattle.project_run.specs.Whole.{IfBegun, IsCaused, SparesKept};
+ghost use Rattle.refusals.specs.Origins.{IsOfLoading};
 ghost use Rattle.refusals.specs.Statuses.{status_of};
-ghost use Rattle.compose_cli.specs.Ends.{IsRefusedWith, SendsNothing, CountsHands, IsSaid, SaysRefusal};
-ghost use Rattle.refusals.specs.Origins.{IsOfLoading, IsOfRun};
-ghost use Rattle.refusals.specs.Lines.{refusal_line};
-ghost use Rattle.compose_cli.specs.Writing.{Says};
-ghost use Rattle.refusals.specs.declared.Refusal.{Refusal};
 ghost use Rattle.refusals.specs.declared.LoadRefusal.{LoadRefusal};
-ghost use Rattle.refusals.specs.declared.Unbuilt.{Unbuilt};
 ghost use Rattle.refusals.specs.declared.Part.{Part};
+ghost use Rattle.refusals.specs.declared.Refusal.{Refusal};
+ghost use Rattle.refusals.specs.declared.Unbuilt.{Unbuilt};
+ghost use Rattle.run_model.specs.EngineRules.{Among};
+ghost use Rattle.run_model.specs.Logs.{GrowsBy};
+ghost use Rattle.run_model.specs.Runs.{IsRun, run_exchanges, run_fault, run_report, run_status};
 
 use crate::ended::Ended;
-use crate::serial::{Ran, bring_up};
-use crate::writing::write_all;
+use crate::run::{refused, run_declared};
+use identity::declare;
 use one_service::{Project, load};
-use outside_api::{DialAnswer, Files, Hand, Plug, Sink, Target};
-use refusals::{Part, Refusal, refusal_line, refusal_status, status_of};
+use outside_api::{Files, Plug, Sink};
+use refusals::Refusal;
 use std::alloc::Global;
 use tree_base::{Env, List, Text};
 
@@ -51,6 +55,24 @@ pub fn serial_main<F: Files, P: Plug, O: Sink, G: Sink>(
     ensures dialled { CountsHands (P.dialled plug.old) (P.dialled plug.new) (length result.hands) }
     ensures status { result.status ≡ status_of result.refusal }
 
+    // The journal is empty only where the call was refused before its run, or wanted memory; then nothing was sent.
+    ensures unbegun { result.journal ≡ [] → IsUnbegun result.refusal }
+    ensures unsent { result.journal ≡ [] → (hand : P.Hand) → Among result.hands hand → P.Hand.log hand ≡ [] }
+
+    // Else the journal is that of a whole run, which brings up what the project declares, and the hand made its exchanges.
+    ensures legal { IfBegun result.journal (ForProject words.now cwd.now (F.told files.old) (λ project. IsRun (up_of project) result.journal)) }
+    ensures log { IfBegun result.journal (ForProject words.now cwd.now (F.told files.old) (λ project.
+        (hand : P.Hand) → Among result.hands hand → GrowsBy (run_exchanges (up_of project) result.journal 0) [] (P.Hand.log hand))) }
+    ensures cause { IfBegun result.journal ((hand : P.Hand) → Among result.hands hand → IsCaused result.journal (P.Hand.heard hand) 0 (P.Hand.faults hand)) }
+
+    // Status, refusal and report are those of the run, and kept containers were left alone.
+    ensures run_status { IfBegun result.journal (ForProject words.now cwd.now (F.told files.old) (λ project. IsStatusOf (run_status (up_of project) result.journal) result.status)) }
+    ensures run_fault { IfBegun result.journal (ForProject words.now cwd.now (F.told files.old) (λ project.
+        IsRefusalOf (run_fault (up_of project) result.journal) (O.faults out.old) (O.faults out.new) result.refusal)) }
+    ensures report { IfBegun result.journal (ForProject words.now cwd.now (F.told files.old) (λ project.
+        Reports (run_report (up_of project) result.journal) result.refusal (O.written out.old) (O.written out.new) (O.faults out.old) (O.faults out.new))) }
+    ensures kept { IfBegun result.journal (ForProject words.now cwd.now (F.told files.old) (λ project. SparesKept (up_of project) result.journal)) }
+
     // The line of the refusal is written to `err`, and nothing to `out` where nothing was sent.
     ensures line { SaysRefusal result.refusal (G.written err.old) (G.written err.new) (G.faults err.old) (G.faults err.new) }
     ensures quiet { IsOfLoading result.refusal → O.written out.new ≡ O.written out.old }
@@ -63,40 +85,7 @@ pub fn serial_main<F: Files, P: Plug, O: Sink, G: Sink>(
     }
 }
 
-/// Ends a call that made no hand: writes the line of the refusal.
-fn refused<H, G: Sink>(alloc: Global, refusal: Refusal, err: &mut G) -> Ended<H>
-    ensures nothing { SendsNothing result }
-    ensures refusal { IsSaid refusal result.refusal }
-    ensures status { result.status ≡ status_of result.refusal }
-    ensures line { SaysRefusal result.refusal (G.written err.old) (G.written err.new) (G.faults err.old) (G.faults err.new) }
-{
-    let refusal = say(alloc, refusal, err);
-    Ended {
-        status: refusal_status(&refusal),
-        journal: List::new(alloc),
-        hands: List::new(alloc),
-        refusal: Some(refusal),
-    }
-}
-
-/// Writes the line of a refusal. Where there is no memory for the line, the refusal is Memory.
-fn say<G: Sink>(alloc: Global, refusal: Refusal, err: &mut G) -> Refusal
-    ensures refusal { IsSaid refusal (Some result) }
-    ensures line { Says (refusal_line result) (G.written err.old) (G.written err.new) (G.faults err.old) (G.faults err.new) }
-{
-    match refusal_line(alloc, &refusal) {
-        Ok(line) => {
-            write_all(err, line.as_str().as_bytes());
-            refusal
-        }
-        Err(_) => {
-            write_all(err, b"compose: memory\n");
-            Refusal::Memory
-        }
-    }
-}
-
-/// Dials the hand and runs the project with it.
+/// Runs a project that was loaded.
 fn run_project<P: Plug, O: Sink, G: Sink>(
     alloc: Global,
     project: &Project,
@@ -105,81 +94,20 @@ fn run_project<P: Plug, O: Sink, G: Sink>(
     err: &mut G,
 ) -> Ended<P::Hand>
     requires { ForSome (P.dialled plug.old) (λ n. n < 2 ^ 61) }
-    ensures nothing_sent { IsOfLoading result.refusal → ⊥ }
+    ensures origin { IsOfLoading result.refusal → ⊥ }
     ensures dial { result.refusal ≡ Some (Refusal.Outside Part.Plug) → SendsNothing result × Rose (P.faults plug.old) (P.faults plug.new) }
     ensures dialled { CountsHands (P.dialled plug.old) (P.dialled plug.new) (length result.hands) }
+    ensures unbegun { result.journal ≡ [] → IsUnbegun result.refusal }
+    ensures unsent { result.journal ≡ [] → (hand : P.Hand) → Among result.hands hand → P.Hand.log hand ≡ [] }
+    ensures ran { IfBegun result.journal (RunsTask (λ h. P.Hand.log h) (λ h. P.Hand.heard h) (λ h. P.Hand.faults h) (up_of project.now) result
+        (O.written out.old) (O.written out.new) (O.faults out.old) (O.faults out.new)) }
+    ensures spares { SparesKept (up_of project.now) result.journal }
     ensures status { result.status ≡ status_of result.refusal }
     ensures line { SaysRefusal result.refusal (G.written err.old) (G.written err.new) (G.faults err.old) (G.faults err.new) }
     ensures quiet { result.refusal ≡ Some (Refusal.Outside Part.Plug) → O.written out.new ≡ O.written out.old }
 {
-    let Ok(hands) = Vec::with_capacity(alloc, 1) else {
-        return refused(alloc, Refusal::Memory, err);
-    };
-    match plug.dial(alloc, &Target::InMemory, None, 0) {
-        DialAnswer::Dialled(hand) => run_with(alloc, project, hand, hands, out, err),
-        DialAnswer::Failed => refused(alloc, Refusal::Outside(Part::Plug), err),
-        DialAnswer::Memory => refused(alloc, Refusal::Memory, err),
-    }
-}
-
-/// Runs the project, writes the report, and hands the hand back.
-fn run_with<H: Hand, O: Sink, G: Sink>(
-    alloc: Global,
-    project: &Project,
-    mut hand: H,
-    mut hands: Vec<H>,
-    out: &mut O,
-    err: &mut G,
-) -> Ended<H>
-    requires empty { vec_len hands ≡ 0 }
-    requires room { 0 < vec_capacity hands }
-    ensures hands { length result.hands ≡ 1 }
-    ensures refusal { IsOfRun result.refusal }
-    ensures status { result.status ≡ status_of result.refusal }
-    ensures line { SaysRefusal result.refusal (G.written err.old) (G.written err.new) (G.faults err.old) (G.faults err.new) }
-{
-    let ran = bring_up(alloc, &mut hand, project);
-    let Ran {
-        journal,
-        report,
-        refusal,
-    } = ran;
-    hands.push(hand).unwrap();
-    let refusal = say_if_any(alloc, write_report(refusal, &report, out), err);
-    Ended {
-        status: status_of(&refusal),
-        journal,
-        hands: List::from_vec(hands),
-        refusal,
-    }
-}
-
-/// Writes the line of a refusal, where there is one.
-fn say_if_any<G: Sink>(alloc: Global, refusal: Option<Refusal>, err: &mut G) -> Option<Refusal>
-    requires { IsOfRun refusal }
-    ensures refusal { IsOfRun result }
-    ensures line { SaysRefusal result (G.written err.old) (G.written err.new) (G.faults err.old) (G.faults err.new) }
-{
-    match refusal {
-        Some(refusal) => Some(say(alloc, refusal, err)),
-        None => None,
-    }
-}
-
-/// Writes the report; where that fails and nothing else did, the refusal is a fault of the output.
-fn write_report<O: Sink>(refusal: Option<Refusal>, report: &Text, out: &mut O) -> Option<Refusal>
-    requires { IsOfRun refusal }
-    ensures { IsOfRun result }
-{
-    let written = write_all(out, report.as_str().as_bytes());
-    match refusal {
-        Some(refusal) => Some(refusal),
-        None => {
-            if written {
-                None
-            } else {
-                Some(Refusal::Outside(Part::Out))
-            }
-        }
+    match declare(alloc, project) {
+        Ok(declared) => run_declared(alloc, &declared, plug, out, err),
+        Err(_) => refused(alloc, Refusal::Memory, err),
     }
 }

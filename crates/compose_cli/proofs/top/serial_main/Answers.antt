@@ -1,6 +1,13 @@
+use Rattle.std.proofs.Common.{[]}
 use Rattle.one_service.specs.Loading.{loaded}
 use Rattle.one_service.proofs.Loads.{IfSome-map}
 use Rattle.compose_cli.proofs.Ending.{refused_with, no_fault_of_plug}
+use Rattle.compose_cli.proofs.Ran.{for_project, if_begun, status_by}
+use Rattle.compose_cli.specs.Runs.{IsRefusalOf, IsStatusOf, Reports, up_of}
+use Rattle.project_run.specs.Whole.{SparesKept}
+use Rattle.run_model.specs.EngineRules.{Among}
+use Rattle.run_model.specs.Logs.{GrowsBy}
+use Rattle.run_model.specs.Runs.{IsRun, run_exchanges, run_fault, run_report, run_status}
 use Rattle.compose_cli.proofs.top.serial_main.Goals as goal
 
 pub returns-in-Err-clause-loading : goal.returns-in-Err-clause-loading
@@ -10,3 +17,27 @@ returns-in-Err-clause-loading g c =
 
 pub returns-in-Err-clause-dial : goal.returns-in-Err-clause-dial
 returns-in-Err-clause-dial g c = λ e. absurd (no_fault_of_plug c.in-Err.refusal c.refused.result.refusal c.in-Err.ensures.kind c.refused.ensures.refusal e)
+
+pub returns-in-Ok-clause-legal : goal.returns-in-Ok-clause-legal
+returns-in-Ok-clause-legal g c = if_begun c.run_project.result.journal c.run_project.ensures.ran (λ ran.
+    for_project c.args.words.now c.args.cwd.now (g.F.Files.told c.args.files.now) c.in-Ok.project (λ project. IsRun (up_of project) c.run_project.result.journal) c.in-Ok.ensures.told ran.run)
+
+pub returns-in-Ok-clause-log : goal.returns-in-Ok-clause-log
+returns-in-Ok-clause-log g c = if_begun c.run_project.result.journal c.run_project.ensures.ran (λ ran.
+    for_project c.args.words.now c.args.cwd.now (g.F.Files.told c.args.files.now) c.in-Ok.project (λ project. (hand : _) → Among c.run_project.result.hands hand → GrowsBy (run_exchanges (up_of project) c.run_project.result.journal 0) [] (g.P.Hand.Hand.log hand)) c.in-Ok.ensures.told ran.logs)
+
+pub returns-in-Ok-clause-run_status : goal.returns-in-Ok-clause-run_status
+returns-in-Ok-clause-run_status g c = if_begun c.run_project.result.journal c.run_project.ensures.ran (λ ran.
+    for_project c.args.words.now c.args.cwd.now (g.F.Files.told c.args.files.now) c.in-Ok.project (λ project. IsStatusOf (run_status (up_of project) c.run_project.result.journal) c.run_project.result.status) c.in-Ok.ensures.told (status_by (run_fault (up_of c.in-Ok.project) c.run_project.result.journal) (g.O.Sink.faults c.args.out.now) (g.O.Sink.faults c.run_project.new.out) c.run_project.result.refusal c.run_project.result.status ran.refused c.run_project.ensures.status))
+
+pub returns-in-Ok-clause-run_fault : goal.returns-in-Ok-clause-run_fault
+returns-in-Ok-clause-run_fault g c = if_begun c.run_project.result.journal c.run_project.ensures.ran (λ ran.
+    for_project c.args.words.now c.args.cwd.now (g.F.Files.told c.args.files.now) c.in-Ok.project (λ project. IsRefusalOf (run_fault (up_of project) c.run_project.result.journal) (g.O.Sink.faults c.args.out.now) (g.O.Sink.faults c.run_project.new.out) c.run_project.result.refusal) c.in-Ok.ensures.told ran.refused)
+
+pub returns-in-Ok-clause-report : goal.returns-in-Ok-clause-report
+returns-in-Ok-clause-report g c = if_begun c.run_project.result.journal c.run_project.ensures.ran (λ ran.
+    for_project c.args.words.now c.args.cwd.now (g.F.Files.told c.args.files.now) c.in-Ok.project (λ project. Reports (run_report (up_of project) c.run_project.result.journal) c.run_project.result.refusal (g.O.Sink.written c.args.out.now) (g.O.Sink.written c.run_project.new.out) (g.O.Sink.faults c.args.out.now) (g.O.Sink.faults c.run_project.new.out)) c.in-Ok.ensures.told ran.reported)
+
+pub returns-in-Ok-clause-kept : goal.returns-in-Ok-clause-kept
+returns-in-Ok-clause-kept g c = if_begun c.run_project.result.journal c.run_project.ensures.ran (λ ran.
+    for_project c.args.words.now c.args.cwd.now (g.F.Files.told c.args.files.now) c.in-Ok.project (λ project. SparesKept (up_of project) c.run_project.result.journal) c.in-Ok.ensures.told c.run_project.ensures.spares)

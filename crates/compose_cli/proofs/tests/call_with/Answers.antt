@@ -1,5 +1,5 @@
 use Rattle.std.proofs.Common.{◌≡◌, ◌∙◌, sym, Some, arith}
-use Rattle.compose_cli.proofs.tests.call.Goals as goal
+use Rattle.compose_cli.proofs.tests.call_with.Goals as goal
 
 pub serial_main-ended-requires : goal.serial_main-ended-requires
 serial_main-ended-requires c = λ n e.

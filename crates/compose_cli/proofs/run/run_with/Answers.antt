@@ -1,0 +1,16 @@
+use Rattle.std.proofs.Common.{◌≡◌, ◌∙◌, List, [], ◌∷◌, ◌++◌, true, false, ap}
+use Rattle.std.specs.Prelude.{is_ok}
+use Rattle.compose_cli.proofs.Ran.{runs_task}
+use Rattle.project_run.specs.Whole.{upping}
+use Rattle.compose_cli.proofs.run.run_with.Goals as goal
+
+pub returns-clause-ran : goal.returns-clause-ran
+returns-clause-ran g c =
+    let ok : is_ok c.push.result ≡ true = c.push.ensures.succeeds c.requires.room in
+    let grown : c.push.new.self.items ≡ c.args.hands.items ++ c.bring_up-journal.new.hand ∷ [] = rw ok at c.push.ensures.items in
+    runs_task (λ h. g.H.Hand.log h) (λ h. g.H.Hand.heard h) (λ h. g.H.Hand.faults h) (upping c.args.declared.now false) c.bring_up-journal.result.journal c.from_vec.result c.status_of.result
+    c.bring_up-journal.result.report c.bring_up-journal.result.fault c.write_report.result c.say_if_any-refusal.result c.args.hand c.bring_up-journal.new.hand
+    (g.O.Sink.written c.args.out.now) (g.O.Sink.written c.write_report.new.out) (g.O.Sink.faults c.args.out.now) (g.O.Sink.faults c.write_report.new.out)
+    c.bring_up-journal.ensures.run c.bring_up-journal.ensures.log c.bring_up-journal.ensures.fault c.bring_up-journal.ensures.report c.bring_up-journal.ensures.cause c.bring_up-journal.ensures.heard
+    c.requires.unused c.requires.faultless (c.from_vec.ensures ∙ grown ∙ ap (λ (hands : List _). hands ++ c.bring_up-journal.new.hand ∷ []) c.requires.empty)
+    c.write_report.ensures.refused c.write_report.ensures.written c.say_if_any-refusal.ensures.refusal

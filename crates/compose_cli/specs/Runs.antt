@@ -1,0 +1,65 @@
+-- What a call leaves that ran a project.
+use Rattle.std.specs.Prelude.{◌≡◌, ◌⊎◌, ◌≤◌, ℕ, Bool, false, List, [], ◌∷◌, Option, Some, None, Result, Ok, length, option_map, take}
+use Rattle.engine_types.specs.declared.Entry.{Entry}
+use Rattle.engine_types.specs.declared.Exchange.{Exchange}
+use Rattle.engine_types.specs.declared.RunFault.{RunFault}
+use Rattle.compose_cli.specs.Writing.{Says}
+use Rattle.compose_cli.specs.declared.ended.Ended.{Ended}
+use Rattle.identity.specs.Declaring.{declared_of}
+use Rattle.one_service.specs.Loading.{loaded}
+use Rattle.one_service.specs.declared.Project.{Project}
+use Rattle.outside_api.specs.Counts.{Rose}
+use Rattle.outside_api.specs.Files.{Contents}
+use Rattle.outside_api.specs.Hands.{Heard}
+use Rattle.outside_api.specs.Sinks.{GrewBy}
+use Rattle.project_run.specs.Whole.{IsCaused, SparesKept, upping}
+use Rattle.refusals.specs.Origins.{run_refusal}
+use Rattle.refusals.specs.declared.Part.{Part}
+use Rattle.refusals.specs.declared.Refusal.{Refusal}
+use Rattle.run_model.specs.EngineRules.{Among}
+use Rattle.run_model.specs.Logs.{GrowsBy}
+use Rattle.run_model.specs.Runs.{IsRun, Task, run_exchanges, run_fault, run_report}
+
+-- to bring up what a project declares; orphans stay
+abbrev pub up_of : Project → Task
+up_of project = upping (declared_of project) false
+
+-- a fact on the project that a call runs: the one that its words and its files give where the files are told, else some project
+abbrev pub ForProject : List (List ℕ) → List ℕ → Option Contents → (Project → Type 0) → Type 0
+ForProject words cwd None Fact = (project : Project) × Fact project
+ForProject words cwd (Some contents) Fact = (project : Project) × (loaded words cwd contents ≡ Ok project) × Fact project
+
+-- what a call is refused with whose run has this fault, if any: that fault, or a fault of the output where the run has none, or
+-- want of memory
+abbrev pub IsRefusalOf : Option RunFault → ℕ → ℕ → Option Refusal → Type 0
+IsRefusalOf fault old new refusal =
+    (refusal ≡ option_map run_refusal fault)
+    ⊎ ((fault ≡ None) × (refusal ≡ Some (Refusal.Outside Part.Out)) × Rose old new)
+    ⊎ (refusal ≡ Some Refusal.Memory)
+
+-- the exit status of a call whose run has this status: that one, or 7 where the output failed after a run of status 0, or 9
+abbrev pub IsStatusOf : ℕ → ℕ → Type 0
+IsStatusOf run status = (status ≡ run) ⊎ ((run ≡ 0) × (status ≡ 7)) ⊎ (status ≡ 9)
+
+-- a run's report was written to the output, or a prefix of it where that failed or memory was wanted
+abbrev pub Reports : List ℕ → Option Refusal → Option (List ℕ) → Option (List ℕ) → ℕ → ℕ → Type 0
+Reports report refusal old new faults_old faults_new =
+    Says report old new faults_old faults_new ⊎ ((refusal ≡ Some Refusal.Memory) × ((n : ℕ) × (n ≤ length report) × GrewBy old (take n report) new))
+
+-- a call without a run was refused before it, or wanted memory
+abbrev pub IsUnbegun : Option Refusal → Type 0
+IsUnbegun (Some (Refusal.NotBuilt unbuilt)) = Unit {0}
+IsUnbegun (Some (Refusal.Load refusal)) = Unit {0}
+IsUnbegun (Some (Refusal.Name refusal)) = Unit {0}
+IsUnbegun (Some (Refusal.Outside Part.Plug)) = Unit {0}
+IsUnbegun (Some Refusal.Memory) = Unit {0}
+IsUnbegun _ = ⊥
+
+-- a call ran a task: its journal, what its hand tells, its refusal, and what it wrote
+pub record RunsTask {H : Type 0} (log : H → List Exchange) (heard : H → Option (List Heard)) (faults : H → ℕ) (task : Task) (ended : Ended H)
+    (written_old written_new : Option (List ℕ)) (faults_old faults_new : ℕ) : Type 0 where
+  pub run : IsRun task ended.journal
+  pub logs : (hand : H) → Among ended.hands hand → GrowsBy (run_exchanges task ended.journal 0) [] (log hand)
+  pub caused : (hand : H) → Among ended.hands hand → IsCaused ended.journal (heard hand) 0 (faults hand)
+  pub refused : IsRefusalOf (run_fault task ended.journal) faults_old faults_new ended.refusal
+  pub reported : Reports (run_report task ended.journal) ended.refusal written_old written_new faults_old faults_new

@@ -1,0 +1,137 @@
+ghost use Rattle.std.specs.Prelude.{◌≡◌, ◌+◌, ◌<◌, ◌^◌, [], Some, None, if◌then◌else◌, false, length, vec_len, vec_capacity};
+ghost use Rattle.std.specs.Option.{ForSome};
+ghost use Rattle.compose_cli.specs.Ends.{CountsHands, IsSaid, SaysRefusal, SendsNothing};
+ghost use Rattle.compose_cli.specs.Runs.{IsRefusalOf, IsUnbegun, RunsTask};
+ghost use Rattle.compose_cli.specs.Writing.{Says};
+ghost use Rattle.outside_api.specs.Counts.{Rose};
+ghost use Rattle.project_run.specs.Whole.{IfBegun, SparesKept, upping};
+ghost use Rattle.refusals.specs.Origins.{IsOfLoading, IsOfRun};
+ghost use Rattle.refusals.specs.Statuses.{status_of};
+ghost use Rattle.refusals.specs.declared.Part.{Part};
+ghost use Rattle.refusals.specs.declared.Refusal.{Refusal};
+ghost use Rattle.run_model.specs.EngineRules.{Among};
+ghost use Rattle.run_model.specs.Plans.{IsWhole};
+ghost use Rattle.serial_run.specs.Serial.{NeedsNoSlot};
+
+use crate::ended::Ended;
+use crate::saying::{say, say_if_any};
+use crate::writing::write_all;
+use engine_types::{Declared, RunFault};
+use outside_api::{DialAnswer, Hand, Plug, Sink, Target};
+use project_run::{Ran, bring_up};
+use refusals::{Part, Refusal, refusal_of, refusal_status, status_of};
+use std::alloc::Global;
+use tree_base::{List, Text};
+
+/// Dials the hand and brings up what is declared with it.
+pub(crate) fn run_declared<P: Plug, O: Sink, G: Sink>(
+    alloc: Global,
+    declared: &Declared,
+    plug: &mut P,
+    out: &mut O,
+    err: &mut G,
+) -> Ended<P::Hand>
+    requires told { ForSome (P.dialled plug.old) (λ n. n < 2 ^ 61) }
+    requires whole { IsWhole declared.now }
+    requires unconditional { NeedsNoSlot declared.now }
+    ensures origin { IsOfLoading result.refusal → ⊥ }
+    ensures dial { result.refusal ≡ Some (Refusal.Outside Part.Plug) → SendsNothing result × Rose (P.faults plug.old) (P.faults plug.new) }
+    ensures dialled { CountsHands (P.dialled plug.old) (P.dialled plug.new) (length result.hands) }
+    ensures unbegun { result.journal ≡ [] → IsUnbegun result.refusal }
+    ensures unsent { result.journal ≡ [] → (hand : P.Hand) → Among result.hands hand → P.Hand.log hand ≡ [] }
+    ensures ran { IfBegun result.journal (RunsTask (λ h. P.Hand.log h) (λ h. P.Hand.heard h) (λ h. P.Hand.faults h) (upping declared.now false) result
+        (O.written out.old) (O.written out.new) (O.faults out.old) (O.faults out.new)) }
+    ensures spares { SparesKept (upping declared.now false) result.journal }
+    ensures status { result.status ≡ status_of result.refusal }
+    ensures line { SaysRefusal result.refusal (G.written err.old) (G.written err.new) (G.faults err.old) (G.faults err.new) }
+    ensures quiet { result.refusal ≡ Some (Refusal.Outside Part.Plug) → O.written out.new ≡ O.written out.old }
+{
+    let Ok(hands) = Vec::with_capacity(alloc, 1) else {
+        return refused(alloc, Refusal::Memory, err);
+    };
+    match plug.dial(alloc, &Target::InMemory, None, 0) {
+        DialAnswer::Dialled(hand) => run_with(alloc, declared, hand, hands, out, err),
+        DialAnswer::Failed => refused(alloc, Refusal::Outside(Part::Plug), err),
+        DialAnswer::Memory => refused(alloc, Refusal::Memory, err),
+    }
+}
+
+/// Ends a call that made no hand: writes the line of the refusal.
+pub(crate) fn refused<H, G: Sink>(alloc: Global, refusal: Refusal, err: &mut G) -> Ended<H>
+    ensures nothing { SendsNothing result }
+    ensures refusal { IsSaid refusal result.refusal }
+    ensures status { result.status ≡ status_of result.refusal }
+    ensures line { SaysRefusal result.refusal (G.written err.old) (G.written err.new) (G.faults err.old) (G.faults err.new) }
+{
+    let refusal = say(alloc, refusal, err);
+    Ended {
+        status: refusal_status(&refusal),
+        journal: List::new(alloc),
+        hands: List::new(alloc),
+        refusal: Some(refusal),
+    }
+}
+
+/// Brings up what is declared with a new hand, writes the report, and hands the hand back.
+fn run_with<H: Hand, O: Sink, G: Sink>(
+    alloc: Global,
+    declared: &Declared,
+    mut hand: H,
+    mut hands: Vec<H>,
+    out: &mut O,
+    err: &mut G,
+) -> Ended<H>
+    requires empty { hands.items ≡ [] }
+    requires room { vec_len hands < vec_capacity hands }
+    requires whole { IsWhole declared.now }
+    requires unconditional { NeedsNoSlot declared.now }
+    requires unused { H.log hand ≡ [] }
+    requires faultless { H.faults hand ≡ 0 }
+    ensures hands { length result.hands ≡ 1 }
+    ensures origin { IsOfRun result.refusal }
+    ensures unbegun { result.journal ≡ [] → IsUnbegun result.refusal }
+    ensures unsent { result.journal ≡ [] → (hand : H) → Among result.hands hand → H.log hand ≡ [] }
+    ensures ran { IfBegun result.journal (RunsTask (λ h. H.log h) (λ h. H.heard h) (λ h. H.faults h) (upping declared.now false) result
+        (O.written out.old) (O.written out.new) (O.faults out.old) (O.faults out.new)) }
+    ensures spares { SparesKept (upping declared.now false) result.journal }
+    ensures status { result.status ≡ status_of result.refusal }
+    ensures line { SaysRefusal result.refusal (G.written err.old) (G.written err.new) (G.faults err.old) (G.faults err.new) }
+{
+    let Ran {
+        journal,
+        report,
+        fault,
+    } = bring_up(alloc, &mut hand, declared, false);
+    hands.push(hand).unwrap();
+    let refusal = say_if_any(alloc, write_report(fault, &report, out), err);
+    Ended {
+        status: status_of(&refusal),
+        journal,
+        hands: List::from_vec(hands),
+        refusal,
+    }
+}
+
+/// Writes the report; where that fails and the run went well, the refusal is a fault of the output.
+fn write_report<O: Sink>(fault: Option<RunFault>, report: &Text, out: &mut O) -> Option<Refusal>
+    ensures refused { IsRefusalOf fault (O.faults out.old) (O.faults out.new) result }
+    ensures origin { IsOfRun result }
+    ensures written { Says report.now (O.written out.old) (O.written out.new) (O.faults out.old) (O.faults out.new) }
+{
+    let whole = write_all(out, report.as_str().as_bytes());
+    match fault {
+        Some(fault) => Some(refusal_of(fault)),
+        None => fault_of_output(whole),
+    }
+}
+
+/// The refusal of a run that went well, whose report was written whole or not. No memory.
+fn fault_of_output(whole: bool) -> Option<Refusal>
+    ensures { result ≡ (if whole then None else Some (Refusal.Outside Part.Out)) }
+{
+    if whole {
+        None
+    } else {
+        Some(Refusal::Outside(Part::Out))
+    }
+}
