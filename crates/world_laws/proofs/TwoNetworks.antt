@@ -1,0 +1,53 @@
+-- The set that declares one service on two networks is whole, and its slot's spec is made for it.
+use Rattle.std.proofs.Common.{◌≡◌, ℕ, zero, suc, ◌<◌, Bool, true, List, [], ◌∷◌, Some, refl, sym, subst, inl, inr, arith, lit<}
+use Rattle.std.specs.Fmt.{digits}
+use Rattle.std.specs.Prelude.{codes}
+use Rattle.engine_types.specs.declared.Attach.{Attach}
+use Rattle.engine_types.specs.declared.Need.{Need}
+use Rattle.engine_types.specs.declared.NetworkSpec.{NetworkSpec}
+use Rattle.engine_types.specs.declared.Slot.{Slot}
+use Rattle.run_model.specs.EngineRules.{Among}
+use Rattle.run_model.specs.Plans.{IsAscending, IsWhole}
+use Rattle.run_model.specs.Tests.{is_before}
+use Rattle.run_model.specs.TwoNetworks as two
+use Rattle.world_laws.proofs.OneService.{none_ascends, one_ascends}
+use Rattle.world_laws.specs.OwnSpecs.{HasOwnSpecs, IsOwnSpec}
+
+networks_ascend : IsAscending (λ (network other : NetworkSpec). is_before network.name other.name) two.shop.networks
+networks_ascend zero zero x y l e f = absurd (omega (arith, l))
+networks_ascend zero (suc zero) x y l e f = let a : two.network_of (codes "a") ≡ x = cc e in let b : two.network_of (codes "b") ≡ y = cc f in rw (sym a, sym b) refl
+networks_ascend zero (suc (suc j)) x y l e f = absurd (cc f)
+networks_ascend (suc zero) zero x y l e f = absurd (omega (arith, l))
+networks_ascend (suc zero) (suc zero) x y l e f = absurd (omega (arith, l))
+networks_ascend (suc zero) (suc (suc j)) x y l e f = absurd (cc f)
+networks_ascend (suc (suc i)) j x y l e f = absurd (cc e)
+
+pub whole : IsWhole two.shop
+whole = record {
+  slots = one_ascends _ two.web;
+  networks = networks_ascend;
+  volumes = none_ascends _;
+  attaches = λ slot attach m n. within attach (subst (λ (s : Slot). Among s.attach attach) (only slot m) n);
+  needs = λ slot need m n. absurd (subst (λ (s : Slot). Among s.needs need) (only slot m) n);
+  conditions = λ slot need m n. absurd (subst (λ (s : Slot). Among s.needs need) (only slot m) n);
+}
+  where
+    only : (slot : Slot) → Among two.shop.slots slot → slot ≡ two.web
+    only slot (inl e) = e
+    only slot (inr m) = absurd m
+
+    within : (attach : Attach) → Among two.web.attach attach → attach.network < 2
+    within attach (inl e) = rw e (omega arith)
+    within attach (inr (inl e)) = rw e (omega arith)
+    within attach (inr (inr m)) = absurd m
+
+abbrev first : Attach
+first = record { network = 0; aliases = codes "web" ∷ [] }
+
+own_web : IsOwnSpec two.shop two.web
+unfolding digits
+own_web = record { labels = refl; hash = refl; image = refl; number = lit< tt; endpoint = λ attach e. let same : first ≡ attach = cc e in rw (sym same) refl }
+
+pub own : HasOwnSpecs two.shop
+own slot (inl e) = subst (IsOwnSpec two.shop) (sym e) own_web
+own slot (inr m) = absurd m

@@ -1,0 +1,11 @@
+use Rattle.std.proofs.Common.{◌≡◌, map, take, Bor}
+use Rattle.std.specs.Map.{keys_of}
+use Rattle.engine_types.specs.declared.ContainerRow.{ContainerRow}
+use Rattle.run_model.specs.Tests.{first_of_each}
+use Rattle.world_laws.proofs.look_ups.found_containers.Given as goal
+
+abbrev pub invariant-loop-row : goal.invariant-loop-row
+invariant-loop-row l = record {
+  are : map (λ (r : Bor ContainerRow). r.now) l.found.items ≡ first_of_each (λ (row : ContainerRow). row.id) (take l.row-index l.row-items);
+  knows : keys_of l.ids ≡ map (λ (row : ContainerRow). row.id) (map (λ (r : Bor ContainerRow). r.now) l.found.items);
+}

@@ -1,0 +1,41 @@
+ghost use Rattle.std.specs.Prelude.{◌≡◌, None};
+ghost use Rattle.engine_types.specs.declared.Engine.{Engine};
+ghost use Rattle.run_model.specs.Exact.{IsExact};
+ghost use Rattle.run_model.specs.OneService.{comes_up, shop, upping};
+ghost use Rattle.run_model.specs.OneWorld.{fresh, moves, up};
+ghost use Rattle.run_model.specs.Plans.{IsWhole};
+ghost use Rattle.run_model.specs.Runs.{IsRun, IsWorldOfRun, run_fault};
+ghost use Rattle.run_model.specs.TwoNetworks as two;
+ghost use Rattle.run_model.specs.TwoWorlds as worlds;
+ghost use Rattle.world_laws.specs.OwnSpecs.{HasOwnSpecs};
+
+use run_model::{
+    lost_create_is_found, lost_create_is_made_once, one_service_comes_up, one_service_is_exact,
+};
+
+/// The run of one service on a fresh Engine has all that the law on exactness asks for, and so the Engine holds exactly
+/// what is declared.
+pub fn one_service_is_held_exactly()
+    ensures whole { IsWhole shop }
+    ensures own { HasOwnSpecs shop }
+    ensures run { IsRun (upping shop) comes_up }
+    ensures sound { run_fault (upping shop) comes_up ≡ None }
+    ensures world { IsWorldOfRun (upping shop) comes_up fresh moves up }
+    ensures exact { IsExact shop up (upping shop).aim.orphans }
+{
+    one_service_comes_up();
+    one_service_is_exact();
+}
+
+/// The same of a run that finds a service's container on one of its two networks, and connects it to the other one.
+pub fn two_networks_are_held_exactly()
+    ensures whole { IsWhole two.shop }
+    ensures own { HasOwnSpecs two.shop }
+    ensures run { IsRun (upping two.shop) two.connects }
+    ensures sound { run_fault (upping two.shop) two.connects ≡ None }
+    ensures world { (first : Engine) × IsWorldOfRun (upping two.shop) two.connects first worlds.second_moves worlds.after }
+    ensures exact { IsExact two.shop worlds.after (upping two.shop).aim.orphans }
+{
+    lost_create_is_found();
+    lost_create_is_made_once();
+}
