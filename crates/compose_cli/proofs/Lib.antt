@@ -2,3 +2,4 @@ pub mod Writes
 pub mod Ending
 pub mod Ran
 pub mod Declares
+pub mod EnginesKept

@@ -1,5 +1,6 @@
 -- What a call leaves that ran a project.
-use Rattle.std.specs.Prelude.{◌≡◌, ◌⊎◌, ◌≤◌, ℕ, Bool, false, List, [], ◌∷◌, Option, Some, None, Result, Ok, length, option_map, take}
+use Rattle.std.specs.Prelude.{◌≡◌, ◌⊎◌, ◌≤◌, ℕ, Bool, false, List, [], ◌∷◌, Option, Some, None, IfSome, Result, Ok, length, option_map, take}
+use Rattle.engine_types.specs.declared.Engine.{Engine}
 use Rattle.engine_types.specs.declared.Entry.{Entry}
 use Rattle.engine_types.specs.declared.Exchange.{Exchange}
 use Rattle.engine_types.specs.declared.RunFault.{RunFault}
@@ -13,12 +14,15 @@ use Rattle.outside_api.specs.Files.{Contents}
 use Rattle.outside_api.specs.Hands.{Heard}
 use Rattle.outside_api.specs.Sinks.{GrewBy}
 use Rattle.project_run.specs.Whole.{IsCaused, SparesKept, upping}
+use Rattle.project_run.specs.Worlds.{EndsExact}
 use Rattle.refusals.specs.Origins.{run_refusal}
 use Rattle.refusals.specs.declared.Part.{Part}
 use Rattle.refusals.specs.declared.Refusal.{Refusal}
 use Rattle.run_model.specs.EngineRules.{Among}
+use Rattle.run_model.specs.Exact.{IsExact}
 use Rattle.run_model.specs.Logs.{GrowsBy}
-use Rattle.run_model.specs.Runs.{IsRun, Task, run_exchanges, run_fault, run_report}
+use Rattle.run_model.specs.Runs.{IsRun, IsWorldOfRun, Task, run_exchanges, run_fault, run_report}
+use Rattle.run_model.specs.Worlds.{Move}
 
 -- to bring up what a project declares; orphans stay
 abbrev pub up_of : Project → Task
@@ -55,6 +59,14 @@ IsUnbegun (Some (Refusal.Outside Part.Plug)) = Unit {0}
 IsUnbegun (Some Refusal.Memory) = Unit {0}
 IsUnbegun _ = ⊥
 
+-- where an Engine was told at first, and one is told now, a world of the run leads from the one to the other
+abbrev pub LeadsOn : Task → List Entry → Option Engine → Option Engine → Type 0
+LeadsOn task journal began now = IfSome began (λ first. IfSome now (λ last. (moves : List Move) × IsWorldOfRun task journal first moves last))
+
+-- where an Engine is told, it holds exactly what the task declares
+abbrev pub HoldsExactly : Task → Option Engine → Type 0
+HoldsExactly task now = IfSome now (λ engine. IsExact task.declared engine task.aim.orphans)
+
 -- a call ran a task: its journal, what its hand tells, its refusal, and what it wrote
 pub record RunsTask {H : Type 0} (log : H → List Exchange) (heard : H → Option (List Heard)) (faults : H → ℕ) (task : Task) (ended : Ended H)
     (written_old written_new : Option (List ℕ)) (faults_old faults_new : ℕ) : Type 0 where
@@ -63,3 +75,4 @@ pub record RunsTask {H : Type 0} (log : H → List Exchange) (heard : H → Opti
   pub caused : (hand : H) → Among ended.hands hand → IsCaused ended.journal (heard hand) 0 (faults hand)
   pub refused : IsRefusalOf (run_fault task ended.journal) faults_old faults_new ended.refusal
   pub reported : Reports (run_report task ended.journal) ended.refusal written_old written_new faults_old faults_new
+  pub exact : ended.refusal ≡ None → EndsExact task ended.journal

@@ -1,10 +1,11 @@
 ghost use Rattle.std.specs.Prelude.{◌≡◌, ◌+◌, ◌<◌, ◌^◌, [], Some, None, if◌then◌else◌, false, length, vec_len, vec_capacity};
 ghost use Rattle.std.specs.Option.{ForSome};
 ghost use Rattle.compose_cli.specs.Ends.{CountsHands, IsSaid, SaysRefusal, SendsNothing};
-ghost use Rattle.compose_cli.specs.Runs.{IsRefusalOf, IsUnbegun, RunsTask};
+ghost use Rattle.compose_cli.specs.Runs.{HoldsExactly, IsRefusalOf, IsUnbegun, LeadsOn, RunsTask};
 ghost use Rattle.compose_cli.specs.Writing.{Says};
 ghost use Rattle.outside_api.specs.Counts.{Rose};
 ghost use Rattle.project_run.specs.Whole.{IfBegun, SparesKept, upping};
+ghost use Rattle.project_run.specs.Worlds.{GoesThrough};
 ghost use Rattle.refusals.specs.Origins.{IsOfLoading, IsOfRun};
 ghost use Rattle.refusals.specs.Statuses.{status_of};
 ghost use Rattle.refusals.specs.declared.Part.{Part};
@@ -12,6 +13,7 @@ ghost use Rattle.refusals.specs.declared.Refusal.{Refusal};
 ghost use Rattle.run_model.specs.EngineRules.{Among};
 ghost use Rattle.run_model.specs.Plans.{IsWhole};
 ghost use Rattle.serial_run.specs.Serial.{NeedsNoSlot};
+ghost use Rattle.world_laws.specs.OwnSpecs.{HasOwnSpecs};
 
 use crate::ended::Ended;
 use crate::saying::{say, say_if_any};
@@ -34,6 +36,7 @@ pub(crate) fn run_declared<P: Plug, O: Sink, G: Sink>(
     requires told { ForSome (P.dialled plug.old) (λ n. n < 2 ^ 61) }
     requires whole { IsWhole declared.now }
     requires unconditional { NeedsNoSlot declared.now }
+    requires own { HasOwnSpecs declared.now }
     ensures origin { IsOfLoading result.refusal → ⊥ }
     ensures dial { result.refusal ≡ Some (Refusal.Outside Part.Plug) → SendsNothing result × Rose (P.faults plug.old) (P.faults plug.new) }
     ensures dialled { CountsHands (P.dialled plug.old) (P.dialled plug.new) (length result.hands) }
@@ -42,6 +45,8 @@ pub(crate) fn run_declared<P: Plug, O: Sink, G: Sink>(
     ensures ran { IfBegun result.journal (RunsTask (λ h. P.Hand.log h) (λ h. P.Hand.heard h) (λ h. P.Hand.faults h) (upping declared.now false) result
         (O.written out.old) (O.written out.new) (O.faults out.old) (O.faults out.new)) }
     ensures spares { SparesKept (upping declared.now false) result.journal }
+    ensures leads { IfBegun result.journal ((hand : P.Hand) → Among result.hands hand → LeadsOn (upping declared.now false) result.journal (P.engine plug.old) (P.Hand.engine hand)) }
+    ensures holds { result.refusal ≡ None → (hand : P.Hand) → Among result.hands hand → HoldsExactly (upping declared.now false) (P.Hand.engine hand) }
     ensures status { result.status ≡ status_of result.refusal }
     ensures line { SaysRefusal result.refusal (G.written err.old) (G.written err.new) (G.faults err.old) (G.faults err.new) }
     ensures quiet { result.refusal ≡ Some (Refusal.Outside Part.Plug) → O.written out.new ≡ O.written out.old }
@@ -85,6 +90,7 @@ fn run_with<H: Hand, O: Sink, G: Sink>(
     requires room { vec_len hands < vec_capacity hands }
     requires whole { IsWhole declared.now }
     requires unconditional { NeedsNoSlot declared.now }
+    requires own { HasOwnSpecs declared.now }
     requires unused { H.log hand ≡ [] }
     requires faultless { H.faults hand ≡ 0 }
     ensures hands { length result.hands ≡ 1 }
@@ -94,6 +100,8 @@ fn run_with<H: Hand, O: Sink, G: Sink>(
     ensures ran { IfBegun result.journal (RunsTask (λ h. H.log h) (λ h. H.heard h) (λ h. H.faults h) (upping declared.now false) result
         (O.written out.old) (O.written out.new) (O.faults out.old) (O.faults out.new)) }
     ensures spares { SparesKept (upping declared.now false) result.journal }
+    ensures through { IfBegun result.journal ((other : H) → Among result.hands other → GoesThrough (upping declared.now false) result.journal (H.engine hand) (H.engine other)) }
+    ensures holds { result.refusal ≡ None → (other : H) → Among result.hands other → HoldsExactly (upping declared.now false) (H.engine other) }
     ensures status { result.status ≡ status_of result.refusal }
     ensures line { SaysRefusal result.refusal (G.written err.old) (G.written err.new) (G.faults err.old) (G.faults err.new) }
 {

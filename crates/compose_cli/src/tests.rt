@@ -2,15 +2,16 @@ ghost use Rattle.std.specs.Prelude.{◌≡◌, ◌<◌, ◌^◌, Some};
 
 use crate::{Ended, serial_main};
 use engine_hand::{MemoryHand, MemoryPlug};
-use engine_types::{Entry, Request};
+use engine_types::{Engine, Entry, ImageRow, Request};
 use identity::declare;
-use memory_engine::{Catalogue, LostAt, MemoryEngine};
+use memory_engine::{Catalogue, FaultPlan, LostAt, MemoryEngine};
 use one_service::Project;
 use outside_api::{DialAnswer, MemoryFiles, MemorySink, Plug, Target};
 use std::alloc::Global;
 use std::str;
 use std::test::Fail;
 use tree_base::{Env, List, Memory, Text, TextMap};
+use world_laws::exact;
 
 const ONE_SERVICE: &str = "services:\n  web:\n    image: nginx:1.25\n    network_mode: none\n";
 
@@ -76,7 +77,32 @@ fn push_written(said: &mut Text, mark: &str, sink: &MemorySink) -> Result<(), Me
     }
 }
 
-/// What a call ended with: its status, its journal, and the requests of each hand.
+/// The project `shop` with the service of the one file.
+fn shop(alloc: Global) -> Result<Project, Memory> {
+    Ok(Project {
+        name: Text::from_str(alloc, "shop")?,
+        service: Text::from_str(alloc, "web")?,
+        image: Text::from_str(alloc, "nginx:1.25")?,
+    })
+}
+
+/// Whether an Engine holds exactly what `shop` declares.
+fn holds_shop(alloc: Global, engine: &Engine) -> Result<bool, Memory> {
+    let declared = declare(alloc, &shop(alloc)?)?;
+    exact(alloc, &declared, engine, false)
+}
+
+/// What a hand was asked for, and whether its Engine then holds exactly what `shop` declares.
+fn push_hand(alloc: Global, said: &mut Text, hand: &MemoryHand) -> Result<(), Memory> {
+    said.push_str(" hand ")?;
+    push_requests(said, hand)?;
+    if holds_shop(alloc, &hand.engine.engine)? {
+        said.push_str(" exact")?;
+    }
+    Ok(())
+}
+
+/// What a call ended with: its status, its journal, and each hand.
 fn push_ended(alloc: Global, said: &mut Text, ended: &Ended<MemoryHand>) -> Result<(), Memory> {
     let status = ended.status;
     let status = format!(in alloc; "{status}")?;
@@ -84,8 +110,7 @@ fn push_ended(alloc: Global, said: &mut Text, ended: &Ended<MemoryHand>) -> Resu
     said.push_str(" journal ")?;
     push_kinds(said, ended.journal.as_slice())?;
     for hand in ended.hands.as_slice() {
-        said.push_str(" hand ")?;
-        push_requests(said, hand)?;
+        push_hand(alloc, said, hand)?;
     }
     Ok(())
 }
@@ -188,7 +213,7 @@ fn one_service_comes_up(rt: HostRuntime) -> Result<(), Fail> {
     let said = says(rt.alloc(), "--memory up", "/w/shop", path, ONE_SERVICE)?;
     assert_eq!(rt;
         said.as_str(),
-        "0 journal SCECEL hand LIPICS out container shop-web-1 created\ncontainer shop-web-1 started\n err "
+        "0 journal SCECEL hand LIPICS exact out container shop-web-1 created\ncontainer shop-web-1 started\n err "
     );
     Ok(())
 }
@@ -309,18 +334,13 @@ fn up_twice(alloc: Global) -> Result<Text, Memory> {
 #[test]
 fn the_same_again_changes_nothing(rt: HostRuntime) -> Result<(), Fail> {
     let said = up_twice(rt.alloc())?;
-    assert_eq!(rt; said.as_str(), "0 journal SL hand LI out  err ");
+    assert_eq!(rt; said.as_str(), "0 journal SL hand LI exact out  err ");
     Ok(())
 }
 
 /// The create of the service's container, without its labels.
 fn unlabelled_create(alloc: Global) -> Result<Request, Memory> {
-    let project = Project {
-        name: Text::from_str(alloc, "shop")?,
-        service: Text::from_str(alloc, "web")?,
-        image: Text::from_str(alloc, "nginx:1.25")?,
-    };
-    let mut declared = declare(alloc, &project)?;
+    let mut declared = declare(alloc, &shop(alloc)?)?;
     match declared.slots.pop() {
         Some(mut slot) => {
             slot.spec.labels = List::new(alloc);
@@ -372,6 +392,65 @@ fn an_image_that_is_nowhere_is_refused(rt: HostRuntime) -> Result<(), Fail> {
     Ok(())
 }
 
+/// An image, under an id that a pull replaces.
+fn old_image(alloc: Global) -> Result<ImageRow, Memory> {
+    Ok(ImageRow {
+        name: Text::from_str(alloc, "nginx:1.25")?,
+        id: Text::from_str(alloc, "sha256:0")?,
+    })
+}
+
+/// An Engine that holds an image alone.
+fn engine_with(alloc: Global, image: ImageRow) -> Result<MemoryEngine, Memory> {
+    let mut images = List::new(alloc);
+    images.push(image)?;
+    Ok(MemoryEngine {
+        engine: Engine {
+            containers: List::new(alloc),
+            networks: List::new(alloc),
+            volumes: List::new(alloc),
+            images,
+            next: 0,
+        },
+        script: List::new(alloc),
+        faults: FaultPlan {
+            lost: List::new(alloc),
+            unsent: List::new(alloc),
+            asked_from: None,
+        },
+        made: 0,
+        catalogue: Catalogue::All,
+    })
+}
+
+/// The Engine that a call left, after a pull of the image.
+fn pulled_after(alloc: Global, called: Called) -> Result<MemoryEngine, Memory> {
+    let Called { engine, .. } = called;
+    match engine {
+        Some(mut engine) => {
+            engine.serve(alloc, &pull(alloc)?)?;
+            Ok(engine)
+        }
+        None => Err(Memory),
+    }
+}
+
+fn up_after_a_new_image(alloc: Global) -> Result<Text, Memory> {
+    let first = up(alloc, engine_with(alloc, old_image(alloc)?)?)?;
+    let engine = pulled_after(alloc, first)?;
+    Ok(up(alloc, engine)?.said)
+}
+
+#[test]
+fn a_new_image_replaces_the_container(rt: HostRuntime) -> Result<(), Fail> {
+    let said = up_after_a_new_image(rt.alloc())?;
+    assert_eq!(rt;
+        said.as_str(),
+        "0 journal SCECECECEL hand LIHRCS exact out container shop-web-1 stopped\ncontainer shop-web-1 removed\ncontainer shop-web-1 created\ncontainer shop-web-1 started\n err "
+    );
+    Ok(())
+}
+
 /// A fresh Engine that takes the create, which is the fifth exchange on it, and loses the answer.
 fn engine_that_loses_the_create(alloc: Global) -> Result<MemoryEngine, Memory> {
     let mut engine = MemoryEngine::fresh(alloc)?;
@@ -396,7 +475,7 @@ fn a_lost_create_is_a_fault(rt: HostRuntime) -> Result<(), Fail> {
     let said = up_with_a_lost_create(rt.alloc())?;
     assert_eq!(rt;
         said.as_str(),
-        "7 journal SCEL hand LIPIC out  err compose: lost: create container shop-web-1: Fault\n"
+        "7 journal SCEL hand LIPIC exact out  err compose: lost: create container shop-web-1: Fault\n"
     );
     Ok(())
 }
@@ -406,7 +485,7 @@ fn a_run_after_a_lost_create_finishes_it(rt: HostRuntime) -> Result<(), Fail> {
     let said = up_after_a_lost_create(rt.alloc())?;
     assert_eq!(rt;
         said.as_str(),
-        "0 journal SCEL hand LIS out container shop-web-1 started\n err "
+        "0 journal SCEL hand LIS exact out container shop-web-1 started\n err "
     );
     Ok(())
 }
@@ -423,7 +502,7 @@ fn an_output_that_fails_is_a_fault(rt: HostRuntime) -> Result<(), Fail> {
     let said = up_into_a_failing_output(rt.alloc())?;
     assert_eq!(rt;
         said.as_str(),
-        "7 journal SCECEL hand LIPICS out  err compose: fault: Out\n"
+        "7 journal SCECEL hand LIPICS exact out  err compose: fault: Out\n"
     );
     Ok(())
 }

@@ -1,11 +1,12 @@
-ghost use Rattle.std.specs.Prelude.{◌≡◌, ◌<◌, ◌^◌, [], Some, IfSome, IfErr, length, false};
+ghost use Rattle.std.specs.Prelude.{◌≡◌, ◌<◌, ◌^◌, [], Some, None, IfSome, IfErr, length, false};
 ghost use Rattle.std.specs.Option.{ForSome};
 ghost use Rattle.compose_cli.specs.Ends.{CountsHands, IsRefusedWith, SaysRefusal, SendsNothing};
-ghost use Rattle.compose_cli.specs.Runs.{ForProject, IsRefusalOf, IsStatusOf, IsUnbegun, Reports, RunsTask, up_of};
+ghost use Rattle.compose_cli.specs.Runs.{ForProject, HoldsExactly, IsRefusalOf, IsStatusOf, IsUnbegun, LeadsOn, Reports, RunsTask, up_of};
 ghost use Rattle.identity.specs.Declaring.{declared_of};
 ghost use Rattle.one_service.specs.Loading.{are_built, loaded};
 ghost use Rattle.outside_api.specs.Counts.{Rose};
 ghost use Rattle.project_run.specs.Whole.{IfBegun, IsCaused, SparesKept};
+ghost use Rattle.project_run.specs.Worlds.{EndsExact};
 ghost use Rattle.refusals.specs.Origins.{IsOfLoading};
 ghost use Rattle.refusals.specs.Statuses.{status_of};
 ghost use Rattle.refusals.specs.declared.LoadRefusal.{LoadRefusal};
@@ -73,6 +74,14 @@ pub fn serial_main<F: Files, P: Plug, O: Sink, G: Sink>(
         Reports (run_report (up_of project) result.journal) result.refusal (O.written out.old) (O.written out.new) (O.faults out.old) (O.faults out.new))) }
     ensures kept { IfBegun result.journal (ForProject words.now cwd.now (F.told files.old) (λ project. SparesKept (up_of project) result.journal)) }
 
+    // The Engine went through the run, and at status 0 it holds exactly what the project declares: the one that the hand tells,
+    // and one in every world of the run, whatever it held before.
+    ensures world { IfBegun result.journal (ForProject words.now cwd.now (F.told files.old) (λ project.
+        (hand : P.Hand) → Among result.hands hand → LeadsOn (up_of project) result.journal (P.engine plug.old) (P.Hand.engine hand))) }
+    ensures exact { result.status ≡ 0 → ForProject words.now cwd.now (F.told files.old) (λ project.
+        (hand : P.Hand) → Among result.hands hand → HoldsExactly (up_of project) (P.Hand.engine hand)) }
+    ensures exact_in_each_world { result.status ≡ 0 → ForProject words.now cwd.now (F.told files.old) (λ project. EndsExact (up_of project) result.journal) }
+
     // The line of the refusal is written to `err`, and nothing to `out` where nothing was sent.
     ensures line { SaysRefusal result.refusal (G.written err.old) (G.written err.new) (G.faults err.old) (G.faults err.new) }
     ensures quiet { IsOfLoading result.refusal → O.written out.new ≡ O.written out.old }
@@ -102,6 +111,8 @@ fn run_project<P: Plug, O: Sink, G: Sink>(
     ensures ran { IfBegun result.journal (RunsTask (λ h. P.Hand.log h) (λ h. P.Hand.heard h) (λ h. P.Hand.faults h) (up_of project.now) result
         (O.written out.old) (O.written out.new) (O.faults out.old) (O.faults out.new)) }
     ensures spares { SparesKept (up_of project.now) result.journal }
+    ensures leads { IfBegun result.journal ((hand : P.Hand) → Among result.hands hand → LeadsOn (up_of project.now) result.journal (P.engine plug.old) (P.Hand.engine hand)) }
+    ensures holds { result.refusal ≡ None → (hand : P.Hand) → Among result.hands hand → HoldsExactly (up_of project.now) (P.Hand.engine hand) }
     ensures status { result.status ≡ status_of result.refusal }
     ensures line { SaysRefusal result.refusal (G.written err.old) (G.written err.new) (G.faults err.old) (G.faults err.new) }
     ensures quiet { result.refusal ≡ Some (Refusal.Outside Part.Plug) → O.written out.new ≡ O.written out.old }

@@ -22,11 +22,12 @@ use Rattle.run_model.specs.Lines.{report_text}
 use Rattle.run_model.specs.Logs.{GrowsBy, exchanges_of}
 use Rattle.run_model.specs.Plans.{planned, up_basis}
 use Rattle.run_model.specs.Runs.{IsRun, Task, run_exchanges, run_fault, run_report, run_seen, run_setup, unseen}
-use Rattle.serial_run.specs.Serial.{AllCaused, IsBegun, Telling, exchanges_since, serial_setup, up_aim}
+use Rattle.serial_run.specs.Serial.{AllCaused, IsBegun, Telling, ToldBy, exchanges_since, serial_setup, up_aim}
 use Rattle.project_run.specs.Opening.{IsCarriedOut, IsObservedBadly, Opens}
 use Rattle.project_run.specs.Whole.{IsCaused, IsFault, IsReport, Leaves, upping}
 use Rattle.project_run.specs.declared.opening.Opening.{Opening}
 use Rattle.project_run.proofs.Joining.{exchanges_joined, seen_after}
+use Rattle.project_run.proofs.Told.{told_append, told_same}
 
 -- an end's cause within a longer time is one of it
 end_wider : (h g : Option (List Heard)) (a b c d : ℕ) (end : SeenEnd) → HearsMore h g → a ≤ b → b ≤ c → c ≤ d → HasCauseOfEnd g b c end → HasCauseOfEnd h a d end
@@ -72,6 +73,7 @@ module _ (declared : Declared) (orphans : Bool) (journal : List Entry) (before n
     run = bad_run;
     begun = (Entry.Seen observation, [], refl);
     log = opens.log;
+    told = told_same observation.exchanges before.engine now.engine opens.told;
     caused = bad_caused;
     hears = opens.hears;
     hears_each = opens.hears_each;
@@ -151,6 +153,9 @@ module _ (declared : Declared) (orphans : Bool) (seen : Seen) (actions : List Ac
     begun = begins;
     log = subst (λ (l : List Exchange). GrowsBy l before.log now.log) (sym exchanges)
         (grows-append look.exchanges (exchanges_since (serial_setup declared seen actions) old new) before.log mid.log now.log opens.log carried.log);
+    told = subst (λ (l : List Exchange). ToldBy l before.engine now.engine) (sym exchanges)
+        (told_append look.exchanges (exchanges_since (serial_setup declared seen actions) old new) before.engine mid.engine now.engine
+        (told_same look.exchanges before.engine mid.engine opens.told) carried.told);
     caused = caused;
     hears = hears-append before.heard mid.heard now.heard opens.hears carried.hears;
     hears_each = λ h. carried.hears_each (opens.hears_each h);

@@ -4,5 +4,7 @@ pub mod Sparing
 pub mod Polling
 pub mod Joining
 pub mod Opened
+pub mod Told
 pub mod Leaving
 pub mod Ascending
+pub mod Exact

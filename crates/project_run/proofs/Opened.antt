@@ -8,7 +8,7 @@ use Rattle.engine_types.specs.declared.Observed.{Observed}
 use Rattle.engine_types.specs.declared.Purpose.{Purpose}
 use Rattle.engine_types.specs.declared.SeenEnd.{SeenEnd}
 use Rattle.engine_types.specs.declared.SeenFault.{SeenFault}
-use Rattle.observe_project.specs.Exchanges.{HasCauseOfEnd}
+use Rattle.observe_project.specs.Exchanges.{HasCauseOfEnd, ToldBy}
 use Rattle.outside_api.specs.Hands.{Heard, HearsEach, HearsMore}
 use Rattle.run_model.specs.Legal.{IsObserved, seen_end, whole_end}
 use Rattle.run_model.specs.Logs.{GrowsBy}
@@ -47,15 +47,16 @@ caused declared aim heard old new before after c (inr w) = subst (HasCauseOfEnd 
 pub opened : (declared : Declared) (orphans : Bool) (look : Observed) (end : SeenEnd) (opening : Opening) (old new : List Entry) (before now : Telling)
     → IsObservation declared Purpose.Up look → IsWholeEnd declared (up_aim orphans) look.end end → Follows declared orphans end opening
     → old ≡ [] → new ≡ old ++ Entry.Seen (record { exchanges = look.exchanges; end = end }) ∷ []
-    → GrowsBy look.exchanges before.log now.log → HasCauseOfEnd before.heard before.faults now.faults look.end → HearsMore before.heard now.heard
+    → GrowsBy look.exchanges before.log now.log → ToldBy look.exchanges before.engine now.engine → HasCauseOfEnd before.heard before.faults now.faults look.end → HearsMore before.heard now.heard
     → (HearsEach before.log before.heard → HearsEach now.log now.heard) → before.faults ≤ now.faults → now.clock ≡ before.clock
     → Opens declared orphans opening new before now
-opened declared orphans look end opening old new before now is whole follows none pushed log cause hears each counted timed = record {
+opened declared orphans look end opening old new before now is whole follows none pushed log told cause hears each counted timed = record {
   observation = record { exchanges = look.exchanges; end = end };
   only = pushed ∙ ap (λ (entries : List Entry). entries ++ Entry.Seen (record { exchanges = look.exchanges; end = end }) ∷ []) none;
   observed = observed_whole declared (up_aim orphans) look.exchanges look.end end is whole;
   follows = follows;
   log = log;
+  told = told;
   cause = caused declared (up_aim orphans) before.heard before.faults now.faults look.end end cause whole;
   hears = hears;
   hears_each = each;

@@ -1,3 +1,4 @@
 pub mod Opening
+pub mod Worlds
 pub mod Whole
 pub mod Laws

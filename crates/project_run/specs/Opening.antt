@@ -7,6 +7,7 @@ use Rattle.engine_types.specs.declared.Observed.{Observed}
 use Rattle.engine_types.specs.declared.Seen.{Seen}
 use Rattle.engine_types.specs.declared.SeenEnd.{SeenEnd}
 use Rattle.engine_types.specs.declared.SeenFault.{SeenFault}
+use Rattle.observe_project.specs.Exchanges as exchanges
 use Rattle.observe_project.specs.Exchanges.{HasCauseOfEnd}
 use Rattle.outside_api.specs.Hands.{HearsEach, HearsMore}
 use Rattle.project_run.specs.declared.opening.Opening.{Opening}
@@ -14,7 +15,7 @@ use Rattle.run_model.specs.Ending.{IsRunOver}
 use Rattle.run_model.specs.Legal.{IsLegal, IsObserved, whole_end}
 use Rattle.run_model.specs.Logs.{GrowsBy}
 use Rattle.run_model.specs.Plans.{Aim, is_too_long, planned, up_basis}
-use Rattle.serial_run.specs.Serial.{AllCaused, GoesOn, Telling, exchanges_since, serial_setup, up_aim}
+use Rattle.serial_run.specs.Serial.{AllCaused, GoesOn, Telling, ToldBy, exchanges_since, serial_setup, up_aim}
 
 -- an end is the whole one of what was observed, or want of memory stands in its place
 abbrev pub IsWholeEnd : Declared → Aim → SeenEnd → SeenEnd → Type 0
@@ -33,6 +34,7 @@ pub record Opens (declared : Declared) (orphans : Bool) (opening : Opening) (jou
   pub observed : IsObserved declared (up_aim orphans) observation
   pub follows : Follows declared orphans observation.end opening
   pub log : GrowsBy observation.exchanges before.log now.log
+  pub told : exchanges.ToldBy observation.exchanges before.engine now.engine
   pub cause : HasCauseOfEnd before.heard before.faults now.faults observation.end
   pub hears : HearsMore before.heard now.heard
   pub hears_each : HearsEach before.log before.heard → HearsEach now.log now.heard
@@ -52,6 +54,7 @@ pub record IsCarriedOut (declared : Declared) (aim : Aim) (seen : Seen) (actions
   pub over : IsRunOver (serial_setup declared seen actions) (reverse new)
   pub more : GoesOn old new
   pub log : GrowsBy (exchanges_since (serial_setup declared seen actions) old new) before.log now.log
+  pub told : ToldBy (exchanges_since (serial_setup declared seen actions) old new) before.engine now.engine
   pub caused : AllCaused new before.heard before.faults now.faults
   pub hears : HearsMore before.heard now.heard
   pub hears_each : HearsEach before.log before.heard → HearsEach now.log now.heard

@@ -13,7 +13,7 @@ use Rattle.run_model.specs.EngineRules.{Among}
 use Rattle.run_model.specs.Logs.{GrowsBy}
 use Rattle.run_model.specs.Plans.{is_kept, kept, kind_of}
 use Rattle.run_model.specs.Runs.{IsRun, Task, run_exchanges, run_seen, run_setup}
-use Rattle.serial_run.specs.Serial.{AllCaused, Telling, one_worker, up_aim}
+use Rattle.serial_run.specs.Serial.{AllCaused, Telling, ToldBy, one_worker, up_aim}
 
 -- to bring a declared set up with one worker, with or without the removal of orphans
 abbrev pub upping : Declared → Bool → Task
@@ -55,6 +55,7 @@ pub record Leaves (task : Task) (journal : List Entry) (before now : Telling) : 
   pub run : IsRun task journal
   pub begun : (entry : Entry) × (rest : List Entry) × (journal ≡ entry ∷ rest)
   pub log : GrowsBy (run_exchanges task journal 0) before.log now.log
+  pub told : ToldBy (run_exchanges task journal 0) before.engine now.engine
   pub caused : IsCaused journal before.heard before.faults now.faults
   pub hears : HearsMore before.heard now.heard
   pub hears_each : HearsEach before.log before.heard → HearsEach now.log now.heard

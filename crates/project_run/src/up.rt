@@ -1,4 +1,4 @@
-ghost use Rattle.std.specs.Prelude.{◌≡◌, ◌≤◌, [], Some, false, reverse};
+ghost use Rattle.std.specs.Prelude.{◌≡◌, ◌≤◌, [], Some, None, false, reverse};
 ghost use Rattle.engine_types.specs.declared.RunFault.{RunFault};
 ghost use Rattle.outside_api.specs.Hands.{HearsEach, HearsMore};
 ghost use Rattle.run_model.specs.Logs.{GrowsBy};
@@ -8,6 +8,8 @@ ghost use Rattle.run_model.specs.Plans.{IsWhole, is_too_long, planned, up_basis}
 ghost use Rattle.run_model.specs.Runs.{IsRun, Task, run_exchanges, run_fault, run_report};
 ghost use Rattle.serial_run.specs.Serial.{IsBegun, NeedsNoSlot, serial_setup, telling, up_aim};
 ghost use Rattle.project_run.specs.Opening.{IsCarriedOut, IsObservedBadly};
+ghost use Rattle.project_run.specs.Worlds.{EndsExact, GoesThrough};
+ghost use Rattle.world_laws.specs.OwnSpecs.{HasOwnSpecs};
 ghost use Rattle.project_run.specs.Whole.{IfBegun, IsCaused, IsFault, IsReport, Leaves, SparesKept, upping};
 
 use crate::ending::end;
@@ -25,7 +27,8 @@ use tree_base::{List, ReservedList, Text};
 /// Declared slots need no other slot.
 ///
 /// The journal is empty only where there was no room for its first two entries; then nothing was sent, and the fault
-/// is Memory. Where there is no memory to say the fault or the report, the fault is Memory in its place, and the
+/// is Memory. An Engine that the hand tells went through the run; and where the run went well and each slot's spec is
+/// made for it, the Engine holds exactly what is declared, whatever it held before. Where there is no memory to say the fault or the report, the fault is Memory in its place, and the
 /// report is empty.
 pub fn bring_up<H: Hand>(alloc: Global, hand: &mut H, declared: &Declared, orphans: bool) -> Ran
     requires whole { IsWhole declared.now }
@@ -36,6 +39,8 @@ pub fn bring_up<H: Hand>(alloc: Global, hand: &mut H, declared: &Declared, orpha
     ensures fault { IfBegun result.journal (IsFault (run_fault (upping declared.now orphans) result.journal) result.fault) }
     ensures report { IsReport (run_report (upping declared.now orphans) result.journal) result.fault result.report }
     ensures kept { SparesKept (upping declared.now orphans) result.journal }
+    ensures world { IfBegun result.journal (GoesThrough (upping declared.now orphans) result.journal (H.engine hand.old) (H.engine hand.new)) }
+    ensures exact { result.fault ≡ None → HasOwnSpecs declared.now → EndsExact (upping declared.now orphans) result.journal }
     ensures cause { IsCaused result.journal (H.heard hand.old) (H.faults hand.old) (H.faults hand.new) }
     ensures heard { HearsMore (H.heard hand.old) (H.heard hand.new) }
     ensures heard_each { HearsEach (H.log hand.old) (H.heard hand.old) → HearsEach (H.log hand.new) (H.heard hand.new) }

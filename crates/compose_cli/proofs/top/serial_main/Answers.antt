@@ -2,9 +2,10 @@ use Rattle.std.proofs.Common.{[]}
 use Rattle.one_service.specs.Loading.{loaded}
 use Rattle.one_service.proofs.Loads.{IfSome-map}
 use Rattle.compose_cli.proofs.Ending.{refused_with, no_fault_of_plug}
-use Rattle.compose_cli.proofs.Ran.{for_project, if_begun, status_by}
-use Rattle.compose_cli.specs.Runs.{IsRefusalOf, IsStatusOf, Reports, up_of}
+use Rattle.compose_cli.proofs.Ran.{for_project, has_begun, if_begun, not_refused, said_not_zero, status_by}
+use Rattle.compose_cli.specs.Runs.{HoldsExactly, IsRefusalOf, IsStatusOf, LeadsOn, Reports, up_of}
 use Rattle.project_run.specs.Whole.{SparesKept}
+use Rattle.project_run.specs.Worlds.{EndsExact}
 use Rattle.run_model.specs.EngineRules.{Among}
 use Rattle.run_model.specs.Logs.{GrowsBy}
 use Rattle.run_model.specs.Runs.{IsRun, run_exchanges, run_fault, run_report, run_status}
@@ -41,3 +42,26 @@ returns-in-Ok-clause-report g c = if_begun c.run_project.result.journal c.run_pr
 pub returns-in-Ok-clause-kept : goal.returns-in-Ok-clause-kept
 returns-in-Ok-clause-kept g c = if_begun c.run_project.result.journal c.run_project.ensures.ran (λ ran.
     for_project c.args.words.now c.args.cwd.now (g.F.Files.told c.args.files.now) c.in-Ok.project (λ project. SparesKept (up_of project) c.run_project.result.journal) c.in-Ok.ensures.told c.run_project.ensures.spares)
+
+pub returns-in-Ok-clause-world : goal.returns-in-Ok-clause-world
+returns-in-Ok-clause-world g c = if_begun c.run_project.result.journal c.run_project.ensures.leads (λ leads.
+    for_project c.args.words.now c.args.cwd.now (g.F.Files.told c.args.files.now) c.in-Ok.project (λ project. (hand : _) → Among c.run_project.result.hands hand
+    → LeadsOn (up_of project) c.run_project.result.journal (g.P.Plug.engine c.args.plug.now) (g.P.Hand.Hand.engine hand)) c.in-Ok.ensures.told leads)
+
+pub returns-in-Ok-clause-exact : goal.returns-in-Ok-clause-exact
+returns-in-Ok-clause-exact g c = λ zero.
+    for_project c.args.words.now c.args.cwd.now (g.F.Files.told c.args.files.now) c.in-Ok.project (λ project. (hand : _) → Among c.run_project.result.hands hand
+    → HoldsExactly (up_of project) (g.P.Hand.Hand.engine hand)) c.in-Ok.ensures.told
+    (c.run_project.ensures.holds (not_refused c.run_project.result.refusal c.run_project.result.status c.run_project.ensures.status zero))
+
+pub returns-in-Ok-clause-exact_in_each_world : goal.returns-in-Ok-clause-exact_in_each_world
+returns-in-Ok-clause-exact_in_each_world g c = λ zero.
+    let none = not_refused c.run_project.result.refusal c.run_project.result.status c.run_project.ensures.status zero in
+    for_project c.args.words.now c.args.cwd.now (g.F.Files.told c.args.files.now) c.in-Ok.project (λ project. EndsExact (up_of project) c.run_project.result.journal) c.in-Ok.ensures.told
+    ((has_begun c.run_project.result.journal c.run_project.result.refusal c.run_project.ensures.unbegun none c.run_project.ensures.ran).exact none)
+
+pub returns-in-Err-clause-exact : goal.returns-in-Err-clause-exact
+returns-in-Err-clause-exact g c = λ zero. absurd (said_not_zero c.in-Err.refusal c.refused.result.refusal c.refused.result.status c.refused.ensures.refusal c.refused.ensures.status zero)
+
+pub returns-in-Err-clause-exact_in_each_world : goal.returns-in-Err-clause-exact_in_each_world
+returns-in-Err-clause-exact_in_each_world g c = λ zero. absurd (said_not_zero c.in-Err.refusal c.refused.result.refusal c.refused.result.status c.refused.ensures.refusal c.refused.ensures.status zero)
