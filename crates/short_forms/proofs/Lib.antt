@@ -1,0 +1,12 @@
+pub mod AmountLemmas
+pub mod AnswerLemmas
+pub mod CutLemmas
+pub mod DigitLemmas
+pub mod DurationLemmas
+pub mod FixedLemmas
+pub mod ModeLemmas
+pub mod MountLemmas
+pub mod PortLemmas
+pub mod PrintedLemmas
+pub mod QuoteLemmas
+pub mod WordLemmas

@@ -1,0 +1,15 @@
+pub mod Answers
+pub mod Cuts
+pub mod Decimals
+pub mod Digits
+pub mod Durations
+pub mod FixedPoint
+pub mod Laws
+pub mod Mounts
+pub mod Pairs
+pub mod Ports
+pub mod Printed
+pub mod Reading
+pub mod Sizes
+pub mod Spelling
+pub mod Words

@@ -1,0 +1,34 @@
+//! The short forms of the Compose Specification: ports, mounts, durations, sizes, decimals, `KEY=VALUE` and words.
+//!
+//! Each form is defined as a function on the bytes of the text that gives the value, or nothing where the
+//! text isn't of the form. A call answers that value, and `BadForm` exactly where there is none. The
+//! calls on numbers take no memory; the others may also answer `Memory`.
+#![tactic(auto)]
+
+mod cuts;
+mod decimals;
+mod digits;
+mod durations;
+mod fixed_point;
+mod form;
+mod laws;
+mod mounts;
+mod pairs;
+mod ports;
+mod sizes;
+mod words;
+
+pub use decimals::decimal;
+pub use durations::duration;
+pub use form::{Form, FormRefusal};
+pub use laws::{
+    decimals_read_back, durations_read_back, plain_words_stay, sizes_read_back, spelled_words_read,
+};
+pub use mounts::{Mount, MountKind, read_mount};
+pub use pairs::key_value;
+pub use ports::{Port, read_port};
+pub use sizes::size;
+pub use words::shell_words;
+
+#[cfg(test)]
+mod tests;
