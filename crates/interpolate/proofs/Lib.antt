@@ -1,0 +1,5 @@
+pub mod Cutting
+pub mod Fitting
+pub mod Joining
+pub mod Plain
+pub mod Walks

@@ -1,0 +1,86 @@
+-- The value of a text: the values of its parts, by the table of the Compose Specification's chapter on interpolation.
+use Rattle.std.specs.Prelude.{◌≡◌, ℕ, ◌+◌, List, [], ◌∷◌, ◌++◌, Bool, Option, Some, None, unwrap_or, length, take, drop, Result, Ok, Err, ◌==◌, ◌&&◌, if◌then◌else◌}
+use Rattle.interpolate.specs.declared.part.Action.{Action}
+use Rattle.interpolate.specs.declared.part.Action.TheVariants.{Default, Require, Replace}
+use Rattle.interpolate.specs.declared.part.Part.{Part}
+use Rattle.interpolate.specs.declared.part.Part.TheVariants.{Literal, Dollar, Name, Value, Form, Unclosed, Wrong}
+use Rattle.interpolate.specs.declared.refusal.SubstRefusal.{SubstRefusal}
+use Rattle.interpolate.specs.declared.refusal.SubstRefusal.TheVariants as refusals
+use Rattle.interpolate.specs.Shapes.{first_part, tail_start}
+use Rattle.interpolate.specs.Parts.{◌>>=◌, Parts, End, Text, Dollars, Variable, Braced, Reader, place, parts, tails}
+
+-- what the variables are: the value of a name, where it is set
+abbrev pub Variables : Type 0
+Variables = List ℕ → Option (List ℕ)
+
+-- a value in a form: with a colon an empty one counts as unset
+abbrev pub counted : Bool → Option (List ℕ) → Option (List ℕ)
+counted colon None = None
+counted colon (Some value) = if colon && (length value == 0) then None else Some value
+
+-- what a form gives, by its variable and the value of its tail, which counts only where the tail is taken
+abbrev pub form_value : List ℕ → Action → Option (List ℕ) → Result (List ℕ) SubstRefusal → Result (List ℕ) SubstRefusal
+form_value name Default (Some value) tail = Ok value
+form_value name Default None tail = tail
+form_value name Require (Some value) tail = Ok value
+form_value name Require None tail = tail >>= λ message. Err (refusals.RequiredVariable name message)
+form_value name Replace (Some value) tail = tail
+form_value name Replace None tail = Ok []
+
+-- the value of parts: the values of all, or the refusal of the first required variable that is missing
+abbrev pub value : Variables → Parts → Result (List ℕ) SubstRefusal
+value env End = Ok []
+value env (Text text rest) = value env rest >>= λ more. Ok (text ++ more)
+value env (Dollars rest) = value env rest >>= λ more. Ok (36 ∷ more)
+value env (Variable name rest) = value env rest >>= λ more. Ok (unwrap_or (env name) [] ++ more)
+value env (Braced name colon action tail rest) =
+    form_value name action (counted colon (env name)) (value env tail) >>= λ text. value env rest >>= λ more. Ok (text ++ more)
+
+-- the value of a text, where so many forms may stand in one another
+abbrev pub substituted_within : ℕ → Variables → List ℕ → Result (List ℕ) SubstRefusal
+substituted_within levels env text = parts levels 0 text >>= value env
+
+-- the value of a text: forms stand in one another at most 32 deep, and a wrong one is refused before a missing variable
+unfoldable pub substituted : Variables → List ℕ → Result (List ℕ) SubstRefusal
+substituted = substituted_within 32
+
+-- what a function returned is that value or refusal, unless memory ran out
+abbrev pub Fails : {Y : Type 0} → SubstRefusal → Result Y SubstRefusal → Type 0
+Fails refusals.Memory read = Unit {0}
+Fails (refusals.Unclosed at) read = read ≡ Err (refusals.Unclosed at)
+Fails (refusals.BadForm at) read = read ≡ Err (refusals.BadForm at)
+Fails (refusals.RequiredVariable name message) read = read ≡ Err (refusals.RequiredVariable name message)
+
+-- the value that it returned, or a refusal as above
+abbrev pub Gives : {X : Type 0} → Result X SubstRefusal → Result X SubstRefusal → Type 0
+Gives (Ok x) read = read ≡ Ok x
+Gives (Err e) read = Fails e read
+
+-- what a function left, where it returned
+abbrev pub result_and : {A X : Type 0} → Result A SubstRefusal → X → Result X SubstRefusal
+result_and (Ok a) x = Ok x
+result_and (Err e) x = Err e
+
+-- a value behind a text
+abbrev pub appended : List ℕ → Result (List ℕ) SubstRefusal → Result (List ℕ) SubstRefusal
+appended out read = read >>= λ text. Ok (out ++ text)
+
+-- the value of a text at a place
+abbrev pub text_value : Reader → Variables → ℕ → List ℕ → Result (List ℕ) SubstRefusal
+text_value read env at text = read at text >>= value env
+
+-- the value of the part that a text at a place begins with, where read reads its tail
+abbrev pub part_value : Reader → Variables → ℕ → List ℕ → Part → Result (List ℕ) SubstRefusal
+part_value read env at text (Literal len) = Ok (take len text)
+part_value read env at text Dollar = Ok (36 ∷ [])
+part_value read env at text (Name len) = Ok (unwrap_or (env (take len (drop 1 text))) [])
+part_value read env at text (Value len) = Ok (unwrap_or (env (take len (drop 2 text))) [])
+part_value read env at text (Form name colon action tail) =
+    let start = tail_start name colon in
+    form_value (take name (drop 2 text)) action (counted colon (env (take name (drop 2 text)))) (text_value read env (at + start) (take tail (drop start text)))
+part_value read env at text Unclosed = Err (refusals.Unclosed (place at))
+part_value read env at text Wrong = Err (refusals.BadForm (place at))
+
+-- the value of the first part of a text at a place
+abbrev pub first_value : ℕ → Variables → ℕ → List ℕ → Result (List ℕ) SubstRefusal
+first_value levels env at text = part_value (tails levels) env at text (first_part levels text)
