@@ -1,0 +1,97 @@
+-- The variables that an env file gives.
+use Rattle.std.specs.Prelude.{◌≡◌, ℕ, ◌+◌, List, [], ◌∷◌, Option, Some, None, Result, Ok, Err, min, ◌==◌, if◌then◌else◌}
+use Rattle.std.specs.Str.{is_utf8, chars}
+use Rattle.std.specs.Str.Lines.{lines}
+use Rattle.tree_base.specs.Entries.{value_at, with_entry}
+use Rattle.interpolate.specs.declared.SubstRefusal.{SubstRefusal}
+use Rattle.interpolate.specs.declared.SubstRefusal.TheVariants as causes
+use Rattle.interpolate.specs.Substitution.{substituted}
+use Rattle.dotenv.specs.declared.line.Line.{Line}
+use Rattle.dotenv.specs.declared.line.Line.TheVariants.{Nothing, Alone, Literal, Substituted}
+use Rattle.dotenv.specs.declared.refusal.LineRefusal.{LineRefusal}
+use Rattle.dotenv.specs.declared.refusal.LineRefusal.TheVariants as line_refusals
+use Rattle.dotenv.specs.declared.refusal.EnvRefusal.{EnvRefusal}
+use Rattle.dotenv.specs.declared.refusal.EnvRefusal.TheVariants as refusals
+use Rattle.dotenv.specs.Variables.{Entries, value}
+use Rattle.dotenv.specs.Lines.{line_of}
+
+-- what follows a step that has its value, and else the refusal of that step
+infixl 10 ◌>>=◌
+abbrev pub ◌>>=◌ : {A B : Type 0} → Result A EnvRefusal → (A → Result B EnvRefusal) → Result B EnvRefusal
+(Ok x) >>= f = f x
+(Err e) >>= f = Err e
+
+-- how many bytes stand before the first line feed
+abbrev pub feed_len : List ℕ → ℕ
+feed_len [] = 0
+feed_len (c ∷ cs) = if c == 10 then 0 else feed_len cs + 1
+
+-- the number of a line as a `u32`, where one past the greatest is that
+abbrev pub line_number : ℕ → ℕ
+line_number n = min n 4294967295
+
+-- why a line isn't read, with its number
+abbrev pub numbered : ℕ → LineRefusal → EnvRefusal
+numbered number line_refusals.BadLine = refusals.BadLine number
+numbered number line_refusals.BadQuote = refusals.BadQuote number
+numbered number line_refusals.Memory = refusals.Memory
+
+-- what a line says, or why it isn't read, with its number
+abbrev pub on_line : ℕ → Result Line LineRefusal → Result Line EnvRefusal
+on_line number (Ok line) = Ok line
+on_line number (Err e) = Err (numbered number e)
+
+-- a variable with the value that the caller's environment has, where it has one
+abbrev pub with_outer : Entries → List ℕ → Option (List ℕ) → Entries
+with_outer env key None = env
+with_outer env key (Some value) = with_entry env key value
+
+-- why a value isn't substituted, with its line's number
+abbrev pub unsubstituted : ℕ → SubstRefusal → EnvRefusal
+unsubstituted number causes.Memory = refusals.Memory
+unsubstituted number (causes.Unclosed at) = refusals.Subst number (causes.Unclosed at)
+unsubstituted number (causes.BadForm at) = refusals.Subst number (causes.BadForm at)
+unsubstituted number (causes.RequiredVariable name message) = refusals.Subst number (causes.RequiredVariable name message)
+
+-- a variable with a value that is substituted
+abbrev pub with_value : ℕ → Entries → List ℕ → Result (List ℕ) SubstRefusal → Result Entries EnvRefusal
+with_value number env key (Ok value) = Ok (with_entry env key value)
+with_value number env key (Err cause) = Err (unsubstituted number cause)
+
+-- the variables after what a line says: a value sees the outer variables first, then the lines before
+abbrev pub told : Entries → ℕ → Entries → Line → Result Entries EnvRefusal
+told outer number env Nothing = Ok env
+told outer number env (Alone key) = Ok (with_outer env key (value_at outer key))
+told outer number env (Literal key text) = Ok (with_entry env key text)
+told outer number env (Substituted key text) = with_value number env key (substituted (value outer env) text)
+
+-- the variables after a line, by its bytes
+abbrev pub with_line : Entries → ℕ → Entries → List ℕ → Result Entries EnvRefusal
+with_line outer number env bytes =
+    if is_utf8 bytes then (on_line number (line_of (chars bytes)) >>= told outer number env) else Err (refusals.BadLine number)
+
+-- the variables after lines, of which the first has a number
+abbrev pub with_lines : Entries → ℕ → Entries → List (List ℕ) → Result Entries EnvRefusal
+with_lines outer number env [] = Ok env
+with_lines outer number env (line ∷ more) = with_line outer (line_number number) env line >>= λ env. with_lines outer (number + 1) env more
+
+-- the variables of an env file, whose lines end with a line feed or a carriage return and a line feed
+unfoldable pub env_file : Entries → List ℕ → Result Entries EnvRefusal
+env_file outer bytes = with_lines outer 1 [] (lines bytes)
+
+-- what a function returned is that, unless memory ran out
+abbrev pub Fails : {Y : Type 0} → EnvRefusal → Result Y EnvRefusal → Type 0
+Fails refusals.Memory read = Unit {0}
+Fails (refusals.BadLine line) read = read ≡ Err (refusals.BadLine line)
+Fails (refusals.BadQuote line) read = read ≡ Err (refusals.BadQuote line)
+Fails (refusals.Subst line cause) read = read ≡ Err (refusals.Subst line cause)
+
+-- the variables that it returned, or a refusal as above
+abbrev pub Gives : {X : Type 0} → Result X EnvRefusal → Result X EnvRefusal → Type 0
+Gives (Ok x) read = read ≡ Ok x
+Gives (Err e) read = Fails e read
+
+-- what a function left, where it returned
+abbrev pub result_and : {A X : Type 0} → Result A EnvRefusal → X → Result X EnvRefusal
+result_and (Ok a) x = Ok x
+result_and (Err e) x = Err e
