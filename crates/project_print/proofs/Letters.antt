@@ -1,0 +1,81 @@
+-- Functions of bytes that leave the bytes of other characters than ASCII's as they are.
+use Rattle.std.proofs.Common.{◌≡◌, ◌∙◌, ℕ, ◌+◌, ◌/◌, ◌%◌, ◌≤◌, ◌<◌, List, [], ◌∷◌, ◌++◌, Bool, true, false, cond, eqb, ltb, flat_map, refl, sym, ap, inl, inr, append_assoc, arith}
+use lib.Utf8.{encode}
+use Rattle.std.proofs.lemmas.Bool.{cases_lt, ltb-true}
+use Rattle.std.proofs.lemmas.Grind.{flat_map-append}
+use Rattle.std.proofs.lemmas.List.{append-nil}
+use Rattle.std.proofs.lemmas.Str.{encode_ascii}
+use Rattle.project_print.specs.Scalars.{doubled_byte, escaped}
+
+-- bytes past ASCII
+abbrev AreHigh : List ℕ → Type 0
+AreHigh [] = Unit {0}
+AreHigh (b ∷ bs) = (128 ≤ b) × AreHigh bs
+
+-- the bytes of a character past ASCII
+high : (c : ℕ) → 128 ≤ c → AreHigh (encode c)
+unfolding encode
+high c h = by (ltb c 128) refl
+  where
+    three : (b : Bool) → AreHigh (cond b ((224 + c / 4096) ∷ (128 + (c / 64) % 64) ∷ (128 + c % 64) ∷ []) ((240 + c / 262144) ∷ (128 + (c / 4096) % 64) ∷ (128 + (c / 64) % 64) ∷ (128 + c % 64) ∷ []))
+    three true = (omega arith, (omega arith, (omega arith, tt)))
+    three false = (omega arith, (omega arith, (omega arith, (omega arith, tt))))
+
+    two : (b : Bool) → AreHigh (cond b ((192 + c / 64) ∷ (128 + c % 64) ∷ []) (cond (ltb c 65536) ((224 + c / 4096) ∷ (128 + (c / 64) % 64) ∷ (128 + c % 64) ∷ []) ((240 + c / 262144) ∷ (128 + (c / 4096) % 64) ∷ (128 + (c / 64) % 64) ∷ (128 + c % 64) ∷ [])))
+    two true = (omega arith, (omega arith, tt))
+    two false = three (ltb c 65536)
+
+    by : (b : Bool) → ltb c 128 ≡ b → AreHigh (cond b (c ∷ []) (cond (ltb c 2048) ((192 + c / 64) ∷ (128 + c % 64) ∷ []) (cond (ltb c 65536) ((224 + c / 4096) ∷ (128 + (c / 64) % 64) ∷ (128 + c % 64) ∷ []) ((240 + c / 262144) ∷ (128 + (c / 4096) % 64) ∷ (128 + (c / 64) % 64) ∷ (128 + c % 64) ∷ []))))
+    by true e = let low : c < 128 = ltb-true c 128 e in absurd (omega arith)
+    by false e = two (ltb c 2048)
+
+module _ (f : ℕ → List ℕ) where
+  kept : ((b : ℕ) → 128 ≤ b → f b ≡ b ∷ []) → (bs : List ℕ) → AreHigh bs → flat_map f bs ≡ bs
+  kept k [] h = refl
+  kept k (b ∷ bs) h = λ i. k b h.0 i ++ kept k bs h.1 i
+
+  -- a character past ASCII stays
+  pub high_kept : ((b : ℕ) → 128 ≤ b → f b ≡ b ∷ []) → (c : ℕ) → 128 ≤ c → flat_map f (encode c) ≡ encode c
+  high_kept k c h = kept k (encode c) (high c h)
+
+  -- a character of ASCII is one byte
+  pub low_mapped : (c : ℕ) → c < 128 → flat_map f (encode c) ≡ f c
+  low_mapped c h = ap (flat_map f) (encode_ascii c h) ∙ append-nil (f c)
+
+-- a byte that is no control character, no quote and no backslash stands as it is
+pub escaped_plain : (c : ℕ) → 32 ≤ c → eqb c 34 ≡ false → eqb c 92 ≡ false → eqb c 127 ≡ false → escaped c ≡ c ∷ []
+escaped_plain c h p q r =
+    let a : eqb c 10 ≡ false = grind arith in
+    let b : eqb c 13 ≡ false = grind arith in
+    let d : eqb c 9 ≡ false = grind arith in
+    let e : ltb c 32 ≡ false = grind arith in
+    rw (p, q, a, b, d, e, r) refl
+
+pub escaped_high : (c : ℕ) → 128 ≤ c → escaped c ≡ c ∷ []
+escaped_high c h = escaped_plain c (omega arith) (grind arith) (grind arith) (grind arith)
+
+pub doubled_high : (c : ℕ) → 128 ≤ c → doubled_byte c ≡ c ∷ []
+doubled_high c h = let a : eqb c 36 ≡ false = grind arith in rw a refl
+
+-- a character that needs no escape stands as it is
+pub escaped_same : (c : ℕ) → 32 ≤ c → eqb c 34 ≡ false → eqb c 92 ≡ false → eqb c 127 ≡ false → flat_map escaped (encode c) ≡ encode c
+escaped_same c h p q r =
+    elim (cases_lt c 128) [
+      | inl low ↦ low_mapped escaped c low ∙ escaped_plain c h p q r ∙ sym (encode_ascii c low)
+      | inr past ↦ high_kept escaped escaped_high c past
+    ]
+
+-- and so does one that is no dollar
+pub doubled_same : (c : ℕ) → eqb c 36 ≡ false → flat_map doubled_byte (encode c) ≡ encode c
+doubled_same c p =
+    elim (cases_lt c 128) [
+      | inl low ↦ low_mapped doubled_byte c low ∙ rw p refl ∙ sym (encode_ascii c low)
+      | inr past ↦ high_kept doubled_byte doubled_high c past
+    ]
+
+-- one character more of those that are mapped
+pub mapped_step : (f : ℕ → List ℕ) (c : ℕ) (out new rest text : List ℕ) → text ≡ encode c ++ rest → new ≡ out ++ flat_map f (encode c) → new ++ flat_map f rest ≡ out ++ flat_map f text
+mapped_step f c out new rest text e n =
+    ap (λ x. x ++ flat_map f rest) n
+    ∙ append_assoc out (flat_map f (encode c)) (flat_map f rest)
+    ∙ ap (λ x. out ++ x) (sym (flat_map-append f (encode c) rest) ∙ ap (flat_map f) (sym e))

@@ -1,0 +1,5 @@
+pub mod Json
+pub mod Laws
+pub mod Pages
+pub mod Scalars
+pub mod Written

@@ -1,0 +1,51 @@
+-- How a page and its JSON grow at the end of a text.
+use Rattle.std.specs.Prelude.{ℕ, zero, suc, List, [], ◌∷◌, ◌++◌, Bool, codes, flat_map, map, if◌then◌else◌}
+use Rattle.project_print.specs.Pages.{Shown, deeper, ended, entry, item}
+use Rattle.project_print.specs.Json.{member}
+use Rattle.project_print.specs.Scalars.{scalar}
+
+-- the spaces before a line of a depth
+abbrev pub indent : ℕ → List ℕ
+indent zero = []
+indent (suc depth) = deeper (indent depth)
+
+-- a line of a depth, with its end
+abbrev pub indented : ℕ → List ℕ → List ℕ
+indented depth line = indent depth ++ ended line
+
+-- lines of which the first goes on where the text ends
+abbrev pub hanging : ℕ → Shown → List ℕ
+hanging depth shown = ended shown.first ++ flat_map (indented depth) shown.more
+
+-- what stands before a part: nothing before the first
+abbrev pub gap : ℕ → ℕ → List ℕ
+gap depth zero = []
+gap depth (suc at) = indent depth
+
+-- parts below one another, from a place on
+abbrev pub parts_text : ℕ → ℕ → List Shown → List ℕ
+parts_text depth at [] = []
+parts_text depth at (part ∷ parts) = gap depth at ++ (hanging depth part ++ parts_text depth (suc at) parts)
+
+abbrev pub entries_text : ℕ → List (List ℕ × Shown) → List ℕ
+entries_text depth entries = parts_text depth 0 (map entry entries)
+
+abbrev pub items_text : ℕ → List Shown → List ℕ
+items_text depth items = parts_text depth 0 (map item items)
+
+-- a key and what stands before its value, whose lines are at a depth
+abbrev pub key_text : ℕ → List ℕ → Bool → List ℕ
+key_text depth key is_block = scalar key ++ (if is_block then codes ":\n" ++ indent depth else codes ": ")
+
+-- what stands before a part of an object or an array: nothing before the first
+abbrev pub comma : ℕ → List ℕ
+comma zero = []
+comma (suc at) = codes ","
+
+-- parts with a comma before each but the first, from a place on
+abbrev pub listed_from : ℕ → List (List ℕ) → List ℕ
+listed_from at [] = []
+listed_from at (part ∷ parts) = comma at ++ (part ++ listed_from (suc at) parts)
+
+abbrev pub members_text : List (List ℕ × List ℕ) → List ℕ
+members_text entries = listed_from 0 (map member entries)
