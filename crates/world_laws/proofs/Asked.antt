@@ -43,7 +43,7 @@ use Rattle.world_laws.proofs.OneWorker.{claim_needs, source_for, source_is, well
 
 module _ {X : Type 0} where
   -- where some element passes, one is found
-  find_some : (p : X → Bool) (xs : List X) (x : X) → Among xs x → p x ≡ true → (y : X) × (find p xs ≡ Some y)
+  pub find_some : (p : X → Bool) (xs : List X) (x : X) → Among xs x → p x ≡ true → (y : X) × (find p xs ≡ Some y)
   find_some p [] x m e = absurd m
   find_some p (z ∷ zs) x m e = at (p z) refl m (λ n. find_some p zs x n e)
     where
@@ -53,7 +53,7 @@ module _ {X : Type 0} where
       at false h (inr n) rest = rest n
 
   -- what is found passes, and is one of the list
-  find_passes : (p : X → Bool) (xs : List X) (x : X) → find p xs ≡ Some x → (p x ≡ true) × Among xs x
+  pub find_passes : (p : X → Bool) (xs : List X) (x : X) → find p xs ≡ Some x → (p x ≡ true) × Among xs x
   find_passes p [] x e = absurd (cc e)
   find_passes p (y ∷ ys) x e = at (p y) refl e (find_passes p ys x)
     where
@@ -70,7 +70,7 @@ module _ {X : Type 0} where
   from_places : (xs : List X) (i : ℕ) → Among (places xs) i → (x : X) × (slice_get xs i ≡ Some x)
   from_places xs i m = let r = from_numbers 0 (length xs) i m in some_below xs i (omega (arith, r.1))
 
-  none_first : (fault : X → Option SeenFault) (xs : List X) (x : X) → first_in fault xs ≡ None → Among xs x → fault x ≡ None
+  pub none_first : (fault : X → Option SeenFault) (xs : List X) (x : X) → first_in fault xs ≡ None → Among xs x → fault x ≡ None
   none_first fault [] x e m = absurd m
   none_first fault (y ∷ ys) x e m = at (fault y) refl e m (none_first fault ys x)
     where
@@ -79,7 +79,7 @@ module _ {X : Type 0} where
       at None h g (inl s) rest = ap fault s ∙ h
       at None h g (inr n) rest = rest g n
 
-first_none : (o p : Option SeenFault) → option_or o p ≡ None → o ≡ None
+pub first_none : (o p : Option SeenFault) → option_or o p ≡ None → o ≡ None
 first_none None p e = refl
 first_none (Some x) p e = absurd (cc e)
 
@@ -135,7 +135,7 @@ finds_create : (s : ℕ) (kind : Option ActionKind) → is_create_of s kind ≡ 
 finds_create s (Some (CreateSlot t)) e = let same : t ≡ s = eqb-true t s e in ap (λ (u : ℕ). Some (CreateSlot u)) same
 finds_create s _ e = absurd (cc e)
 
-finds_make : (n : ℕ) (kind : Option ActionKind) → is_make_of n kind ≡ true → kind ≡ Some (MakeNetwork n)
+pub finds_make : (n : ℕ) (kind : Option ActionKind) → is_make_of n kind ≡ true → kind ≡ Some (MakeNetwork n)
 finds_make n (Some (MakeNetwork m)) e = let same : m ≡ n = eqb-true m n e in ap (λ (u : ℕ). Some (MakeNetwork u)) same
 finds_make n _ e = absurd (cc e)
 

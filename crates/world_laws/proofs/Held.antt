@@ -9,6 +9,7 @@ use Rattle.engine_types.specs.declared.ContainerRow.{ContainerRow}
 use Rattle.engine_types.specs.declared.Declared.{Declared}
 use Rattle.engine_types.specs.declared.Engine.{Engine}
 use Rattle.engine_types.specs.declared.Listed.{Listed}
+use Rattle.engine_types.specs.declared.Purpose.{Purpose}
 use Rattle.engine_types.specs.declared.Reply.{Reply}
 use Rattle.engine_types.specs.declared.Slot.{Slot}
 use Rattle.run_model.specs.EngineRules.{container_at, is_of_project, network_has_name}
@@ -111,7 +112,8 @@ module _ (setup : Setup) (effect : ℕ → Option Reply) (old new : Engine) (kee
   }
 
 -- what was seen is held, before any action has had an effect
-module _ (setup : Setup) (engine : Engine) (effect : ℕ → Option Reply) (none : (a : ℕ) → effect a ≡ None) (sight : IsSightOf setup.declared setup.seen engine) where
+module _ (purpose : Purpose) (setup : Setup) (engine : Engine) (effect : ℕ → Option Reply) (none : (a : ℕ) → effect a ≡ None)
+    (sight : IsSightOf setup.declared purpose setup.seen engine) where
   unremoved : (c : ℕ) → IsUnremoved setup effect c
   unremoved c a k e = let bad : None ≡ Some Reply.Done = sym (none a) ∙ e in cc bad
 

@@ -206,7 +206,7 @@ module _ (aim : Aim) (setup : Setup) (first : Engine) where
   holding = record {
     begins = λ observation moves engine run empty none.
         let legal : IsLegal aim setup (Entry.Seen observation ∷ []) = rw empty at run.legal in
-        holds_seen setup engine (effects (Did (Entry.Seen observation) ∷ moves)) none (seen_is_there aim setup first engine moves observation run.up run.world empty legal run.saw);
+        holds_seen aim.purpose setup engine (effects (Did (Entry.Seen observation) ∷ moves)) none (seen_is_there aim setup first engine moves observation run.world empty legal run.saw);
     notes = λ entry moves engine run held. held;
     acts = λ a request reply moves old new run effect held. holds_acted aim setup first a request reply moves old new run effect held;
     polls = λ n id reply moves engine run held. held;

@@ -11,6 +11,7 @@ pub mod ExactWorlds
 pub mod Finished
 pub mod FirstRows
 pub mod FoundRows
+pub mod GoneWorlds
 pub mod Held
 pub mod Holding
 pub mod Joining
@@ -18,13 +19,17 @@ pub mod Keeping
 pub mod Kept
 pub mod Looks
 pub mod Observing
+pub mod OneDown
 pub mod OneService
 pub mod OneWorker
 pub mod Planning
+pub mod Removed
 pub mod ResourceMoves
 pub mod Resources
 pub mod Sights
 pub mod Slots
+pub mod TakingDown
 pub mod ToldRuns
 pub mod Turns
 pub mod TwoNetworks
+pub mod WholeRuns

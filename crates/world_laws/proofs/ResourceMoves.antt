@@ -245,13 +245,13 @@ module _ (setup : Setup) (moves : List Move) (old : Engine) (move : Move) (new :
       volumes (inl none) = inl none
       volumes (inr some) = inr (volumes_later some)
 
--- where the observation ends, the Engine has what was seen
-pub at_seen : (setup : Setup) (observation : Observed) (moves : List Move) (engine : Engine) → IsSightOf setup.declared setup.seen engine
+-- where the observation ends, the Engine has what was seen for `up`
+pub at_seen : (setup : Setup) (observation : Observed) (moves : List Move) (engine : Engine) → IsSightOf setup.declared Purpose.Up setup.seen engine
     → ((a : ℕ) → effect_of moves (OfAction a) ≡ None) → HasResources setup (Did (Entry.Seen observation) ∷ moves) engine
 at_seen setup observation moves engine sight none = record {
   networks = networks sight.networks;
   volumes = volumes sight.volumes;
-  images = sight.images;
+  images = sight.images refl;
   sound = sight.sound;
 }
   where

@@ -40,6 +40,7 @@ use Rattle.run_model.proofs.KeptLaws.{any_from_list, any_of_list}
 use Rattle.run_model.proofs.LegalLaws.{found_passes}
 use Rattle.run_model.proofs.PlanLaws.{some_from}
 use Rattle.run_model.proofs.RequestLemmas.{same_text}
+use Rattle.world_laws.specs.Sights.{IsSightOf}
 use Rattle.world_laws.proofs.Along.{IsKept, holds_along}
 use Rattle.world_laws.proofs.Claimed.{IsTail}
 use Rattle.world_laws.proofs.Effects.{each_has_effect, made_effect}
@@ -199,6 +200,10 @@ has_done aim setup first last moves kind finished wanted =
       good = subst (λ (k : ActionKind). is_good k done.0 ≡ true) same has.good.good;
     }
 
+upward : (purpose : Purpose) → is_up purpose ≡ true → purpose ≡ Purpose.Up
+upward Purpose.Up e = refl
+upward Purpose.Down e = absurd (cc e)
+
 -- what the Engine has of networks, volumes and images once the observation has ended well
 pub resources : (aim : Aim) (setup : Setup) (first last : Engine) (moves : List Move) → IsRunning aim setup first moves last → HasResources setup moves last
 resources aim setup first last moves run = holds_along aim setup first (HasResources setup) kept moves last run
@@ -207,7 +212,8 @@ resources aim setup first last moves run = holds_along aim setup first (HasResou
         → entries_of before ≡ [] → ((a : ℕ) → effect_of before (OfAction a) ≡ None) → HasResources setup (Did (Entry.Seen observation) ∷ before) engine
     begins observation before engine r empty none =
         let legal : IsLegal aim setup (Entry.Seen observation ∷ []) = subst (λ (past : List Entry). IsLegal aim setup (Entry.Seen observation ∷ past)) empty r.legal in
-        at_seen setup observation before engine (seen_is_there aim setup first engine before observation r.up r.world empty legal r.saw) none
+        let sight : IsSightOf setup.declared aim.purpose setup.seen engine = seen_is_there aim setup first engine before observation r.world empty legal r.saw in
+        at_seen setup observation before engine (subst (λ (purpose : Purpose). IsSightOf setup.declared purpose setup.seen engine) (upward aim.purpose r.up) sight) none
 
     kept : IsKept aim setup first (HasResources setup)
     kept = record {

@@ -1,4 +1,4 @@
--- What an observation of `up` saw that ended well is what the Engine has at its end.
+-- What an observation saw that ended well is what the Engine has at its end.
 use Rattle.std.proofs.Common.{◌≡◌, ◌⊎◌, ℕ, Bool, true, false, List, [], ◌∷◌, map, reverse, Option, Some, None, refl, sym, ap, ◌∙◌, subst, inl, inr}
 use Rattle.std.proofs.lemmas.Slice.Eq.{bytes_eq-Decides}
 use Rattle.std.specs.List.{IsDistinct, list_any}
@@ -11,13 +11,11 @@ use Rattle.engine_types.specs.declared.Exchange.{Exchange}
 use Rattle.engine_types.specs.declared.Listed.{Listed}
 use Rattle.engine_types.specs.declared.NetRow.{NetRow}
 use Rattle.engine_types.specs.declared.Outcome.{Outcome}
-use Rattle.engine_types.specs.declared.Purpose.{Purpose}
 use Rattle.engine_types.specs.declared.Reply.{Reply}
 use Rattle.engine_types.specs.declared.Request.{Request}
 use Rattle.run_model.specs.EngineRules.{Among, Answers, ChangesItself, ListsContainers, ListsNetworks, ListsVolumes, SameNetworks, SameVolumes, Shows, container_at, image_at, is_of_project, network_has_name}
 use Rattle.run_model.specs.Journals.{Setup}
 use Rattle.run_model.specs.Labels.{is_lost_state}
-use Rattle.run_model.specs.Observation.{is_up, listing_fault}
 use Rattle.run_model.specs.Requests.{OfAction, OfPoll, OfSeen}
 use Rattle.run_model.specs.Told.{IsTold, answered, id_after, id_told, is_look}
 use Rattle.run_model.specs.Worlds.{Changed, Did, Effect, Move, Took, World, entries_of, seen_effects}
@@ -201,13 +199,9 @@ told_look old new request reply es l h told = record {
     volumes names (inl e) = let g = given old new request Request.ListVolumes reply (Reply.Volumes names) e h in rw g.1 g.0
     volumes names (inr m) = volumes_later old new names keeps.volumes (told.volumes names m)
 
-upward : (purpose : Purpose) → is_up purpose ≡ true → purpose ≡ Purpose.Up
-upward Purpose.Up e = refl
-upward Purpose.Down e = absurd (cc e)
-
 pub seen_is_there : SeenIsThere
-seen_is_there aim setup first last moves observation up w none legal saw =
-    subst (λ (engine : Engine). IsSightOf setup.declared setup.seen engine) (sym w.2.1) (sight shown networks volumes)
+seen_is_there aim setup first last moves observation w none legal saw =
+    subst (λ (engine : Engine). IsSightOf setup.declared aim.purpose setup.seen engine) (sym w.2.1) (sight shown networks volumes)
   where
     well : IsSeenWell setup.declared aim setup.seen
     well = record { observation = observation; is = legal.1.1; good = good_end observation [] setup.seen saw }
@@ -255,14 +249,14 @@ seen_is_there aim setup first last moves observation up w none legal saw =
         at (inr m) = inr (holds.volumes setup.seen.volumes (among _ m))
 
     sight : Shown w.0 setup.declared.project setup.seen.containers → (setup.declared.networks ≡ []) ⊎ ListsNetworks w.0 setup.seen.networks
-        → (setup.declared.volumes ≡ []) ⊎ ListsVolumes w.0 setup.seen.volumes → IsSightOf setup.declared setup.seen w.0
+        → (setup.declared.volumes ≡ []) ⊎ ListsVolumes w.0 setup.seen.volumes → IsSightOf setup.declared aim.purpose setup.seen w.0
     sight s n v = record {
       ids = s.ids;
       shown = s.shown;
       all = s.all;
       networks = n;
       volumes = v;
-      images = λ slot m. let i = told.images slot up m in
+      images = λ up slot m. let i = told.images slot up m in
           (i.0, i.2, holds.images slot.image i.0 (subst (λ (xs : List Exchange). id_told slot.image xs ≡ Some i.0) are i.1));
-      sound = subst (λ (purpose : Purpose). listing_fault setup.declared purpose setup.seen ≡ None) (upward aim.purpose up) told.sound;
+      sound = told.sound;
     }

@@ -4,7 +4,7 @@ use Rattle.engine_types.specs.declared.Engine.{Engine}
 use Rattle.engine_types.specs.declared.Entry.{Entry}
 use Rattle.engine_types.specs.declared.Observed.{Observed}
 use Rattle.run_model.specs.Ending.{IsFinal, first_fault}
-use Rattle.run_model.specs.Exact.{IsExact}
+use Rattle.run_model.specs.Exact.{IsExact, IsGone}
 use Rattle.run_model.specs.Journals.{Setup, is_well, seen_in, standing}
 use Rattle.run_model.specs.Legal.{IsLegal}
 use Rattle.run_model.specs.Observation.{is_up}
@@ -20,12 +20,12 @@ abbrev pub EveryActionEndedWell : Type 0
 EveryActionEndedWell = (aim : Aim) (setup : Setup) (past : List Entry) → IsLegal aim setup past → IsFinal setup past → first_fault setup past ≡ None
     → (a : ℕ) → a < length setup.actions → is_well (standing setup past a) ≡ true
 
--- in every world, what an observation of `up` saw that ended well is what the Engine has at its end
+-- in every world, what an observation saw that ended well is what the Engine has at its end
 abbrev pub SeenIsThere : Type 0
 SeenIsThere = (aim : Aim) (setup : Setup) (first last : Engine) (moves : List Move) (observation : Observed)
-    → is_up aim.purpose ≡ true → World setup first (Did (Entry.Seen observation) ∷ moves) last → entries_of moves ≡ []
+    → World setup first (Did (Entry.Seen observation) ∷ moves) last → entries_of moves ≡ []
     → IsLegal aim setup (Entry.Seen observation ∷ []) → seen_in (Entry.Seen observation ∷ []) ≡ Some setup.seen
-    → IsSightOf setup.declared setup.seen last
+    → IsSightOf setup.declared aim.purpose setup.seen last
 
 -- after a run of `up` without a fault the Engine holds exactly what is declared, whatever it held before, in every world of the run
 abbrev pub ExactInEachWorld : Type 0
@@ -33,6 +33,13 @@ ExactInEachWorld = (task : Task) (journal : List Entry) (first last : Engine) (m
     → is_up task.aim.purpose ≡ true → IsWhole task.declared → HasOwnSpecs task.declared
     → IsRun task journal → run_fault task journal ≡ None → IsWorldOfRun task journal first moves last
     → IsExact task.declared last task.aim.orphans
+
+-- after a run of `down` without a fault all that is declared is gone, whatever the Engine held before, in every world of the run
+abbrev pub GoneInEachWorld : Type 0
+GoneInEachWorld = (task : Task) (journal : List Entry) (first last : Engine) (moves : List Move)
+    → is_up task.aim.purpose ≡ false → IsWhole task.declared
+    → IsRun task journal → run_fault task journal ≡ None → IsWorldOfRun task journal first moves last
+    → IsGone task.declared last task.aim.orphans task.aim.volumes
 
 -- where the hand of a run's only worker tells how the Engine went through the run's exchanges, the run has a world, which ends with the
 -- Engine that the hand tells

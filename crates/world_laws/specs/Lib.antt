@@ -3,3 +3,4 @@ pub mod Sights
 pub mod Told
 pub mod Laws
 pub mod Exactly
+pub mod OneDown

@@ -1,11 +1,11 @@
-ghost use Rattle.world_laws.specs.Laws.{EveryActionEndedWell, ExactInEachWorld, SeenIsThere, ToldRunsHaveWorlds};
+ghost use Rattle.world_laws.specs.Laws.{EveryActionEndedWell, ExactInEachWorld, GoneInEachWorld, SeenIsThere, ToldRunsHaveWorlds};
 
 /// In a final journal without a failing entry every action of the plan ended well.
 pub fn every_action_ended_well()
     ensures { EveryActionEndedWell }
 {}
 
-/// In every world of a run's journal, what an observation of `up` saw that ended well is what the Engine has at its end.
+/// In every world of a run's journal, what an observation saw that ended well is what the Engine has at its end.
 pub fn seen_is_there()
     ensures { SeenIsThere }
 {}
@@ -14,6 +14,12 @@ pub fn seen_is_there()
 /// in every world of the run's journal.
 pub fn exact_in_each_world()
     ensures { ExactInEachWorld }
+{}
+
+/// After a run of `down` without a fault all that the project declares is gone, whatever the Engine held before, in
+/// every world of the run's journal.
+pub fn gone_in_each_world()
+    ensures { GoneInEachWorld }
 {}
 
 /// A run of one worker whose hand tells how the Engine went through the run's exchanges has a world, and it ends with the

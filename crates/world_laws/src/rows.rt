@@ -1,16 +1,19 @@
 ghost use Rattle.std.specs.Prelude.{◌≡◌, None};
 ghost use Rattle.engine_types.specs.declared.Engine.{Engine};
-ghost use Rattle.run_model.specs.Exact.{IsExact};
+ghost use Rattle.run_model.specs.Exact.{IsExact, IsGone};
 ghost use Rattle.run_model.specs.OneService.{comes_up, shop, upping};
 ghost use Rattle.run_model.specs.OneWorld.{fresh, moves, up};
+ghost use Rattle.run_model.specs.OtherRuns.{downing, goes_down};
 ghost use Rattle.run_model.specs.Plans.{IsWhole};
 ghost use Rattle.run_model.specs.Runs.{IsRun, IsWorldOfRun, run_fault};
 ghost use Rattle.run_model.specs.TwoNetworks as two;
 ghost use Rattle.run_model.specs.TwoWorlds as worlds;
+ghost use Rattle.world_laws.specs.OneDown as down;
 ghost use Rattle.world_laws.specs.OwnSpecs.{HasOwnSpecs};
 
 use run_model::{
     lost_create_is_found, lost_create_is_made_once, one_service_comes_up, one_service_is_exact,
+    second_run_and_down,
 };
 
 /// The run of one service on a fresh Engine has all that the law on exactness asks for, and so the Engine holds exactly
@@ -38,4 +41,16 @@ pub fn two_networks_are_held_exactly()
 {
     lost_create_is_found();
     lost_create_is_made_once();
+}
+
+/// The run that takes one service down, whose container runs, has all that the law on `down` asks for, and so all that
+/// is declared is gone.
+pub fn one_service_is_gone()
+    ensures whole { IsWhole shop }
+    ensures run { IsRun (downing shop) goes_down }
+    ensures sound { run_fault (downing shop) goes_down ≡ None }
+    ensures world { IsWorldOfRun (downing shop) goes_down down.before down.moves down.after }
+    ensures gone { IsGone shop down.after (downing shop).aim.orphans (downing shop).aim.volumes }
+{
+    second_run_and_down();
 }
