@@ -1,5 +1,5 @@
 -- A run goes on over each action of its plan, by what the code makes of it.
-use Rattle.std.proofs.Common.{◌≡◌, ◌⊎◌, ℕ, ◌<◌, ◌≤◌, Bool, true, List, [], ◌∷◌, ◌++◌, length, reverse, Option, Some, slice_get, sym, ap, ◌∙◌, subst, inl, inr, arith}
+use Rattle.std.proofs.Common.{◌≡◌, ◌⊎◌, ℕ, ◌<◌, ◌≤◌, true, List, [], ◌∷◌, ◌++◌, length, reverse, Option, Some, slice_get, sym, ap, ◌∙◌, subst, inl, inr, arith}
 use Rattle.std.proofs.lemmas.Bool.{ltb-false}
 use Rattle.std.proofs.lemmas.Option.{slice_get_within}
 use Rattle.std.specs.Option.{option_map_or}
@@ -10,28 +10,25 @@ use Rattle.engine_types.specs.declared.Entry.{Entry}
 use Rattle.engine_types.specs.declared.Seen.{Seen}
 use Rattle.run_model.specs.EngineRules.{Among}
 use Rattle.run_model.specs.Journals.{Setup}
-use Rattle.run_model.specs.Plans.{Aim, kind_of, needs_of, needed_by, planned_kinds, up_basis}
+use Rattle.run_model.specs.Plans.{Aim, kind_of, needs_of, needed_by, planned_kinds}
 use Rattle.serial_run.proofs.LowerNeeds.{needs_lower}
 use Rattle.serial_run.proofs.Requesting.{Known, length_listed, request_known}
 use Rattle.serial_run.proofs.Running.{IsOn, done, makes, skips}
 use Rattle.serial_run.specs.Asking.{course, request_by}
-use Rattle.serial_run.specs.Serial.{IsDone, IsGrounded, IsMade, IsSkipped, Telling, is_clear, serial_setup, up_aim}
+use Rattle.serial_run.specs.Serial.{IsDone, IsGrounded, IsMade, IsSkipped, Telling, basis_of, is_clear, serial_setup}
 use Rattle.serial_run.specs.declared.mark.Mark.{Mark}
 
-module _ (declared : Declared) (seen : Seen) (actions : List Action) (orphans : Bool) (g : IsGrounded declared seen actions orphans) where
+module _ (declared : Declared) (seen : Seen) (actions : List Action) (aim : Aim) (g : IsGrounded declared seen actions aim) where
   abbrev setup : Setup
   setup = serial_setup declared seen actions
 
-  abbrev aim : Aim
-  aim = up_aim orphans
-
   lower : (a b : ℕ) → Among (needs_of actions a) b → b < a
-  lower a b m = needs_lower declared seen orphans a b (subst (λ (xs : List Action). Among (needs_of xs a) b) g.is_planned m)
+  lower a b m = needs_lower declared seen aim a b (inr g.unconditional) (subst (λ (xs : List Action). Among (needs_of xs a) b) g.is_planned m)
 
   pub few : length actions ≤ 65536
   few =
-      let n : length actions ≡ length (planned_kinds (up_basis declared seen orphans)) = ap length g.is_planned ∙ length_listed (needed_by (up_basis declared seen orphans) (planned_kinds (up_basis declared seen orphans))) (planned_kinds (up_basis declared seen orphans)) in
-      let l = ltb-false 65536 (length (planned_kinds (up_basis declared seen orphans))) g.fits in omega (arith, n, l)
+      let n : length actions ≡ length (planned_kinds (basis_of declared seen aim)) = ap length g.is_planned ∙ length_listed (needed_by (basis_of declared seen aim) (planned_kinds (basis_of declared seen aim))) (planned_kinds (basis_of declared seen aim)) in
+      let l = ltb-false 65536 (length (planned_kinds (basis_of declared seen aim))) g.fits in omega (arith, n, l)
 
   module _ (old : List Entry) (before : Telling) (new : List Entry) (marks : List Mark) (now : Telling) (on : IsOn aim setup old new marks before now)
       (action : Action) (there : slice_get actions (length marks) ≡ Some action) where
@@ -46,7 +43,7 @@ module _ (declared : Declared) (seen : Seen) (actions : List Action) (orphans : 
 
     known : is_clear action.needs marks ≡ true → Known (request_by (course declared seen actions marks new) action.needs action.kind) (Rattle.run_model.specs.Requests.request_of setup (reverse new) action.kind)
     known c = subst (λ (ns : List ℕ). Known (request_by (course declared seen actions marks new) ns action.kind) (Rattle.run_model.specs.Requests.request_of setup (reverse new) action.kind)) needs_are
-        (request_known declared seen actions orphans g new marks on.marked (length marks) action.kind kind_is (clear_is c))
+        (request_known declared seen actions aim g new marks on.marked (length marks) action.kind kind_is (clear_is c))
 
     -- an action that is clear has a request
     pub asked_for : is_clear action.needs marks ≡ true → is_some (request_by (course declared seen actions marks new) action.needs action.kind) ≡ true

@@ -6,7 +6,6 @@ pub mod Stepping
 pub mod Logging
 pub mod Requesting
 pub mod Running
-pub mod LeastRow
 pub mod OneVolume
 pub mod Carrying
 pub mod Turns

@@ -15,6 +15,10 @@ pub any_none : {X : Type 0} (f : X → Bool) (xs : List X) → ((x : X) → f x 
 any_none f [] each = refl
 any_none f (x ∷ xs) each = rw (each x) (any_none f xs each)
 
+pub any_among_none : {X : Type 0} (f : X → Bool) (xs : List X) → ((x : X) → Among xs x → f x ≡ false) → list_any f xs ≡ false
+any_among_none f [] each = refl
+any_among_none f (x ∷ xs) each = rw (each x (inl refl)) (any_among_none f xs (λ y m. each y (inr m)))
+
 pub any_at : {X : Type 0} (f : X → Bool) (xs : List X) (x : X) → Among xs x → f x ≡ true → list_any f xs ≡ true
 any_at f [] x m t = absurd m
 any_at f (y ∷ ys) x (inl e) t = let h : f y ≡ true = rw (← e) t in rw h refl

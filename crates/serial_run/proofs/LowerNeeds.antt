@@ -1,6 +1,6 @@
--- In a plan of `up` each action needs only actions with lower numbers.
-use Rattle.std.proofs.Common.{◌≡◌, ◌⊎◌, ℕ, zero, suc, ◌+◌, ◌<◌, ◌≤◌, Bool, true, false, List, [], ◌∷◌, ◌++◌, map, Option, Some, None, slice_get, refl, sym, ap, ◌∙◌, subst, inl, inr, arith}
-use Rattle.std.proofs.lemmas.Bool.{eqb-true}
+-- Each action of a plan needs only actions with lower numbers, where no stop needs a removal.
+use Rattle.std.proofs.Common.{◌≡◌, ◌⊎◌, ℕ, zero, suc, ◌+◌, ◌<◌, ◌≤◌, Bool, true, false, not, List, [], ◌∷◌, ◌++◌, map, Option, Some, None, slice_get, refl, sym, ap, ◌∙◌, subst, inl, inr, arith}
+use Rattle.std.proofs.lemmas.Bool.{and_right, eqb-true}
 use Rattle.std.specs.Option.{option_map_or}
 use Rattle.std.specs.Prelude.{flat_map, ◌==◌}
 use Rattle.engine_types.specs.declared.Action.{Action}
@@ -11,11 +11,15 @@ use Rattle.engine_types.specs.declared.Declared.{Declared}
 use Rattle.engine_types.specs.declared.Listed.{Listed}
 use Rattle.engine_types.specs.declared.Seen.{Seen}
 use Rattle.run_model.specs.EngineRules.{Among}
-use Rattle.run_model.specs.Plans.{Basis, is_needed_by, is_wanted, needed_by, needs_of, places_by_id, planned, planned_kinds, possible, slot_at, up_basis}
+use Rattle.run_model.specs.Labels.{names_service}
+use Rattle.run_model.specs.Observation.{is_up}
+use Rattle.run_model.specs.Plans.{Aim, Basis, depends_on, is_needed_by, is_wanted, needed_by, needs_of, places_by_id, planned, planned_kinds, possible, slot_at}
 use Rattle.run_model.specs.Tests.{places}
 use Rattle.run_model.proofs.DistinctLists.{Distinct, distinct_by_key, distinct_places, from_append, from_filter, from_flat_map, from_map}
 use Rattle.run_model.proofs.PlanLaws.{some_from}
 use Rattle.serial_run.proofs.InOrder.{InOrder, all_apart, appended, filtered, needed_before}
+use Rattle.serial_run.proofs.Lists.{any_among_none}
+use Rattle.serial_run.specs.Serial.{NeedsNoSlot, basis_of}
 
 -- the row of the table of actions that a kind stands in
 abbrev level : ActionKind → ℕ
@@ -29,15 +33,34 @@ level (StartSlot s) = 5
 level (RemoveNetwork n) = 6
 level (RemoveVolume v) = 7
 
-module _ (declared : Declared) (seen : Seen) (orphans : Bool) where
+-- no stop needs a removal
+abbrev StopsNeedNone : Basis → Type 0
+StopsNeedNone basis = (c d : ℕ) → is_needed_by basis (StopContainer c) (RemoveContainer d) ≡ false
+
+-- where no slot waits for another one, no container depends on another one
+independent : (declared : Declared) → NeedsNoSlot declared → (row other : Listed) → depends_on declared row other ≡ false
+independent declared plain row other = any_among_none _ declared.slots (λ slot m. rw (plain slot m) (and_right (names_service slot.service row.labels) false refl))
+
+-- a test of two options that no pair of things passes
+both_fail : {X Y : Type 0} (f : X → Y → Bool) (o : Option X) (p : Option Y) → ((x : X) (y : Y) → f x y ≡ false) → option_map_or (λ x. option_map_or (f x) p false) o false ≡ false
+both_fail f None p each = refl
+both_fail f (Some x) None each = refl
+both_fail f (Some x) (Some y) each = each x y
+
+pub stops_need_none : (declared : Declared) (seen : Seen) (aim : Aim) → (is_up aim.purpose ≡ true) ⊎ NeedsNoSlot declared → StopsNeedNone (basis_of declared seen aim)
+stops_need_none declared seen aim (inl up) c d = rw up refl
+stops_need_none declared seen aim (inr plain) c d = and_right (not (is_up aim.purpose)) _
+    (both_fail (λ (row other : Listed). depends_on declared other row) (slice_get seen.containers c) (slice_get seen.containers d) (λ row other. independent declared plain other row))
+
+module _ (declared : Declared) (seen : Seen) (aim : Aim) (free : StopsNeedNone (basis_of declared seen aim)) where
   abbrev basis : Basis
-  basis = up_basis declared seen orphans
+  basis = basis_of declared seen aim
 
   -- no action needs one of its row or of a later one, but for a removal its stop
   apart_rows : (x y : ActionKind) → level x ≤ level y → ((c d : ℕ) → x ≡ RemoveContainer c → y ≡ StopContainer d → c ≡ d → ⊥) → is_needed_by basis x y ≡ false
   apart_rows (MakeVolume v) y le apart = refl
   apart_rows (MakeNetwork n) y le apart = refl
-  apart_rows (StopContainer c) (RemoveContainer d) le apart = refl
+  apart_rows (StopContainer c) (RemoveContainer d) le apart = free c d
   apart_rows (StopContainer c) y le apart = refl
   apart_rows (RemoveContainer c) (StopContainer d) le apart = at (c == d) refl
     where
@@ -67,7 +90,7 @@ module _ (declared : Declared) (seen : Seen) (orphans : Bool) where
       (λ c d e f g. not_two (sym (each x m) ∙ ap level e)))
 
   stop_needs_none : (c : ℕ) (y : ActionKind) → is_needed_by basis (StopContainer c) y ≡ false
-  stop_needs_none c (RemoveContainer d) = refl
+  stop_needs_none c (RemoveContainer d) = free c d
   stop_needs_none c y = refl
 
   abbrev ends_of : ℕ → List ActionKind
@@ -147,11 +170,12 @@ needs_listed ns [] a = refl
 needs_listed ns (k ∷ ks) zero = refl
 needs_listed ns (k ∷ ks) (suc a) = needs_listed ns ks a
 
-pub needs_lower : (declared : Declared) (seen : Seen) (orphans : Bool) (a b : ℕ) → Among (needs_of (planned (up_basis declared seen orphans)) a) b → b < a
-needs_lower declared seen orphans a b m = at (slice_get ks a) refl (subst (λ (xs : List ℕ). Among xs b) (needs_listed (needed_by on ks) ks a) m)
+pub needs_lower : (declared : Declared) (seen : Seen) (aim : Aim) (a b : ℕ) → (is_up aim.purpose ≡ true) ⊎ NeedsNoSlot declared
+    → Among (needs_of (planned (basis_of declared seen aim)) a) b → b < a
+needs_lower declared seen aim a b free m = at (slice_get ks a) refl (subst (λ (xs : List ℕ). Among xs b) (needs_listed (needed_by on ks) ks a) m)
   where
     on : Basis
-    on = up_basis declared seen orphans
+    on = basis_of declared seen aim
 
     ks : List ActionKind
     ks = planned_kinds on
@@ -161,4 +185,4 @@ needs_lower declared seen orphans a b m = at (slice_get ks a) refl (subst (λ (x
     at (Some kind) e n =
         let t = from_filter (λ (c : ℕ). option_map_or (is_needed_by on kind) (slice_get ks c) false) (places ks) b n in
         let r = some_from (is_needed_by on kind) (slice_get ks b) t.0 in
-        needed_before on ks a b kind r.0 (filtered on (is_wanted on) (possible on) (possible_in_order declared seen orphans)) e r.1 r.2
+        needed_before on ks a b kind r.0 (filtered on (is_wanted on) (possible on) (possible_in_order declared seen aim (stops_need_none declared seen aim free))) e r.1 r.2

@@ -5,10 +5,10 @@ use Rattle.engine_types.specs.declared.Declared.{Declared}
 use Rattle.engine_types.specs.declared.Entry.{Entry}
 use Rattle.engine_types.specs.declared.Seen.{Seen}
 use Rattle.engine_types.specs.declared.VolumeSpec.{VolumeSpec}
-use Rattle.run_model.specs.Plans.{IsWhole, is_too_long, planned, up_basis}
+use Rattle.run_model.specs.Plans.{IsWhole, is_too_long, planned}
 use Rattle.run_model.specs.Tests.{is_before}
 use Rattle.serial_run.specs.OneVolume.{look, making, nothing, shop, volume}
-use Rattle.serial_run.specs.Serial.{IsBegun, NeedsNoSlot, up_aim}
+use Rattle.serial_run.specs.Serial.{IsBegun, NeedsNoSlot, basis_of, up_aim}
 
 module _ (declared : Declared) (is_shop : declared ≡ shop) where
   pub unconditional : NeedsNoSlot declared
@@ -29,10 +29,10 @@ module _ (declared : Declared) (is_shop : declared ≡ shop) where
       alone i (suc j) x y l e f = absurd (cc f)
 
   module _ (seen : Seen) (is_nothing : seen ≡ nothing) where
-    pub plan : (actions : List Action) → actions ≡ making → actions ≡ planned (up_basis declared seen false)
+    pub plan : (actions : List Action) → actions ≡ making → actions ≡ planned (basis_of declared seen (up_aim false))
     plan actions is_making = rw (is_making, is_shop, is_nothing) refl
 
-    pub fits : is_too_long (up_basis declared seen false) ≡ false
+    pub fits : is_too_long (basis_of declared seen (up_aim false)) ≡ false
     fits = rw (is_shop, is_nothing) refl
 
     pub begun : (journal : List Entry) → journal ≡ Entry.Seen look ∷ [] → IsBegun declared (up_aim false) seen journal

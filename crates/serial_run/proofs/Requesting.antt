@@ -1,6 +1,6 @@
 -- The requests that a run makes are those of its actions.
 use Rattle.std.proofs.Common.{◌≡◌, ◌⊎◌, ℕ, zero, suc, ◌+◌, ◌<◌, ◌≤◌, Bool, true, false, not, ◌&&◌, List, [], ◌∷◌, ◌++◌, map, length, reverse, Option, Some, None, slice_get, refl, sym, ap, ◌∙◌, subst, inl, inr, arith}
-use Rattle.std.proofs.lemmas.Bool.{eqb-true, eq-eqb, true≢false}
+use Rattle.std.proofs.lemmas.Bool.{and_parts, eqb-true, eq-eqb, true≢false}
 use Rattle.std.proofs.lemmas.Slice.Eq.{bytes_eq-Decides}
 use Rattle.std.specs.List.{list_any, list_all}
 use Rattle.std.specs.Option.{option_map_or, option_or}
@@ -16,7 +16,6 @@ use Rattle.engine_types.specs.declared.Listed.{Listed}
 use Rattle.engine_types.specs.declared.NetRow.{NetRow}
 use Rattle.engine_types.specs.declared.NetworkSpec.{NetworkSpec}
 use Rattle.engine_types.specs.declared.Outcome.{Outcome}
-use Rattle.engine_types.specs.declared.Purpose.{Purpose}
 use Rattle.engine_types.specs.declared.Reply.{Reply}
 use Rattle.engine_types.specs.declared.Request.{Request}
 use Rattle.engine_types.specs.declared.Seen.{Seen}
@@ -25,15 +24,15 @@ use Rattle.engine_types.specs.declared.Slot.{Slot}
 use Rattle.engine_types.specs.declared.VolumeSpec.{VolumeSpec}
 use Rattle.run_model.specs.EngineRules.{Among}
 use Rattle.run_model.specs.Journals.{Badly, Out, Setup, Well, ended_as, holding, is_good, is_work_on, standing}
-use Rattle.run_model.specs.Observation.{first_in, network_fault}
-use Rattle.run_model.specs.Plans.{Basis, create_of, is_create_of, is_make_of, is_needed_by, is_network_seen, is_removed, is_unattached, is_unstarted, is_wanted, kept, kept_of, kind_of, make_of, needed_by, needs_of, planned_kinds, slot_at, up_basis}
+use Rattle.run_model.specs.Observation.{first_in, is_up, network_fault}
+use Rattle.run_model.specs.Plans.{Aim, Basis, create_of, is_create_of, is_make_of, is_needed_by, is_network_seen, is_removed, is_unattached, is_unstarted, is_wanted, kept, kept_of, kind_of, make_of, needed_by, needs_of, planned_kinds, slot_at}
 use Rattle.run_model.specs.Requests.{connect_request, made_id, network_id, request_of, seen_network_id, slot_id, stop_seconds}
 use Rattle.run_model.specs.Tests.{by_key, placed, places}
 use Rattle.run_model.proofs.DistinctLists.{among_places, from_filter, from_place}
 use Rattle.run_model.proofs.PlanLaws.{planned_is_plan, some_from}
 use Rattle.serial_run.proofs.Lists.{all_each, find_filter, find_passes, some_below}
 use Rattle.serial_run.specs.Asking.{Course, connect_by, course, create_in, make_in, network_id_by, request_by, slot_id_by, told_id}
-use Rattle.serial_run.specs.Serial.{AreMarks, IsGrounded, is_clear, is_well_mark, serial_setup}
+use Rattle.serial_run.specs.Serial.{AreMarks, IsGrounded, basis_of, is_clear, is_well_mark, serial_setup}
 use Rattle.serial_run.specs.declared.mark.Mark.{Mark}
 
 -- an action that ended well has a good reply
@@ -150,9 +149,9 @@ record Id (found defined : Option (List ℕ)) : Type 0 where
   is_found : found ≡ Some id
   is_defined : defined ≡ Some id
 
-module _ (declared : Declared) (seen : Seen) (actions : List Action) (orphans : Bool) (g : IsGrounded declared seen actions orphans) where
+module _ (declared : Declared) (seen : Seen) (actions : List Action) (aim : Aim) (g : IsGrounded declared seen actions aim) where
   abbrev basis : Basis
-  basis = up_basis declared seen orphans
+  basis = basis_of declared seen aim
 
   abbrev setup : Setup
   setup = serial_setup declared seen actions
@@ -192,6 +191,24 @@ module _ (declared : Declared) (seen : Seen) (actions : List Action) (orphans : 
       let there : slice_get ks b ≡ Some other = sym (kind_at b) ∙ k in
       ap (λ (o : Option ActionKind). option_map_or (is_needed_by basis kind) o false) there ∙ needed))
 
+  -- a plan of `down` makes no network
+  makes_none : (n : ℕ) → not (is_up aim.purpose) ≡ true → (xs : List ℕ) → find (λ b. is_make_of n (kind_of actions b)) xs ≡ None
+  makes_none n down xs = at (find (λ b. is_make_of n (kind_of actions b)) xs) refl
+    where
+      at : (o : Option ℕ) → find (λ b. is_make_of n (kind_of actions b)) xs ≡ o → o ≡ None
+      at None f = refl
+      at (Some d) f =
+          let p = find_passes (λ (b : ℕ). is_make_of n (kind_of actions b)) xs d f in
+          let up = (and_parts (is_up aim.purpose) _ (wanted_at d (MakeNetwork n) (finds_make n (kind_of actions d) p.0))).0 in
+          let bad : false ≡ true = rw up at down in absurd (cc bad)
+
+  -- the id of a network that was seen, by its row
+  seen_by_row : (name : List ℕ) (row : NetRow) → Among seen.networks row → bytes_eq row.name name ≡ true → (id : List ℕ) × (seen_network_id setup name ≡ Some id)
+  seen_by_row name row k e = let f = find_some (λ (r : NetRow). bytes_eq r.name name) seen.networks row k e in (f.0.id, ap (option_map (λ (r : NetRow). r.id)) f.1)
+
+  seen_by_name : (name : List ℕ) → is_network_seen seen name ≡ true → (id : List ℕ) × (seen_network_id setup name ≡ Some id)
+  seen_by_name name s = let r = any_some (λ (row : NetRow). bytes_eq row.name name) seen.networks s in seen_by_row name r.0 r.1 r.2
+
   module _ (journal : List Entry) (marks : List Mark) (m : AreMarks setup journal marks) where
     abbrev now : Course
     now = course declared seen actions marks journal
@@ -216,8 +233,8 @@ module _ (declared : Declared) (seen : Seen) (actions : List Action) (orphans : 
 
     module _ (a : ℕ) (kind : ActionKind) (is_kind : kind_of actions a ≡ Some kind) (clear : is_clear (needs_of actions a) marks ≡ true) where
       -- the id of a slot's container is known to an action that needs its create
-      slot_known : (s : ℕ) (slot : Slot) → slot_at declared s ≡ Some slot → is_needed_by basis kind (CreateSlot s) ≡ true → Id (slot_id_by now (needs_of actions a) s) (slot_id setup (reverse journal) s)
-      slot_known s slot there needed = at (kept declared seen s) refl
+      slot_known : (s : ℕ) (slot : Slot) → is_up aim.purpose ≡ true → slot_at declared s ≡ Some slot → is_needed_by basis kind (CreateSlot s) ≡ true → Id (slot_id_by now (needs_of actions a) s) (slot_id setup (reverse journal) s)
+      slot_known s slot up there needed = at (kept declared seen s) refl
         where
           same : create_in actions (needs_of actions a) s ≡ create_of actions s
           same = search_needs a kind (is_create_of s) (CreateSlot s) is_kind needed (finds_create s)
@@ -234,7 +251,7 @@ module _ (declared : Declared) (seen : Seen) (actions : List Action) (orphans : 
               by_told e d id.id f found id.is_found id.is_defined
 
           wanted : kept declared seen s ≡ None → is_wanted basis (CreateSlot s) ≡ true
-          wanted e = let none : kept_of declared seen slot ≡ None = rw there at e in rw (there, none) refl
+          wanted e = let none : kept_of declared seen slot ≡ None = rw there at e in rw (up, there, none) refl
 
           at : (o : Option Listed) → kept declared seen s ≡ o → Id (slot_id_by now (needs_of actions a) s) (slot_id setup (reverse journal) s)
           at (Some row) e = record { id = row.id; is_found = rw e refl; is_defined = rw e refl }
@@ -244,15 +261,9 @@ module _ (declared : Declared) (seen : Seen) (actions : List Action) (orphans : 
               by_create e f.0 f.1
 
       -- a network that isn't made was seen
-      network_seen : (n : ℕ) (network : NetworkSpec) → slice_get declared.networks n ≡ Some network → make_of actions n ≡ None → (id : List ℕ) × (seen_network_id setup network.name ≡ Some id)
-      network_seen n network there none = at network.external refl (is_network_seen seen network.name) refl
+      network_seen : (n : ℕ) (network : NetworkSpec) → is_up aim.purpose ≡ true → slice_get declared.networks n ≡ Some network → make_of actions n ≡ None → (id : List ℕ) × (seen_network_id setup network.name ≡ Some id)
+      network_seen n network up there none = at network.external refl (is_network_seen seen network.name) refl
         where
-          has_name : NetRow → Bool
-          has_name row = bytes_eq row.name network.name
-
-          by_row : (row : NetRow) → Among seen.networks row → has_name row ≡ true → (id : List ℕ) × (seen_network_id setup network.name ≡ Some id)
-          by_row row k e = let f = find_some has_name seen.networks row k e in (f.0.id, ap (option_map (λ (r : NetRow). r.id)) f.1)
-
           unmade : is_wanted basis (MakeNetwork n) ≡ true → ⊥
           unmade w =
               let p = planned_at (MakeNetwork n) w in
@@ -265,21 +276,21 @@ module _ (declared : Declared) (seen : Seen) (actions : List Action) (orphans : 
           -- an external network that isn't there is a fault
           listed : network.external ≡ true → (xs : List NetRow) → rows ≡ xs → (id : List ℕ) × (seen_network_id setup network.name ≡ Some id)
           listed e [] h =
-              let fine : network_fault declared Purpose.Up seen.networks network ≡ None =
-              none_first (network_fault declared Purpose.Up seen.networks) declared.networks network (first_none _ _ g.sound) (from_place declared.networks n network there) in
-              let bad : Some _ ≡ None = rw (h, e) at fine in absurd (cc bad)
+              let fine : network_fault declared aim.purpose seen.networks network ≡ None =
+              none_first (network_fault declared aim.purpose seen.networks) declared.networks network (first_none _ _ g.sound) (from_place declared.networks n network there) in
+              let bad : Some _ ≡ None = rw (h, e, up) at fine in absurd (cc bad)
           listed e (row ∷ xs) h =
               let k : Among rows row = rw h (inl refl) in
               let f = from_filter (λ (r : NetRow). bytes_eq network.name r.name) seen.networks row k in
-              by_row row f.1 ((bytes_eq-Decides row.name network.name).1 (sym ((bytes_eq-Decides network.name row.name).0 f.0)))
+              seen_by_row network.name row f.1 ((bytes_eq-Decides row.name network.name).1 (sym ((bytes_eq-Decides network.name row.name).0 f.0)))
 
           at : (external : Bool) → network.external ≡ external → (there_now : Bool) → is_network_seen seen network.name ≡ there_now → (id : List ℕ) × (seen_network_id setup network.name ≡ Some id)
-          at external h true s = let r = any_some has_name seen.networks s in by_row r.0 r.1 r.2
+          at external h true s = seen_by_name network.name s
           at true h false s = listed h rows refl
-          at false h false s = absurd (unmade (rw (there, h, s) refl))
+          at false h false s = absurd (unmade (rw (up, there, h, s) refl))
 
-      network_known : (n : ℕ) → n < length declared.networks → is_needed_by basis kind (MakeNetwork n) ≡ true → Id (network_id_by now (needs_of actions a) n) (network_id setup (reverse journal) n)
-      network_known n within needed = at (make_of actions n) refl
+      network_known : (n : ℕ) → is_up aim.purpose ≡ true → n < length declared.networks → is_needed_by basis kind (MakeNetwork n) ≡ true → Id (network_id_by now (needs_of actions a) n) (network_id setup (reverse journal) n)
+      network_known n up within needed = at (make_of actions n) refl
         where
           same : make_in actions (needs_of actions a) n ≡ make_of actions n
           same = search_needs a kind (is_make_of n) (MakeNetwork n) is_kind needed (finds_make n)
@@ -301,7 +312,7 @@ module _ (declared : Declared) (seen : Seen) (actions : List Action) (orphans : 
           at None f =
               let found : make_in actions (needs_of actions a) n ≡ None = same ∙ f in
               let spec = some_below declared.networks n within in
-              let id = network_seen n spec.0 spec.1 f in
+              let id = network_seen n spec.0 up spec.1 f in
               by_seen spec.0 id.0 spec.1 f found id.1
 
       -- each wanted action has a request, and it is the one that is made by the marks
@@ -340,32 +351,56 @@ module _ (declared : Declared) (seen : Seen) (actions : List Action) (orphans : 
               → Known (request_by now (needs_of actions a) (ConnectSlot s k)) (request_of setup (reverse journal) (ConnectSlot s k))
           connect s k slot attach request there e p q = record { request = request; is_made = rw (there, e) p; is_defined = rw (there, e) q }
 
-          by_attach : (s k : ℕ) → kind ≡ ConnectSlot s k → (slot : Slot) → slot_at declared s ≡ Some slot → (o : Option Attach) → slice_get slot.attach k ≡ o → is_unattached basis slot k ≡ true
+          by_attach : (s k : ℕ) → kind ≡ ConnectSlot s k → is_up aim.purpose ≡ true → (slot : Slot) → slot_at declared s ≡ Some slot → (o : Option Attach) → slice_get slot.attach k ≡ o → is_unattached basis slot k ≡ true
               → Known (request_by now (needs_of actions a) (ConnectSlot s k)) (request_of setup (reverse journal) (ConnectSlot s k))
-          by_attach s k e slot there None f u = let bad : false ≡ true = rw f at u in absurd (cc bad)
-          by_attach s k e slot there (Some attach) f u =
+          by_attach s k e up slot there None f u = let bad : false ≡ true = rw f at u in absurd (cc bad)
+          by_attach s k e up slot there (Some attach) f u =
               let within = g.whole.attaches slot attach (from_place declared.slots s slot there) (from_place slot.attach k attach f) in
               let by_create : is_needed_by basis kind (CreateSlot s) ≡ true = rw e (eq-eqb s s refl) in
               let by_make : is_needed_by basis kind (MakeNetwork attach.network) ≡ true = rw (e, there, f) (eq-eqb attach.network attach.network refl) in
-              let id = slot_known s slot there by_create in
-              let net = network_known attach.network within by_make in
+              let id = slot_known s slot up there by_create in
+              let net = network_known attach.network up within by_make in
               connect s k slot attach (Request.Connect net.id id.id attach.aliases) there f
               (joined_by s attach net.id id.id net.is_found id.is_found) (joined s attach net.id id.id net.is_defined id.is_defined)
 
-          by_start : (s : ℕ) → kind ≡ StartSlot s → (slot : Slot) → slot_at declared s ≡ Some slot
+          by_start : (s : ℕ) → kind ≡ StartSlot s → is_up aim.purpose ≡ true → (slot : Slot) → slot_at declared s ≡ Some slot
               → Known (request_by now (needs_of actions a) (StartSlot s)) (request_of setup (reverse journal) (StartSlot s))
-          by_start s e slot there =
+          by_start s e up slot there =
               let by_create : is_needed_by basis kind (CreateSlot s) ≡ true = rw e (eq-eqb s s refl) in
-              let id = slot_known s slot there by_create in
+              let id = slot_known s slot up there by_create in
               start s id.id id.is_found id.is_defined
 
+          volume_removal : (v : ℕ) (spec : VolumeSpec) → slice_get declared.volumes v ≡ Some spec → Known (request_by now (needs_of actions a) (RemoveVolume v)) (request_of setup (reverse journal) (RemoveVolume v))
+          volume_removal v spec e = record { request = Request.RemoveVolume spec.name; is_made = rw e refl; is_defined = rw e refl }
+
+          -- a network that is to go was seen, and no action makes it
+          network_removal : (n : ℕ) → is_wanted basis (RemoveNetwork n) ≡ true → Known (request_by now (needs_of actions a) (RemoveNetwork n)) (request_of setup (reverse journal) (RemoveNetwork n))
+          network_removal n w =
+              let p = and_parts (not (is_up aim.purpose)) _ w in
+              let r = some_from (λ (network : NetworkSpec). not network.external && is_network_seen seen network.name) (slice_get declared.networks n) p.1 in
+              let id = seen_by_name r.0.name (and_parts (not r.0.external) _ r.2).1 in
+              of r.0 id.0 r.1 (makes_none n p.0 (needs_of actions a)) (makes_none n p.0 (places actions)) id.1
+            where
+              of : (spec : NetworkSpec) (id : List ℕ) → slice_get declared.networks n ≡ Some spec → make_in actions (needs_of actions a) n ≡ None → make_of actions n ≡ None
+                  → seen_network_id setup spec.name ≡ Some id → Known (request_by now (needs_of actions a) (RemoveNetwork n)) (request_of setup (reverse journal) (RemoveNetwork n))
+              of spec id there f h k = record {
+                request = Request.RemoveNetwork id;
+                is_made = rw (f, there) (ap (option_map (λ (i : List ℕ). Request.RemoveNetwork i)) k);
+                is_defined = rw (h, there) (ap (option_map (λ (i : List ℕ). Request.RemoveNetwork i)) k);
+              }
+
           at : (k : ActionKind) → kind ≡ k → is_wanted basis k ≡ true → Known (request_by now (needs_of actions a) k) (request_of setup (reverse journal) k)
-          at (MakeVolume v) e w = let r = some_from _ (slice_get declared.volumes v) w in volume v r.0 r.1
-          at (MakeNetwork n) e w = let r = some_from _ (slice_get declared.networks n) w in network n r.0 r.1
+          at (MakeVolume v) e w = let r = some_from _ (slice_get declared.volumes v) (and_parts (is_up aim.purpose) _ w).1 in volume v r.0 r.1
+          at (MakeNetwork n) e w = let r = some_from _ (slice_get declared.networks n) (and_parts (is_up aim.purpose) _ w).1 in network n r.0 r.1
           at (StopContainer c) e w = let r = some_from (is_removed basis) (slice_get seen.containers c) w in stop c r.0 r.1
           at (RemoveContainer c) e w = let r = some_from (is_removed basis) (slice_get seen.containers c) w in removal c r.0 r.1
-          at (CreateSlot s) e w = let r = some_from _ (slot_at declared s) w in create s r.0 r.1
-          at (ConnectSlot s k) e w = let r = some_from (λ (slot : Slot). is_unattached basis slot k) (slot_at declared s) w in by_attach s k e r.0 r.1 (slice_get r.0.attach k) refl r.2
-          at (StartSlot s) e w = let r = some_from (is_unstarted basis) (slot_at declared s) w in by_start s e r.0 r.1
-          at (RemoveNetwork n) e w = absurd (cc w)
-          at (RemoveVolume v) e w = absurd (cc w)
+          at (CreateSlot s) e w = let r = some_from _ (slot_at declared s) (and_parts (is_up aim.purpose) _ w).1 in create s r.0 r.1
+          at (ConnectSlot s k) e w =
+              let p = and_parts (is_up aim.purpose) _ w in
+              let r = some_from (λ (slot : Slot). is_unattached basis slot k) (slot_at declared s) p.1 in by_attach s k e p.0 r.0 r.1 (slice_get r.0.attach k) refl r.2
+          at (StartSlot s) e w =
+              let p = and_parts (is_up aim.purpose) _ w in
+              let r = some_from (is_unstarted basis) (slot_at declared s) p.1 in by_start s e p.0 r.0 r.1
+          at (RemoveNetwork n) e w = network_removal n w
+          at (RemoveVolume v) e w =
+              let r = some_from _ (slice_get declared.volumes v) (and_parts (not (is_up aim.purpose) && aim.volumes) _ w).1 in volume_removal v r.0 r.1

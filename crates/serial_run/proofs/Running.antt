@@ -8,7 +8,6 @@ use Rattle.engine_types.specs.declared.Declared.{Declared}
 use Rattle.engine_types.specs.declared.Entry.{Entry}
 use Rattle.engine_types.specs.declared.Exchange.{Exchange}
 use Rattle.engine_types.specs.declared.Outcome.{Outcome}
-use Rattle.engine_types.specs.declared.Purpose.{Purpose}
 use Rattle.engine_types.specs.declared.Request.{Request}
 use Rattle.engine_types.specs.declared.Seen.{Seen}
 use Rattle.engine_types.specs.declared.SeenEnd.{SeenEnd}
@@ -27,36 +26,36 @@ use Rattle.run_model.proofs.ToldLaws.{seen_is_told}
 use Rattle.serial_run.proofs.Deciding.{Stand, goals_over, next_is, none_next, over}
 use Rattle.serial_run.proofs.Logging.{Since, cause_within, grows_more, grows_not, hears_same, hears_through, since_is, since_left, since_made, since_short, since_start, told_more}
 use Rattle.serial_run.proofs.Stepping.{between_start, between_step, falls_short, leaves, marks_made, marks_skip, marks_start, stand}
-use Rattle.serial_run.specs.Serial.{AllCaused, AreMarks, Exchanged, GoesOn, IsBegun, IsDone, IsMade, IsOnItsWay, IsSkipped, NeedsNoSlot, Telling, ToldBy, exchanges_since, is_clear, serial_setup, up_aim}
+use Rattle.serial_run.specs.Serial.{AllCaused, AreMarks, Exchanged, GoesOn, IsBegun, IsDone, IsMade, IsOnItsWay, IsSkipped, NeedsNoSlot, Telling, ToldBy, exchanges_since, is_clear, serial_setup}
 use Rattle.serial_run.specs.declared.mark.Mark.{Mark}
 
 -- there is no fault in the listings of an observation that ended well
-pub sound_of : (declared : Declared) (orphans : Bool) (seen : Seen) (journal : List Entry) → IsBegun declared (up_aim orphans) seen journal → listing_fault declared Purpose.Up seen ≡ None
-sound_of declared orphans seen journal b = at b.observed
+pub sound_of : (declared : Declared) (aim : Aim) (seen : Seen) (journal : List Entry) → IsBegun declared aim seen journal → listing_fault declared aim.purpose seen ≡ None
+sound_of declared aim seen journal b = at b.observed
   where
-    by_end : (end : SeenEnd) → whole_end declared (up_aim orphans) end ≡ SeenEnd.Good seen → end ≡ SeenEnd.Good seen
+    by_end : (end : SeenEnd) → whole_end declared aim end ≡ SeenEnd.Good seen → end ≡ SeenEnd.Good seen
     by_end (SeenEnd.Bad fault) e = absurd (cc e)
     by_end (SeenEnd.Good s) e = on (is_too_long basis) e
       where
         basis : Basis
-        basis = record { declared = declared; seen = s; aim = up_aim orphans }
+        basis = record { declared = declared; seen = s; aim = aim }
 
         on : (t : Bool) → (if t then SeenEnd.Bad (SeenFault.TooManyActions (action_count basis)) else SeenEnd.Good s) ≡ SeenEnd.Good seen → SeenEnd.Good s ≡ SeenEnd.Good seen
         on true h = absurd (cc h)
         on false h = h
 
-    by : (o : Onward) → observed declared Purpose.Up b.observation.exchanges ≡ o → Rattle.run_model.specs.Legal.seen_end declared (up_aim orphans) b.observation.exchanges ≡ Some b.observation.end
-        → listing_fault declared Purpose.Up seen ≡ None
+    by : (o : Onward) → observed declared aim.purpose b.observation.exchanges ≡ o → Rattle.run_model.specs.Legal.seen_end declared aim b.observation.exchanges ≡ Some b.observation.end
+        → listing_fault declared aim.purpose seen ≡ None
     by (Asks request) h e = let bad : None ≡ Some b.observation.end = rw h at e in absurd (cc bad)
     by Strays h e = let bad : None ≡ Some b.observation.end = rw h at e in absurd (cc bad)
     by (Ends end) h e =
-        let ends : Some (whole_end declared (up_aim orphans) end) ≡ Some b.observation.end = rw h at e in
-        let whole : whole_end declared (up_aim orphans) end ≡ b.observation.end = cc ends in
+        let ends : Some (whole_end declared aim end) ≡ Some b.observation.end = rw h at e in
+        let whole : whole_end declared aim end ≡ b.observation.end = cc ends in
         let good : end ≡ SeenEnd.Good seen = by_end end (whole ∙ b.good) in
-        (seen_is_told declared Purpose.Up b.observation.exchanges seen (h ∙ ap (λ (x : SeenEnd). Ends x) good)).sound
+        (seen_is_told declared aim.purpose b.observation.exchanges seen (h ∙ ap (λ (x : SeenEnd). Ends x) good)).sound
 
-    at : IsObserved declared (up_aim orphans) b.observation → listing_fault declared Purpose.Up seen ≡ None
-    at (inl e) = by (observed declared Purpose.Up b.observation.exchanges) refl e
+    at : IsObserved declared aim b.observation → listing_fault declared aim.purpose seen ≡ None
+    at (inl e) = by (observed declared aim.purpose b.observation.exchanges) refl e
     at (inr e) = let bad : SeenEnd.Bad SeenFault.Memory ≡ SeenEnd.Good seen = sym e.0 ∙ b.good in absurd (cc bad)
 
 -- what stands after a journal and one more entry that is no end

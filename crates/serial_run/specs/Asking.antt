@@ -72,7 +72,7 @@ abbrev pub connect_by : Course → List ℕ → ℕ → Attach → Option Reques
 connect_by run needs s attach = option_and_then
     (λ network. option_map (λ id. Request.Connect network id attach.aliases) (slot_id_by run needs s)) (network_id_by run needs attach.network)
 
--- the request of an action of this kind with these needs; a plan of `up` has no removal of a network or a volume
+-- the request of an action of this kind with these needs
 abbrev pub request_by : Course → List ℕ → ActionKind → Option Request
 request_by run needs (MakeVolume v) = option_map (λ spec. Request.MakeVolume spec) (slice_get run.declared.volumes v)
 request_by run needs (MakeNetwork n) = option_map (λ spec. Request.MakeNetwork spec) (slice_get run.declared.networks n)
@@ -83,5 +83,5 @@ request_by run needs (CreateSlot s) = option_map (λ slot. Request.Create slot.n
 request_by run needs (ConnectSlot s k) =
     option_and_then (λ slot. option_and_then (connect_by run needs s) (slice_get slot.attach k)) (slot_at run.declared s)
 request_by run needs (StartSlot s) = option_map (λ id. Request.Start id) (slot_id_by run needs s)
-request_by run needs (RemoveNetwork n) = None
-request_by run needs (RemoveVolume v) = None
+request_by run needs (RemoveNetwork n) = option_map (λ id. Request.RemoveNetwork id) (network_id_by run needs n)
+request_by run needs (RemoveVolume v) = option_map (λ spec. Request.RemoveVolume spec.name) (slice_get run.declared.volumes v)

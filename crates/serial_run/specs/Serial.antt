@@ -24,9 +24,10 @@ use Rattle.run_model.specs.Journals.{Badly, Free, Nothing, Setup, Well, has_left
 use Rattle.run_model.specs.Legal.{IsLegal, IsObserved, entries_limit, next_action}
 use Rattle.run_model.specs.Logs.{GrowsBy, exchanges_of}
 use Rattle.run_model.specs.Observation.{listing_fault}
-use Rattle.run_model.specs.Plans.{Aim, IsWhole, is_too_long, needs_of, planned, up_basis}
+use Rattle.run_model.specs.Plans.{Aim, Basis, IsWhole, is_too_long, needs_of, planned}
 use Rattle.run_model.specs.Tests.{places}
 use Rattle.serial_run.specs.declared.mark.Mark.{Mark}
+use Rattle.serial_run.specs.declared.plan_aim as given
 
 -- one worker, no deadline, and no waiting for goals; a stop waits as long as its slot says
 abbrev pub one_worker : RunLimits
@@ -35,6 +36,14 @@ one_worker = record { workers = 1; deadline = None; wait = false; stop_seconds =
 -- what the run is of
 abbrev pub serial_setup : Declared → Seen → List Action → Setup
 serial_setup declared seen actions = record { declared = declared; seen = seen; actions = actions; limits = one_worker }
+
+-- what a run is for, in the words of plans
+abbrev pub aim_of : given.Aim.Aim → Aim
+aim_of aim = record { purpose = aim.purpose; orphans = aim.orphans; volumes = aim.volumes }
+
+-- what the plan of a run is made from
+abbrev pub basis_of : Declared → Seen → Aim → Basis
+basis_of declared seen aim = record { declared = declared; seen = seen; aim = aim }
 
 -- to bring the project up, with or without the removal of orphans
 abbrev pub up_aim : Bool → Aim
@@ -167,11 +176,11 @@ pub record IsSkipped (needs : List ℕ) (marks : List Mark) (old new : List Entr
   pub marked : mark ≡ Mark.Blocked
   pub alone : IsLeftAlone old new before now
 
--- what the run rests on: the plan is that of `up` and isn't too long, the declared set is whole, no slot waits for another,
--- and there is no fault in what was listed
-pub record IsGrounded (declared : Declared) (seen : Seen) (actions : List Action) (orphans : Bool) : Type 0 where
-  pub is_planned : actions ≡ planned (up_basis declared seen orphans)
-  pub fits : is_too_long (up_basis declared seen orphans) ≡ false
+-- what the run rests on: the plan is that of its aim and isn't too long, the declared set is whole, no slot waits for
+-- another, and there is no fault in what was listed
+pub record IsGrounded (declared : Declared) (seen : Seen) (actions : List Action) (aim : Aim) : Type 0 where
+  pub is_planned : actions ≡ planned (basis_of declared seen aim)
+  pub fits : is_too_long (basis_of declared seen aim) ≡ false
   pub whole : IsWhole declared
   pub unconditional : NeedsNoSlot declared
-  pub sound : listing_fault declared Purpose.Up seen ≡ None
+  pub sound : listing_fault declared aim.purpose seen ≡ None

@@ -1,4 +1,4 @@
-//! Runs a plan of `up` with one worker: each action that nothing blocks is claimed, made by one exchange with the
+//! Runs a plan of `up` or `down` with one worker: each action that nothing blocks is claimed, made by one exchange with the
 //! hand, and ended, in the order of the plan's numbers.
 //!
 //! The contract of `run_plan` says that the journal it leaves is that of a legal run which came to its end, and that
@@ -10,12 +10,16 @@ mod ids;
 mod kept;
 mod laws;
 mod mark;
+mod plan_aim;
 mod requests;
 mod run;
 mod slot_labels;
 
 pub use laws::needs_are_lower;
+pub use plan_aim::Aim;
 pub use run::run_plan;
 
 #[cfg(test)]
 mod tests;
+#[cfg(test)]
+mod volume_run;

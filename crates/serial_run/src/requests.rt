@@ -3,7 +3,7 @@ ghost use Rattle.std.specs.Option.{option_map_or};
 ghost use Rattle.run_model.specs.Labels.{names_slot};
 ghost use Rattle.run_model.specs.Plans.{slot_at};
 ghost use Rattle.serial_run.specs.Asking.{connect_by, course, request_by};
-ghost use Rattle.engine_types.specs.declared.ActionKind.TheVariants.{MakeVolume, MakeNetwork, StopContainer, RemoveContainer, CreateSlot, ConnectSlot, StartSlot};
+ghost use Rattle.engine_types.specs.declared.ActionKind.TheVariants.{MakeVolume, MakeNetwork, StopContainer, RemoveContainer, CreateSlot, ConnectSlot, StartSlot, RemoveNetwork, RemoveVolume};
 
 use crate::ids::{network_id, slot_id};
 use crate::mark::Mark;
@@ -38,7 +38,10 @@ pub(crate) fn request_of(
         ActionKind::StartSlot { slot } => {
             start(alloc, declared, seen, plan, marks, journal, needs, slot)
         }
-        ActionKind::RemoveNetwork { .. } | ActionKind::RemoveVolume { .. } => Ok(None),
+        ActionKind::RemoveNetwork { network } => {
+            remove_network(alloc, declared, seen, plan, marks, journal, needs, network)
+        }
+        ActionKind::RemoveVolume { volume } => remove_volume(alloc, declared, volume),
     }
 }
 
@@ -183,6 +186,37 @@ fn start(
     match slot_id(alloc, declared, seen, plan, marks, journal, needs, slot)? {
         Some(id) => Ok(Some(Request::Start {
             id: id.copy(alloc)?,
+        })),
+        None => Ok(None),
+    }
+}
+
+fn remove_network(
+    alloc: Global,
+    declared: &Declared,
+    seen: &Seen,
+    plan: &Plan,
+    marks: &[Mark],
+    journal: &[Entry],
+    needs: &[u32],
+    network: u32,
+) -> Result<Option<Request>, Memory>
+    ensures { IfOk result (λ request. request ≡ request_by (course declared.now seen.now plan.now.actions marks.now journal.now) needs.now (RemoveNetwork network)) }
+{
+    match network_id(declared, seen, plan, marks, journal, needs, network) {
+        Some(id) => Ok(Some(Request::RemoveNetwork {
+            id: id.copy(alloc)?,
+        })),
+        None => Ok(None),
+    }
+}
+
+fn remove_volume(alloc: Global, declared: &Declared, volume: u32) -> Result<Option<Request>, Memory>
+    ensures { IfOk result (λ request. request ≡ option_map (λ spec. Request.RemoveVolume spec.name) (slice_get declared.now.volumes volume)) }
+{
+    match declared.volumes.get(volume as usize) {
+        Some(spec) => Ok(Some(Request::RemoveVolume {
+            name: spec.name.copy(alloc)?,
         })),
         None => Ok(None),
     }

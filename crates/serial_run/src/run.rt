@@ -3,19 +3,20 @@ ghost use Rattle.outside_api.specs.Hands.{HearsEach, HearsMore};
 ghost use Rattle.run_model.specs.Ending.{IsRunOver};
 ghost use Rattle.run_model.specs.Legal.{IsLegal};
 ghost use Rattle.run_model.specs.Logs.{GrowsBy};
-ghost use Rattle.run_model.specs.Plans.{IsWhole, is_too_long, planned, up_basis};
+ghost use Rattle.run_model.specs.Plans.{IsWhole, is_too_long, planned};
 ghost use Rattle.serial_run.specs.Asking.{course, request_by};
 ghost use Rattle.serial_run.specs.LastEntries.{last_entry};
-ghost use Rattle.serial_run.specs.Serial.{AllCaused, GoesOn, IsBegun, IsDone, IsGrounded, IsLeftAlone, IsMade, IsOnItsWay, IsSkipped, NeedsNoSlot, ToldBy, exchanges_since, is_clear, serial_setup, telling, up_aim};
+ghost use Rattle.serial_run.specs.Serial.{AllCaused, GoesOn, IsBegun, IsDone, IsGrounded, IsLeftAlone, IsMade, IsOnItsWay, IsSkipped, NeedsNoSlot, ToldBy, aim_of, basis_of, exchanges_since, is_clear, serial_setup, telling};
 
 use crate::mark::{Mark, is_clear, mark_of};
+use crate::plan_aim::Aim;
 use crate::requests::request_of;
 use engine_types::{Action, ActionKind, Declared, Entry, Plan, Request, Seen};
 use outside_api::Hand;
 use std::alloc::Global;
 use tree_base::{Memory, ReservedList};
 
-/// Runs a plan of `up` with one worker, number 0, without deadline or waiting: goes through the actions by number, skips
+/// Runs the plan of an aim with one worker, number 0, without deadline or waiting: goes through the actions by number, skips
 /// those of which one that they need didn't end well, claims each other one, makes its exchange and ends it, and
 /// leaves. Where memory is wanted before a claim, the worker falls short in place of leaving. The journal has the
 /// observation that the plan was made from, and room for one entry.
@@ -25,16 +26,16 @@ pub fn run_plan<H: Hand>(
     declared: &Declared,
     seen: &Seen,
     plan: &Plan,
-    orphans: bool,
+    aim: Aim,
     journal: &mut ReservedList<Entry>,
 )
-    requires planned { plan.now.actions ≡ planned (up_basis declared.now seen.now orphans) }
-    requires fits { is_too_long (up_basis declared.now seen.now orphans) ≡ false }
+    requires planned { plan.now.actions ≡ planned (basis_of declared.now seen.now (aim_of aim)) }
+    requires fits { is_too_long (basis_of declared.now seen.now (aim_of aim)) ≡ false }
     requires whole { IsWhole declared.now }
     requires unconditional { NeedsNoSlot declared.now }
-    requires begun { IsBegun declared.now (up_aim orphans) seen.now journal.old.items }
+    requires begun { IsBegun declared.now (aim_of aim) seen.now journal.old.items }
     requires room { 1 ≤ journal.old.spare }
-    ensures legal { IsLegal (up_aim orphans) (serial_setup declared.now seen.now plan.now.actions) (reverse journal.new.items) }
+    ensures legal { IsLegal (aim_of aim) (serial_setup declared.now seen.now plan.now.actions) (reverse journal.new.items) }
     ensures over { IsRunOver (serial_setup declared.now seen.now plan.now.actions) (reverse journal.new.items) }
     ensures more { GoesOn journal.old.items journal.new.items }
     ensures log { GrowsBy (exchanges_since (serial_setup declared.now seen.now plan.now.actions) journal.old.items journal.new.items) (H.log hand.old) (H.log hand.new) }
@@ -45,7 +46,7 @@ pub fn run_plan<H: Hand>(
     ensures cause { AllCaused journal.new.items (H.heard hand.old) (H.faults hand.old) (H.faults hand.new) }
     ensures clock { H.clock hand.new ≡ H.clock hand.old }
 {
-    let through = make_all(alloc, hand, declared, seen, plan, orphans, journal);
+    let through = make_all(alloc, hand, declared, seen, plan, aim, journal);
     let last = last_entry(through);
     journal.push(last).unwrap();
 }
@@ -67,13 +68,13 @@ fn make_all<H: Hand>(
     declared: &Declared,
     seen: &Seen,
     plan: &Plan,
-    orphans: bool,
+    aim: Aim,
     journal: &mut ReservedList<Entry>,
 ) -> Result<(), Memory>
-    requires grounded { IsGrounded declared.now seen.now plan.now.actions orphans }
-    requires begun { IsBegun declared.now (up_aim orphans) seen.now journal.old.items }
+    requires grounded { IsGrounded declared.now seen.now plan.now.actions (aim_of aim) }
+    requires begun { IsBegun declared.now (aim_of aim) seen.now journal.old.items }
     requires room { 1 ≤ journal.old.spare }
-    ensures on_its_way { IsOnItsWay (up_aim orphans) (serial_setup declared.now seen.now plan.now.actions) journal.old.items journal.new.items
+    ensures on_its_way { IsOnItsWay (aim_of aim) (serial_setup declared.now seen.now plan.now.actions) journal.old.items journal.new.items
         (telling (H.log hand.old) (H.heard hand.old) (H.faults hand.old) (H.clock hand.old) (H.engine hand.old))
         (telling (H.log hand.new) (H.heard hand.new) (H.faults hand.new) (H.clock hand.new) (H.engine hand.new)) }
     ensures done { OnOk result (IsDone (serial_setup declared.now seen.now plan.now.actions) (reverse journal.new.items)) }

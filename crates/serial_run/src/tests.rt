@@ -1,7 +1,8 @@
 use crate::mark::{Mark, mark_of};
 use crate::requests::request_of;
 use engine_types::{
-    Action, ActionKind, ContainerState, Declared, Listed, Outcome, Plan, Reply, Request, Seen,
+    Action, ActionKind, ContainerState, Declared, Listed, NetRow, NetworkSpec, Outcome, Plan,
+    Reply, Request, Seen, VolumeSpec,
 };
 use std::alloc::Global;
 use std::test::Fail;
@@ -30,31 +31,67 @@ fn unlabelled(alloc: Global) -> Result<Seen, Memory> {
     Ok(seen)
 }
 
-/// A stop, by its container's id and its seconds.
+/// The network `front`, as the Engine has it.
+fn front(alloc: Global) -> Result<NetRow, Memory> {
+    Ok(NetRow {
+        id: Text::from_str(alloc, "n1")?,
+        name: Text::from_str(alloc, "front")?,
+        labels: List::new(alloc),
+    })
+}
+
+/// A project without services, with the network `front` and the volume `data`.
+fn shop(alloc: Global) -> Result<Declared, Memory> {
+    let mut networks = List::new(alloc);
+    networks.push(NetworkSpec {
+        name: Text::from_str(alloc, "front")?,
+        labels: List::new(alloc),
+        driver: None,
+        internal: None,
+        attachable: None,
+        enable_ipv6: None,
+        options: None,
+        external: false,
+    })?;
+    let mut volumes = List::new(alloc);
+    volumes.push(VolumeSpec {
+        name: Text::from_str(alloc, "data")?,
+        labels: List::new(alloc),
+        driver: None,
+        driver_opts: None,
+        external: false,
+    })?;
+    Ok(Declared {
+        project: Text::new(alloc),
+        slots: List::new(alloc),
+        networks,
+        volumes,
+    })
+}
+
+/// A request that stops or removes, in words.
 fn words_of(alloc: Global, request: &Option<Request>) -> Result<Text, Memory> {
     let words = match request {
-        Some(Request::Stop { id, seconds }) => format!(in alloc; "{id} {seconds}")?,
-        _ => format!(in alloc; "no stop")?,
+        Some(Request::Stop { id, seconds }) => format!(in alloc; "stop {id} {seconds}")?,
+        Some(Request::Remove { id }) => format!(in alloc; "remove {id}")?,
+        Some(Request::RemoveNetwork { id }) => format!(in alloc; "remove network {id}")?,
+        Some(Request::RemoveVolume { name }) => format!(in alloc; "remove volume {name}")?,
+        _ => format!(in alloc; "nothing")?,
     };
     Ok(Text::from_string(words))
 }
 
-/// The request that stops the first container, in words.
-fn stop_words(alloc: Global, seen: &Seen) -> Result<Text, Memory> {
-    let declared = Declared {
-        project: Text::new(alloc),
-        slots: List::new(alloc),
-        networks: List::new(alloc),
-        volumes: List::new(alloc),
-    };
+/// The request of an action of this kind, in words.
+fn asked_words(alloc: Global, seen: &Seen, kind: ActionKind) -> Result<Text, Memory> {
+    let declared = shop(alloc)?;
     let plan = Plan {
         actions: List::new(alloc),
     };
-    let stop = Action {
-        kind: ActionKind::StopContainer { container: 0 },
+    let action = Action {
+        kind,
         needs: List::new(alloc),
     };
-    let asked = request_of(alloc, &declared, seen, &plan, &[], &[], &stop)?;
+    let asked = request_of(alloc, &declared, seen, &plan, &[], &[], &action)?;
     words_of(alloc, &asked)
 }
 
@@ -63,8 +100,23 @@ fn stop_words(alloc: Global, seen: &Seen) -> Result<Text, Memory> {
 fn a_stop_without_a_slot_waits_ten_seconds(rt: HostRuntime) -> Result<(), Fail> {
     let alloc = rt.alloc();
     let seen = unlabelled(alloc)?;
-    let words = stop_words(alloc, &seen)?;
-    assert_eq!(rt; words.as_str(), "c1 10");
+    let words = asked_words(alloc, &seen, ActionKind::StopContainer { container: 0 })?;
+    assert_eq!(rt; words.as_str(), "stop c1 10");
+    Ok(())
+}
+
+/// The Engine API removes containers and networks by their ids, and volumes by their names.
+#[test]
+fn a_removal_names_what_goes(rt: HostRuntime) -> Result<(), Fail> {
+    let alloc = rt.alloc();
+    let mut seen = unlabelled(alloc)?;
+    seen.networks.push(front(alloc)?)?;
+    let words = asked_words(alloc, &seen, ActionKind::RemoveContainer { container: 0 })?;
+    assert_eq!(rt; words.as_str(), "remove c1");
+    let words = asked_words(alloc, &seen, ActionKind::RemoveNetwork { network: 0 })?;
+    assert_eq!(rt; words.as_str(), "remove network n1");
+    let words = asked_words(alloc, &seen, ActionKind::RemoveVolume { volume: 0 })?;
+    assert_eq!(rt; words.as_str(), "remove volume data");
     Ok(())
 }
 
