@@ -1,4 +1,7 @@
 pub mod Splits
+pub mod Index
+pub mod Found
+pub mod Rising
 pub mod Rows
 pub mod Loops
 pub mod ByKey

@@ -4,6 +4,7 @@ use Rattle.std.specs.Prelude.{filter}
 use Rattle.std.specs.Option.{option_map}
 use Rattle.std.proofs.lemmas.List.{map-append, take_more}
 use Rattle.std.proofs.lemmas.List.Elements.{filter-append}
+use Rattle.std.proofs.lemmas.Option.{slice_get-get_or}
 use Rattle.run_model.specs.Tests.{numbers_from}
 use Rattle.plan_core.proofs.Rows.{numbers_more}
 
@@ -36,3 +37,7 @@ module _ {X : Type 0} (xs : List X) (i : ℕ) (x : X) (within : i < length xs) (
 
   pub mapped_more : {Y : Type 0} (f : X → Y) → map f (take (i + 1) xs) ≡ map f (take i xs) ++ f x ∷ []
   mapped_more f = ap (map f) taken_more ∙ map-append f (take i xs) (x ∷ [])
+
+-- an element that is there is the same whatever stands for one that isn't
+pub get_or_same : {X : Type 0} (xs : List X) (i : ℕ) (x y : X) → i < length xs → get_or xs i x ≡ get_or xs i y
+get_or_same xs i x y h = let e = sym (slice_get-get_or xs i x h) ∙ slice_get-get_or xs i y h in cc e

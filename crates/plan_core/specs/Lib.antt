@@ -1,3 +1,5 @@
 pub mod Keeping
 pub mod Rows
 pub mod Order
+pub mod Index
+pub mod Finding

@@ -187,7 +187,7 @@ fn places_by_id(alloc: Global, rows: &[Listed]) -> Result<Vec<u64>, Memory>
 }
 
 /// The places of a list with so many items.
-fn all_places(alloc: Global, count: usize) -> Result<Vec<u64>, Memory>
+pub(crate) fn all_places(alloc: Global, count: usize) -> Result<Vec<u64>, Memory>
     ensures { IfOk result (λ all. all.items ≡ numbers_from 0 count) }
 {
     let mut all = Vec::new(alloc);
@@ -205,7 +205,7 @@ fn compare_ids(rows: &[Listed], place: u64, other: u64) -> Ordering
 }
 
 /// The id of the container at a place, and the empty text past the last. No memory.
-fn id_at(rows: &[Listed], place: u64) -> &str
+pub(crate) fn id_at(rows: &[Listed], place: u64) -> &str
     ensures { result.now ≡ id_at rows.now place }
 {
     match item_at(rows, place as usize) {

@@ -5,6 +5,7 @@
 //! it is refused exactly where it has more actions than a run takes; and which container each slot keeps.
 #![tactic(auto)]
 
+mod finding;
 mod keeping;
 mod kinds;
 mod laws;
@@ -13,6 +14,7 @@ mod needed;
 mod planner;
 mod plans;
 mod refusal;
+mod text_index;
 mod wanted;
 
 pub use keeping::kept_of;

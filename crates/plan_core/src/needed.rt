@@ -1,15 +1,17 @@
 //! Which actions an action needs to have ended well.
 
-ghost use Rattle.std.specs.Prelude.{◌≡◌, ◌==◌, ◌++◌, ◌∷◌, ℕ, [], false, slice_get, if◌then◌else◌, IfOk, OnOk};
+ghost use Rattle.std.specs.Prelude.{◌≡◌, ◌==◌, ◌++◌, ◌∷◌, ℕ, [], false, filter, slice_get, if◌then◌else◌, IfOk, OnOk};
 ghost use Rattle.std.specs.List.{before_first, list_any};
 ghost use Rattle.std.specs.Option.{option_map_or};
 ghost use Rattle.engine_types.specs.declared.ActionKind.TheVariants.{StopContainer, CreateSlot, ConnectSlot, StartSlot};
+ghost use Rattle.plan_core.specs.Finding.{actions_under, is_needed_at, needs_removals};
 ghost use Rattle.run_model.specs.Labels.{names_service};
 ghost use Rattle.run_model.specs.Plans.{Basis, attaches_to, depends_on, is_bound_by, is_in_way, is_needed_by, needed_by, slot_at};
 
-use crate::kinds::number_of;
+use crate::kinds::{all_places, number_of};
 use crate::membership::{names_service, names_slot};
 use crate::planner::Planner;
+use crate::text_index::{TextIndex, places_found};
 use engine_types::{ActionKind, ContainerSpec, Declared, Listed, Need, Slot};
 use std::alloc::Global;
 use tree_base::{List, Memory, Text, item_at};
@@ -20,12 +22,50 @@ impl Planner<'_> {
         &self,
         alloc: Global,
         kinds: &[ActionKind],
+        index: &TextIndex<'_>,
         kind: ActionKind,
     ) -> Result<List<u32>, Memory>
+        requires { index.now ≡ actions_under self.now kinds.now }
         ensures { IfOk result (λ needs. needs ≡ needed_by self.now kinds.now kind) }
     {
+        let places = self.places_asked(alloc, kinds, index, kind)?;
+        self.needed_among(alloc, kinds, places.as_slice(), kind)
+    }
+
+    /// Places, in order, that hold those of all actions that an action needs.
+    fn places_asked(
+        &self,
+        alloc: Global,
+        kinds: &[ActionKind],
+        index: &TextIndex<'_>,
+        kind: ActionKind,
+    ) -> Result<Vec<u64>, Memory>
+        requires { index.now ≡ actions_under self.now kinds.now }
+        ensures { IfOk result (λ places. filter (is_needed_at self.now kinds.now kind) places.items
+            ≡ needed_by self.now kinds.now kind) }
+    {
+        if needs_removals(kind) {
+            let places = all_places(alloc, kinds.len())?;
+            return Ok(places);
+        }
+        let texts = self.asked_of(alloc, kind)?;
+        let found = places_found(alloc, index, texts.as_slice())?;
+        Ok(found)
+    }
+
+    /// Those of some places whose actions an action needs.
+    fn needed_among(
+        &self,
+        alloc: Global,
+        kinds: &[ActionKind],
+        places: &[u64],
+        kind: ActionKind,
+    ) -> Result<List<u32>, Memory>
+        ensures { IfOk result (λ needs. needs ≡ filter (is_needed_at self.now kinds.now kind) places.now) }
+    {
         let mut needs = List::new(alloc);
-        for at in 0..kinds.len() {
+        for place in places {
+            let at = *place as usize;
             let is_needed = self.is_needed_at(alloc, kinds, kind, at)?;
             push_if(&mut needs, at, is_needed)?;
         }
@@ -40,8 +80,7 @@ impl Planner<'_> {
         kind: ActionKind,
         at: usize,
     ) -> Result<bool, Memory>
-        ensures { IfOk result (λ needed.
-            needed ≡ option_map_or (is_needed_by self.now kind) (slice_get kinds.now at) false) }
+        ensures { IfOk result (λ needed. needed ≡ is_needed_at self.now kinds.now kind at) }
     {
         match item_at(kinds, at) {
             Some(other) => self.is_needed_by(alloc, kind, *other),
@@ -136,6 +175,16 @@ impl Planner<'_> {
     }
 }
 
+/// Whether an action needs every removal. No memory.
+fn needs_removals(kind: ActionKind) -> bool
+    ensures { result ≡ needs_removals kind }
+{
+    matches!(
+        kind,
+        ActionKind::RemoveNetwork { .. } | ActionKind::RemoveVolume { .. }
+    )
+}
+
 /// Puts a place last where it is asked for.
 fn push_if(numbers: &mut List<u32>, at: usize, is_asked: bool) -> Result<(), Memory>
     ensures { OnOk result (numbers.new ≡ numbers.old ++ (if is_asked then at ∷ [] else [])) }
@@ -171,7 +220,7 @@ fn is_bound_by(spec: &ContainerSpec, name: &Text) -> bool
 }
 
 /// What stands before the first colon of a bind, or all of it.
-fn source_of(bind: &Text) -> &str
+pub(crate) fn source_of(bind: &Text) -> &str
     ensures { result.now ≡ before_first (λ (byte : ℕ). byte == 58) bind.now }
 {
     match bind.as_str().split_once(':') {

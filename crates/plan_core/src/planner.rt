@@ -2,7 +2,9 @@ ghost use Rattle.std.specs.Prelude.{◌≡◌, IfOk, slice_get};
 ghost use Rattle.std.specs.Option.{option_and_then, option_copied};
 ghost use Rattle.run_model.specs.Plans.{kept};
 
+use crate::finding::dependents_of;
 use crate::keeping::all_kept;
+use crate::text_index::TextIndex;
 use engine_types::{Declared, Listed, Purpose, Seen};
 use std::alloc::Global;
 use std::marker::Model;
@@ -17,11 +19,14 @@ pub(crate) struct Planner<'a> {
     pub(crate) orphans: bool,
     pub(crate) volumes: bool,
     pub(crate) kept: Vec<Option<&'a Listed>>,
+    /// The numbers of the slots under the services that they need.
+    pub(crate) dependents: TextIndex<'a>,
 }
 
 impl<'a> Model for Planner<'a> {
     ghost use Rattle.std.specs.Prelude.{◌≡◌, map};
     ghost use Rattle.std.specs.Option.{option_copied};
+    ghost use Rattle.plan_core.specs.Finding.{dependents_of};
     ghost use Rattle.run_model.specs.Plans.{Basis, kept_of};
 
     ghost Value = { Basis };
@@ -33,7 +38,8 @@ impl<'a> Model for Planner<'a> {
     } };
 
     ghost invariant = { λ p.
-        map option_copied p.kept.items ≡ map (kept_of p.declared.now p.seen.now) p.declared.now.slots };
+        (map option_copied p.kept.items ≡ map (kept_of p.declared.now p.seen.now) p.declared.now.slots)
+        × (p.dependents ≡ dependents_of p.declared.now) };
 }
 
 impl<'a> Planner<'a> {
@@ -53,6 +59,7 @@ impl<'a> Planner<'a> {
         }) }
     {
         let kept = all_kept(alloc, declared, seen)?;
+        let dependents = dependents_of(alloc, declared)?;
         Ok(Planner {
             declared,
             seen,
@@ -60,6 +67,7 @@ impl<'a> Planner<'a> {
             orphans,
             volumes,
             kept,
+            dependents,
         })
     }
 

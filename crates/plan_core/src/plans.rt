@@ -73,9 +73,10 @@ impl Planner<'_> {
         ensures { IfOk result (λ actions. actions
             ≡ map (λ kind. record { kind = kind; needs = needed_by self.now kinds.now kind }) kinds.now) }
     {
+        let index = self.actions_under(alloc, kinds)?;
         let mut actions = List::new(alloc);
         for kind in kinds {
-            let needs = self.needed_by(alloc, kinds, *kind)?;
+            let needs = self.needed_by(alloc, kinds, &index, *kind)?;
             actions.push(Action { kind: *kind, needs })?;
         }
         Ok(actions)

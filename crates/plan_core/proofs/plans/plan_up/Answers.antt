@@ -2,8 +2,11 @@
 use Rattle.std.proofs.Common.{◌≡◌, ℕ, true, false, Err, subst}
 use Rattle.std.specs.Prelude.{IfOk}
 use Rattle.plan_core.specs.declared.refusal.PlanRefusal.{PlanRefusal}
-use Rattle.run_model.specs.Plans.{Basis, action_count, is_too_long}
+use Rattle.run_model.specs.Plans.{Basis, action_count, is_too_long, planned}
 use Rattle.plan_core.proofs.plans.plan_up.Goals as goal
+
+pub returns-clause-planned : goal.returns-clause-planned
+returns-clause-planned c = subst (λ (basis : Basis). IfOk c.plan.result (λ plan. plan.actions ≡ planned basis)) c.in_ok-planner.ensures c.plan.ensures.planned
 
 pub returns-clause-fits : goal.returns-clause-fits
 returns-clause-fits c = subst (λ (basis : Basis). IfOk c.plan.result (λ plan. is_too_long basis ≡ false)) c.in_ok-planner.ensures c.plan.ensures.fits

@@ -10,7 +10,7 @@ use Rattle.plan_core.proofs.planner.Planner.is_kept.Goals as goal
 pub returns : goal.returns
 returns c =
     let fields = c.self.inside in
-    let found = any_same option_copied (kept_of fields.declared.now fields.seen.now) fields.kept.items fields.declared.now.slots c.self.invariant
+    let found = any_same option_copied (kept_of fields.declared.now fields.seen.now) fields.kept.items fields.declared.now.slots c.self.invariant.0
     (λ (o : Option Listed). option_map_or (λ (other : Listed). bytes_eq other.id c.args.row.now.id) o false) in
     let all = c.as_slice.ensures.value in
     subst (λ (b : Basis). c.is_among.result ≡ is_kept b.declared b.seen c.args.row.now) c.self.view_is

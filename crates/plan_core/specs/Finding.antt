@@ -1,0 +1,102 @@
+-- Under which texts the actions of a plan are found, and under which ones an action finds those that it needs.
+use Rattle.std.specs.Prelude.{ℕ, Bool, true, false, if◌then◌else◌, ◌==◌, List, [], ◌∷◌, ◌++◌, map, slice_get, unwrap_or}
+use Rattle.std.specs.List.{before_first}
+use Rattle.std.specs.Option.{option_map_or}
+use Rattle.tree_base.specs.declared.Var.{Var}
+use Rattle.engine_types.specs.Labels as the
+use Rattle.engine_types.specs.declared.ActionKind.{ActionKind}
+use Rattle.engine_types.specs.declared.ActionKind.TheVariants.{MakeVolume, MakeNetwork, StopContainer, RemoveContainer, CreateSlot, ConnectSlot, StartSlot, RemoveNetwork, RemoveVolume}
+use Rattle.engine_types.specs.declared.Declared.{Declared}
+use Rattle.engine_types.specs.declared.Seen.{Seen}
+use Rattle.engine_types.specs.declared.Slot.{Slot}
+use Rattle.run_model.specs.EngineRules.{label_in}
+use Rattle.run_model.specs.Observation.{is_up}
+use Rattle.run_model.specs.Plans.{Basis, is_needed_by, network_name, slot_at}
+use Rattle.plan_core.specs.Index.{numbers_under, places_under}
+use Rattle.plan_core.specs.Rows.{id_at}
+
+-- the service that labels name, and the empty text where they name none
+abbrev pub service_named : List Var → List ℕ
+service_named labels = unwrap_or (label_in labels the.service_label) []
+
+-- the service that the labels of the container at this place name, and the empty text past the last
+abbrev pub service_seen : Seen → ℕ → List ℕ
+service_seen seen c = option_map_or (λ row. service_named row.labels) (slice_get seen.containers c) []
+
+-- the name of the container at this place, and the empty text past the last
+abbrev pub name_seen : Seen → ℕ → List ℕ
+name_seen seen c = option_map_or (λ row. row.name) (slice_get seen.containers c) []
+
+-- the name of the volume with this number, and the empty text past the last
+abbrev pub volume_name_at : Declared → ℕ → List ℕ
+volume_name_at declared v = option_map_or (λ volume. volume.name) (slice_get declared.volumes v) []
+
+-- the name of the network with this number, and the empty text past the last
+abbrev pub network_name_at : Declared → ℕ → List ℕ
+network_name_at declared n = option_map_or (λ network. network.name) (slice_get declared.networks n) []
+
+-- the name of the slot with this number, and the empty text past the last
+abbrev pub slot_name_at : Declared → ℕ → List ℕ
+slot_name_at declared s = option_map_or (λ slot. slot.name) (slot_at declared s) []
+
+-- the service of the slot with this number, and the empty text past the last
+abbrev pub slot_service_at : Declared → ℕ → List ℕ
+slot_service_at declared s = option_map_or (λ slot. slot.service) (slot_at declared s) []
+
+-- the services that a slot needs
+abbrev pub needed_services : Declared → Slot → List (List ℕ)
+needed_services declared slot = map (λ need. slot_service_at declared need.slot) slot.needs
+
+-- the numbers of the slots, each under the services that it needs
+abbrev pub dependents_of : Declared → List (List ℕ × ℕ)
+dependents_of declared = places_under (needed_services declared) 0 declared.slots
+
+-- the texts under which an action is found: the stop of a container under its id, its removal under its service and
+-- its name, what a slot's container is made by under the slot's name, and the make of a network or volume under its name
+abbrev pub texts_of : Basis → ActionKind → List (List ℕ)
+texts_of basis (MakeVolume v) = volume_name_at basis.declared v ∷ []
+texts_of basis (MakeNetwork n) = network_name_at basis.declared n ∷ []
+texts_of basis (StopContainer c) = id_at basis.seen.containers c ∷ []
+texts_of basis (RemoveContainer c) = service_seen basis.seen c ∷ name_seen basis.seen c ∷ []
+texts_of basis (CreateSlot s) = slot_name_at basis.declared s ∷ []
+texts_of basis (ConnectSlot s k) = slot_name_at basis.declared s ∷ []
+texts_of basis _ = []
+
+-- the places of actions under the texts under which they are found
+abbrev pub actions_under : Basis → List ActionKind → List (List ℕ × ℕ)
+actions_under basis kinds = places_under (texts_of basis) 0 kinds
+
+-- the name of the network that the attach with this number of the slot with this number joins
+abbrev pub joined_name : Declared → ℕ → ℕ → List ℕ
+joined_name declared s k = option_map_or (λ slot. option_map_or (network_name declared) (slice_get slot.attach k) []) (slot_at declared s) []
+
+-- what stands before the first colon of each bind of a slot
+abbrev pub bind_sources : Slot → List (List ℕ)
+bind_sources slot = map (before_first (λ byte. byte == 58)) (unwrap_or slot.spec.binds [])
+
+-- the texts under which the create of a slot's container finds what it needs: removals, networks and volumes
+abbrev pub asked_by_slot : Declared → Slot → List (List ℕ)
+asked_by_slot declared slot = (slot.service ∷ slot.name ∷ []) ++ map (network_name declared) slot.attach ++ bind_sources slot
+
+-- the services that depend on the service of the container at this place
+abbrev pub dependents_on : Declared → Seen → ℕ → List (List ℕ)
+dependents_on declared seen c = map (slot_service_at declared) (numbers_under (dependents_of declared) (service_seen seen c))
+
+-- the texts under which an action finds those that it needs; what needs every removal has none
+abbrev pub asked_of : Basis → ActionKind → List (List ℕ)
+asked_of basis (StopContainer c) = if is_up basis.aim.purpose then [] else dependents_on basis.declared basis.seen c
+asked_of basis (RemoveContainer c) = id_at basis.seen.containers c ∷ []
+asked_of basis (CreateSlot s) = option_map_or (asked_by_slot basis.declared) (slot_at basis.declared s) []
+asked_of basis (ConnectSlot s k) = slot_name_at basis.declared s ∷ joined_name basis.declared s k ∷ []
+asked_of basis (StartSlot s) = slot_name_at basis.declared s ∷ []
+asked_of basis _ = []
+
+-- whether an action needs every removal
+abbrev pub needs_removals : ActionKind → Bool
+needs_removals (RemoveNetwork n) = true
+needs_removals (RemoveVolume v) = true
+needs_removals _ = false
+
+-- whether an action needs the one at this place
+abbrev pub is_needed_at : Basis → List ActionKind → ActionKind → ℕ → Bool
+is_needed_at basis kinds kind b = option_map_or (is_needed_by basis kind) (slice_get kinds b) false
