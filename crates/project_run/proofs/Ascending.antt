@@ -1,7 +1,6 @@
 -- Declared sets that are whole because they are small.
-use Rattle.std.proofs.Common.{◌≡◌, ℕ, zero, suc, ◌<◌, Bool, List, [], ◌∷◌, Some, refl, subst, arith}
+use Rattle.std.proofs.Common.{◌≡◌, zero, suc, Bool, List, [], ◌∷◌, arith}
 use Rattle.engine_types.specs.declared.Declared.{Declared}
-use Rattle.engine_types.specs.declared.Slot.{Slot}
 use Rattle.run_model.specs.EngineRules.{Among}
 use Rattle.run_model.specs.Plans.{IsAscending, IsWhole}
 use Rattle.serial_run.specs.Serial.{NeedsNoSlot}

@@ -1,19 +1,22 @@
--- What a run leaves in the Engine: the one that the hand tells went through it, and holds exactly what is declared.
-use Rattle.std.proofs.Common.{◌≡◌, ◌⊎◌, List, [], ◌∷◌, Option, Some, None, Bool, refl, sym, ◌∙◌, subst, inl, inr}
+-- What a run leaves in the Engine: the one that the hand tells went through it, and holds exactly what is
+-- declared after `up`, and nothing of it after `down`.
+use Rattle.std.proofs.Common.{◌≡◌, List, [], ◌∷◌, Option, Some, None, true, false, refl, sym, ◌∙◌, subst, inl, inr}
 use Rattle.engine_types.specs.declared.Declared.{Declared}
 use Rattle.engine_types.specs.declared.Engine.{Engine}
 use Rattle.engine_types.specs.declared.Entry.{Entry}
 use Rattle.engine_types.specs.declared.Exchange.{Exchange}
 use Rattle.engine_types.specs.declared.RunFault.{RunFault}
-use Rattle.run_model.specs.Plans.{IsWhole}
+use Rattle.run_model.specs.Observation.{is_up}
+use Rattle.run_model.specs.Plans.{Aim, IsWhole}
 use Rattle.run_model.specs.Runs.{IsRun, run_exchanges, run_fault}
 use Rattle.serial_run.specs.Serial.{ToldBy}
 use Rattle.world_laws.proofs.ExactWorlds.{exact_in_each_world}
+use Rattle.world_laws.proofs.GoneWorlds.{gone_in_each_world}
 use Rattle.world_laws.proofs.ToldRuns.{told_runs_have_worlds}
 use Rattle.world_laws.specs.OwnSpecs.{HasOwnSpecs}
 use Rattle.world_laws.specs.Told as laws
-use Rattle.project_run.specs.Whole.{IfBegun, IsFault, upping}
-use Rattle.project_run.specs.Worlds.{EndsExact, GoesThrough}
+use Rattle.project_run.specs.Whole.{IfBegun, IsFault, task_of}
+use Rattle.project_run.specs.Worlds.{EndsExact, EndsGone, GoesThrough}
 
 -- a hand that tells no Engine goes on so
 none_told : (es : List Exchange) (now : Option Engine) → ToldBy es None now → now ≡ None
@@ -24,20 +27,25 @@ same_told : (es : List Exchange) (old new : Option Engine) → ToldBy es old new
 same_told [] old new e = e
 same_told (x ∷ es) old new t = (t.0, t.1, same_told es t.0 new t.2)
 
-module _ (declared : Declared) (orphans : Bool) (journal : List Entry) (whole : IsWhole declared) (run : IsRun (upping declared orphans) journal) where
-  pub goes_through : (old new : Option Engine) → ToldBy (run_exchanges (upping declared orphans) journal 0) old new → GoesThrough (upping declared orphans) journal old new
-  goes_through None new told = none_told (run_exchanges (upping declared orphans) journal 0) new told
+module _ (declared : Declared) (aim : Aim) (journal : List Entry) (whole : IsWhole declared) (run : IsRun (task_of declared aim) journal) where
+  pub goes_through : (old new : Option Engine) → ToldBy (run_exchanges (task_of declared aim) journal 0) old new → GoesThrough (task_of declared aim) journal old new
+  goes_through None new told = none_told (run_exchanges (task_of declared aim) journal 0) new told
   goes_through (Some first) new told =
-      told_runs_have_worlds (upping declared orphans) journal first new refl whole (inl refl) run (same_told (run_exchanges (upping declared orphans) journal 0) (Some first) new told)
+      told_runs_have_worlds (task_of declared aim) journal first new refl whole (inr refl) run (same_told (run_exchanges (task_of declared aim) journal 0) (Some first) new told)
 
   no_fault : (expected fault : Option RunFault) → IsFault expected fault → fault ≡ None → expected ≡ None
   no_fault expected fault (inl e) n = sym e ∙ n
   no_fault expected fault (inr e) n = let bad : Some RunFault.Memory ≡ None = sym e ∙ n in absurd (cc bad)
 
-  pub ends_exact : (fault : Option RunFault) → IsFault (run_fault (upping declared orphans) journal) fault → fault ≡ None → HasOwnSpecs declared
-      → EndsExact (upping declared orphans) journal
-  ends_exact fault is none own first last moves world =
-      exact_in_each_world (upping declared orphans) journal first last moves refl whole own run (no_fault (run_fault (upping declared orphans) journal) fault is none) world
+  pub ends_exact : (fault : Option RunFault) → IsFault (run_fault (task_of declared aim) journal) fault → fault ≡ None → is_up aim.purpose ≡ true → HasOwnSpecs declared
+      → EndsExact (task_of declared aim) journal
+  ends_exact fault is none up own first last moves world =
+      exact_in_each_world (task_of declared aim) journal first last moves up whole own run (no_fault (run_fault (task_of declared aim) journal) fault is none) world
+
+  pub ends_gone : (fault : Option RunFault) → IsFault (run_fault (task_of declared aim) journal) fault → fault ≡ None → is_up aim.purpose ≡ false
+      → EndsGone (task_of declared aim) journal
+  ends_gone fault is none down first last moves world =
+      gone_in_each_world (task_of declared aim) journal first last moves down whole run (no_fault (run_fault (task_of declared aim) journal) fault is none) world
 
 -- a fact on any journal
 pub if_any : (journal : List Entry) {A : Type 0} → A → IfBegun journal A

@@ -1,5 +1,5 @@
 -- What a run leaves, from how it opened and how its plan was carried out.
-use Rattle.std.proofs.Common.{◌≡◌, ◌⊎◌, ℕ, ◌≤◌, Bool, true, false, List, [], ◌∷◌, ◌++◌, Option, Some, None, reverse, refl, sym, ap, ◌∙◌, subst, inl, inr, arith}
+use Rattle.std.proofs.Common.{◌≡◌, ℕ, ◌≤◌, List, [], ◌∷◌, ◌++◌, Option, Some, reverse, refl, sym, ap, ◌∙◌, subst, inl, inr, arith}
 use Rattle.std.specs.Prelude.{unwrap_or}
 use Rattle.engine_types.specs.declared.Action.{Action}
 use Rattle.engine_types.specs.declared.Declared.{Declared}
@@ -20,11 +20,11 @@ use Rattle.run_model.specs.Journals.{Setup, seen_in}
 use Rattle.run_model.specs.Legal.{IsLegal}
 use Rattle.run_model.specs.Lines.{report_text}
 use Rattle.run_model.specs.Logs.{GrowsBy, exchanges_of}
-use Rattle.run_model.specs.Plans.{planned, up_basis}
-use Rattle.run_model.specs.Runs.{IsRun, Task, run_exchanges, run_fault, run_report, run_seen, run_setup, unseen}
-use Rattle.serial_run.specs.Serial.{AllCaused, IsBegun, Telling, ToldBy, exchanges_since, serial_setup, up_aim}
+use Rattle.run_model.specs.Plans.{Aim, planned}
+use Rattle.run_model.specs.Runs.{IsRun, Task, run_exchanges, run_fault, run_report, run_seen, run_setup}
+use Rattle.serial_run.specs.Serial.{IsBegun, Telling, ToldBy, basis_of, exchanges_since, serial_setup}
 use Rattle.project_run.specs.Opening.{IsCarriedOut, IsObservedBadly, Opens}
-use Rattle.project_run.specs.Whole.{IsCaused, IsFault, IsReport, Leaves, upping}
+use Rattle.project_run.specs.Whole.{IsCaused, Leaves, task_of}
 use Rattle.project_run.specs.declared.opening.Opening.{Opening}
 use Rattle.project_run.proofs.Joining.{exchanges_joined, seen_after}
 use Rattle.project_run.proofs.Told.{told_append, told_same}
@@ -38,7 +38,7 @@ hears_none : (h : Option (List Heard)) → HearsMore h h
 hears_none h = Rattle.observe_project.proofs.Ways.hears-same h
 
 -- a run that ended with its observation
-module _ (declared : Declared) (orphans : Bool) (journal : List Entry) (before now : Telling) (opens : Opens declared orphans Opening.Ended journal before now) where
+module _ (declared : Declared) (aim : Aim) (journal : List Entry) (before now : Telling) (opens : Opens declared aim Opening.Ended journal before now) where
   abbrev observation : Observed
   observation = opens.observation
 
@@ -51,7 +51,7 @@ module _ (declared : Declared) (orphans : Bool) (journal : List Entry) (before n
   pub badly : IsObservedBadly journal
   badly = record { observation = observation; only = opens.only; fault = fault; bad = bad }
 
-  bad_run : IsRun (upping declared orphans) (Entry.Seen observation ∷ [])
+  bad_run : IsRun (task_of declared aim) (Entry.Seen observation ∷ [])
   bad_run = record {
     legal = (tt, (refl, opens.observed, rw bad tt));
     over = inl (rw bad refl);
@@ -68,7 +68,7 @@ module _ (declared : Declared) (orphans : Bool) (journal : List Entry) (before n
       none outcome (inl e) = absurd (cc e)
       none outcome (inr m) = absurd m
 
-  pub leaves_badly : Leaves (upping declared orphans) journal before now
+  pub leaves_badly : Leaves (task_of declared aim) journal before now
   leaves_badly = rw opens.only (record {
     run = bad_run;
     begun = (Entry.Seen observation, [], refl);
@@ -91,9 +91,9 @@ pub bad_report : (declared : Declared) (seen : Seen) (actions : List Action) (jo
 bad_report declared seen actions journal task badly = rw badly.only refl
 
 -- a run whose plan was carried out
-module _ (declared : Declared) (orphans : Bool) (seen : Seen) (actions : List Action) (old new : List Entry) (before mid now : Telling) (plan : Rattle.engine_types.specs.declared.Plan.Plan)
-    (opens : Opens declared orphans (Opening.Planned seen plan) old before mid) (is : actions ≡ planned (up_basis declared seen orphans))
-    (carried : IsCarriedOut declared (up_aim orphans) seen actions old new mid now) where
+module _ (declared : Declared) (aim : Aim) (seen : Seen) (actions : List Action) (old new : List Entry) (before mid now : Telling) (plan : Rattle.engine_types.specs.declared.Plan.Plan)
+    (opens : Opens declared aim (Opening.Planned seen plan) old before mid) (is : actions ≡ planned (basis_of declared seen aim))
+    (carried : IsCarriedOut declared aim seen actions old new mid now) where
   abbrev look : Observed
   look = opens.observation
 
@@ -104,21 +104,21 @@ module _ (declared : Declared) (orphans : Bool) (seen : Seen) (actions : List Ac
   seen_first = rw (opens.only, good) refl
 
   seen_last : seen_in (reverse new) ≡ Some seen
-  seen_last = seen_after (up_aim orphans) (serial_setup declared seen actions) old new seen carried.more carried.legal seen_first
+  seen_last = seen_after aim (serial_setup declared seen actions) old new seen carried.more carried.legal seen_first
 
   saw : run_seen new ≡ seen
   saw = rw seen_last refl
 
-  pub same_setup : serial_setup declared seen actions ≡ run_setup (upping declared orphans) new
+  pub same_setup : serial_setup declared seen actions ≡ run_setup (task_of declared aim) new
   same_setup = rw (saw, is) refl
 
-  run : IsRun (upping declared orphans) new
+  run : IsRun (task_of declared aim) new
   run = record {
-    legal = subst (λ (setup : Setup). IsLegal (up_aim orphans) setup (reverse new)) same_setup carried.legal;
+    legal = subst (λ (setup : Setup). IsLegal aim setup (reverse new)) same_setup carried.legal;
     over = inr (subst (λ (setup : Setup). Rattle.run_model.specs.Ending.IsRunOver setup (reverse new)) same_setup carried.over);
   }
 
-  exchanges : run_exchanges (upping declared orphans) new 0 ≡ look.exchanges ++ exchanges_since (serial_setup declared seen actions) old new
+  exchanges : run_exchanges (task_of declared aim) new 0 ≡ look.exchanges ++ exchanges_since (serial_setup declared seen actions) old new
   exchanges =
       ap (λ (setup : Setup). exchanges_of setup (reverse new) 0) (sym same_setup)
       ∙ exchanges_joined (serial_setup declared seen actions) old new carried.more
@@ -147,7 +147,7 @@ module _ (declared : Declared) (orphans : Bool) (seen : Seen) (actions : List Ac
           subst (λ (o : Observed). HasCauseOfEnd before.heard before.faults now.faults o.end) one
           (end_wider before.heard before.heard before.faults before.faults mid.faults now.faults look.end (hears_none before.heard) (omega arith) opens.counted carried.counted opens.cause)
 
-  pub leaves_well : Leaves (upping declared orphans) new before now
+  pub leaves_well : Leaves (task_of declared aim) new before now
   leaves_well = record {
     run = run;
     begun = begins;
@@ -163,5 +163,5 @@ module _ (declared : Declared) (orphans : Bool) (seen : Seen) (actions : List Ac
     timed = carried.timed ∙ opens.timed;
   }
 
-  pub begun : IsBegun declared (up_aim orphans) seen old
+  pub begun : IsBegun declared aim seen old
   begun = record { observation = look; only = opens.only; observed = opens.observed; good = good }

@@ -4,6 +4,7 @@ pub mod Sparing
 pub mod Polling
 pub mod Joining
 pub mod Opened
+pub mod PlansOfAims
 pub mod Told
 pub mod Leaving
 pub mod Ascending

@@ -1,7 +1,7 @@
 -- What a legal journal says of its observation.
-use Rattle.std.proofs.Common.{◌≡◌, ◌⊎◌, Bool, true, false, List, [], ◌∷◌, ◌++◌, Option, Some, None, refl, sym, ap, ◌∙◌, inl, inr, map}
+use Rattle.std.proofs.Common.{◌≡◌, Bool, true, false, List, [], ◌∷◌, Some, None, refl, sym, ap, ◌∙◌, inl, inr, map}
 use Rattle.std.specs.List.{IsDistinct}
-use Rattle.std.specs.Prelude.{if◌then◌else◌, ℕ}
+use Rattle.std.specs.Prelude.{if◌then◌else◌}
 use Rattle.std.specs.Str.{bytes_eq}
 use Rattle.engine_types.specs.declared.Declared.{Declared}
 use Rattle.engine_types.specs.declared.Entry.{Entry}
@@ -11,7 +11,7 @@ use Rattle.engine_types.specs.declared.Seen.{Seen}
 use Rattle.engine_types.specs.declared.SeenEnd.{SeenEnd}
 use Rattle.engine_types.specs.declared.SeenFault.{SeenFault}
 use Rattle.run_model.specs.Journals.{Setup, seen_in}
-use Rattle.run_model.specs.Legal.{IsLegal, IsObserved, MayStand, Saw, seen_end, whole_end}
+use Rattle.run_model.specs.Legal.{IsLegal, IsObserved, seen_end, whole_end}
 use Rattle.run_model.specs.Observation.{Asks, Ends, Onward, Strays, observed}
 use Rattle.run_model.specs.Plans.{Aim, Basis, action_count, is_too_long}
 use Rattle.run_model.specs.Told.{IsTold}

@@ -1,20 +1,19 @@
 -- How a run opens, by its observation.
-use Rattle.std.proofs.Common.{◌≡◌, ◌⊎◌, ℕ, ◌≤◌, Bool, true, false, List, [], ◌∷◌, ◌++◌, Option, Some, None, refl, sym, ap, ◌∙◌, subst, inl, inr}
+use Rattle.std.proofs.Common.{◌≡◌, ℕ, ◌≤◌, Bool, true, false, List, [], ◌∷◌, ◌++◌, Option, Some, refl, sym, ap, ◌∙◌, subst, inl, inr}
 use Rattle.std.specs.Prelude.{if◌then◌else◌}
 use Rattle.engine_types.specs.declared.Declared.{Declared}
 use Rattle.engine_types.specs.declared.Entry.{Entry}
 use Rattle.engine_types.specs.declared.Exchange.{Exchange}
 use Rattle.engine_types.specs.declared.Observed.{Observed}
-use Rattle.engine_types.specs.declared.Purpose.{Purpose}
 use Rattle.engine_types.specs.declared.SeenEnd.{SeenEnd}
 use Rattle.engine_types.specs.declared.SeenFault.{SeenFault}
 use Rattle.observe_project.specs.Exchanges.{HasCauseOfEnd, ToldBy}
 use Rattle.outside_api.specs.Hands.{Heard, HearsEach, HearsMore}
 use Rattle.run_model.specs.Legal.{IsObserved, seen_end, whole_end}
 use Rattle.run_model.specs.Logs.{GrowsBy}
-use Rattle.run_model.specs.Observation.{IsObservation, is_asked, observed}
+use Rattle.run_model.specs.Observation.{IsObservation}
 use Rattle.run_model.specs.Plans.{Aim, Basis, action_count, is_too_long}
-use Rattle.serial_run.specs.Serial.{Telling, up_aim}
+use Rattle.serial_run.specs.Serial.{Telling}
 use Rattle.project_run.specs.Opening.{Follows, IsWholeEnd, Opens}
 use Rattle.project_run.specs.declared.opening.Opening.{Opening}
 
@@ -44,20 +43,20 @@ caused : (declared : Declared) (aim : Aim) (heard : Option (List Heard)) (old ne
 caused declared aim heard old new before after c (inl w) = subst (HasCauseOfEnd heard old new) (sym w) (whole_caused declared aim heard old new before c)
 caused declared aim heard old new before after c (inr w) = subst (HasCauseOfEnd heard old new) (sym w) tt
 
-pub opened : (declared : Declared) (orphans : Bool) (look : Observed) (end : SeenEnd) (opening : Opening) (old new : List Entry) (before now : Telling)
-    → IsObservation declared Purpose.Up look → IsWholeEnd declared (up_aim orphans) look.end end → Follows declared orphans end opening
+pub opened : (declared : Declared) (aim : Aim) (look : Observed) (end : SeenEnd) (opening : Opening) (old new : List Entry) (before now : Telling)
+    → IsObservation declared aim.purpose look → IsWholeEnd declared aim look.end end → Follows declared aim end opening
     → old ≡ [] → new ≡ old ++ Entry.Seen (record { exchanges = look.exchanges; end = end }) ∷ []
     → GrowsBy look.exchanges before.log now.log → ToldBy look.exchanges before.engine now.engine → HasCauseOfEnd before.heard before.faults now.faults look.end → HearsMore before.heard now.heard
     → (HearsEach before.log before.heard → HearsEach now.log now.heard) → before.faults ≤ now.faults → now.clock ≡ before.clock
-    → Opens declared orphans opening new before now
-opened declared orphans look end opening old new before now is whole follows none pushed log told cause hears each counted timed = record {
+    → Opens declared aim opening new before now
+opened declared aim look end opening old new before now is whole follows none pushed log told cause hears each counted timed = record {
   observation = record { exchanges = look.exchanges; end = end };
   only = pushed ∙ ap (λ (entries : List Entry). entries ++ Entry.Seen (record { exchanges = look.exchanges; end = end }) ∷ []) none;
-  observed = observed_whole declared (up_aim orphans) look.exchanges look.end end is whole;
+  observed = observed_whole declared aim look.exchanges look.end end is whole;
   follows = follows;
   log = log;
   told = told;
-  cause = caused declared (up_aim orphans) before.heard before.faults now.faults look.end end cause whole;
+  cause = caused declared aim before.heard before.faults now.faults look.end end cause whole;
   hears = hears;
   hears_each = each;
   counted = counted;

@@ -1,5 +1,5 @@
 -- A run that waits for nothing has no poll in its journal.
-use Rattle.std.proofs.Common.{◌≡◌, ℕ, Bool, true, false, not, ◌&&◌, ◌||◌, List, [], ◌∷◌, Option, Some, None, reverse, refl, sym, ap, ◌∙◌}
+use Rattle.std.proofs.Common.{◌≡◌, ℕ, Bool, true, false, List, [], ◌∷◌, Option, Some, None, reverse, refl, sym, ap, ◌∙◌}
 use Rattle.std.specs.List.{list_any}
 use Rattle.std.specs.Prelude.{nat_le, length}
 use Rattle.std.proofs.lemmas.List.{reverse-reverse}
@@ -7,7 +7,7 @@ use Rattle.engine_types.specs.declared.Action.{Action}
 use Rattle.engine_types.specs.declared.Declared.{Declared}
 use Rattle.engine_types.specs.declared.Entry.{Entry}
 use Rattle.engine_types.specs.declared.Seen.{Seen}
-use Rattle.run_model.specs.Legal.{Decision, IsLegal, Look, answer_to, decision, entries_limit, is_other_out, next_action, next_poll}
+use Rattle.run_model.specs.Legal.{IsLegal, Look, answer_to, entries_limit, is_other_out, next_action, next_poll}
 use Rattle.run_model.specs.Journals.{is_ending}
 use Rattle.run_model.specs.Plans.{Aim}
 use Rattle.run_outcome.specs.Permits.{is_poll}

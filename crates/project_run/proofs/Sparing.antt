@@ -1,24 +1,20 @@
 -- Every run of `up` leaves kept containers alone.
-use Rattle.std.proofs.Common.{◌≡◌, ℕ, Bool, true, false, List, [], ◌∷◌, map, Option, Some, None, slice_get, refl, sym, ap, ◌∙◌, reverse}
+use Rattle.std.proofs.Common.{◌≡◌, ℕ, Bool, true, false, map, Option, Some, None, slice_get, refl, sym, ◌∙◌, reverse}
 use Rattle.std.specs.List.{IsDistinct}
 use Rattle.std.specs.Prelude.{IfSome}
 use Rattle.std.specs.Str.{bytes_eq}
 use Rattle.engine_types.specs.declared.ActionKind.{ActionKind}
 use Rattle.engine_types.specs.declared.ActionKind.TheVariants.{ConnectSlot, CreateSlot, MakeNetwork, MakeVolume, RemoveContainer, RemoveNetwork, RemoveVolume, StartSlot, StopContainer}
-use Rattle.engine_types.specs.declared.Declared.{Declared}
-use Rattle.engine_types.specs.declared.Entry.{Entry}
 use Rattle.engine_types.specs.declared.Listed.{Listed}
 use Rattle.engine_types.specs.declared.Seen.{Seen}
-use Rattle.run_model.specs.EngineRules.{Among}
 use Rattle.run_model.specs.Journals.{seen_in}
 use Rattle.run_model.specs.Plans.{Basis, LeavesKept, is_kept, is_wanted, kept, kind_of, planned}
-use Rattle.run_model.specs.Runs.{IsRun, run_seen, run_setup, unseen}
+use Rattle.run_model.specs.Runs.{run_seen, run_setup}
 use Rattle.run_model.proofs.KeptLaws.{leaves_kept}
 use Rattle.run_model.proofs.PlanLaws.{planned_is_plan}
-use Rattle.serial_run.specs.Serial.{up_aim}
 use Rattle.project_run.proofs.Observing.{ids_differ, seen_by}
 use Rattle.project_run.specs.Laws.{RunsSpareKept}
-use Rattle.project_run.specs.Whole.{IsSparing, SparesKept, upping}
+use Rattle.project_run.specs.Whole.{IsSparing}
 
 -- a plan's action is sparing
 module _ (basis : Basis) (leaves : LeavesKept basis) where
@@ -59,12 +55,12 @@ module _ (basis : Basis) (leaves : LeavesKept basis) where
 
 pub runs_spare_kept : RunsSpareKept
 unfolding IsDistinct
-runs_spare_kept declared orphans journal run w a m =
-    planned_sparing basis (leaves_kept basis refl (distinct (seen_in (reverse journal)) refl)) a (kind_of (planned basis) a) refl
+runs_spare_kept task journal up run w a m =
+    planned_sparing basis (leaves_kept basis up (distinct (seen_in (reverse journal)) refl)) a (kind_of (planned basis) a) refl
   where
     basis : Basis
-    basis = record { declared = declared; seen = run_seen journal; aim = up_aim orphans }
+    basis = record { declared = task.declared; seen = run_seen journal; aim = task.aim }
 
     distinct : (o : Option Seen) → seen_in (reverse journal) ≡ o → IsDistinct bytes_eq (map (λ (row : Listed). row.id) (run_seen journal).containers)
     distinct None e = rw e tt
-    distinct (Some seen) e = rw e (ids_differ declared (up_aim orphans) seen (seen_by (up_aim orphans) (run_setup (upping declared orphans) journal) (reverse journal) seen run.legal e))
+    distinct (Some seen) e = rw e (ids_differ task.declared task.aim seen (seen_by task.aim (run_setup task journal) (reverse journal) seen run.legal e))

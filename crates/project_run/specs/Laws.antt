@@ -1,11 +1,10 @@
--- Laws of whole runs of `up`.
-use Rattle.std.specs.Prelude.{List, Bool}
-use Rattle.engine_types.specs.declared.Declared.{Declared}
+-- Laws of whole runs.
+use Rattle.std.specs.Prelude.{◌≡◌, List, true}
 use Rattle.engine_types.specs.declared.Entry.{Entry}
-use Rattle.project_run.specs.Whole.{SparesKept, upping}
-use Rattle.run_model.specs.Runs.{IsRun}
+use Rattle.project_run.specs.Whole.{SparesKept}
+use Rattle.run_model.specs.Observation.{is_up}
+use Rattle.run_model.specs.Runs.{IsRun, Task}
 
 -- every run of `up` leaves kept containers alone
 abbrev pub RunsSpareKept : Type 0
-RunsSpareKept = (declared : Declared) (orphans : Bool) (journal : List Entry) → IsRun (upping declared orphans) journal
-    → SparesKept (upping declared orphans) journal
+RunsSpareKept = (task : Task) (journal : List Entry) → is_up task.aim.purpose ≡ true → IsRun task journal → SparesKept task journal

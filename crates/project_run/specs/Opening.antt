@@ -1,5 +1,5 @@
 -- How a run opens: what follows from the end of its observation.
-use Rattle.std.specs.Prelude.{◌≡◌, ◌⊎◌, ◌≤◌, ◌∷◌, [], List, Bool, false, reverse}
+use Rattle.std.specs.Prelude.{◌≡◌, ◌⊎◌, ◌≤◌, ◌∷◌, [], List, false, reverse}
 use Rattle.engine_types.specs.declared.Action.{Action}
 use Rattle.engine_types.specs.declared.Declared.{Declared}
 use Rattle.engine_types.specs.declared.Entry.{Entry}
@@ -14,25 +14,25 @@ use Rattle.project_run.specs.declared.opening.Opening.{Opening}
 use Rattle.run_model.specs.Ending.{IsRunOver}
 use Rattle.run_model.specs.Legal.{IsLegal, IsObserved, whole_end}
 use Rattle.run_model.specs.Logs.{GrowsBy}
-use Rattle.run_model.specs.Plans.{Aim, is_too_long, planned, up_basis}
-use Rattle.serial_run.specs.Serial.{AllCaused, GoesOn, Telling, ToldBy, exchanges_since, serial_setup, up_aim}
+use Rattle.run_model.specs.Plans.{Aim, is_too_long, planned}
+use Rattle.serial_run.specs.Serial.{AllCaused, GoesOn, Telling, ToldBy, basis_of, exchanges_since, serial_setup}
 
 -- an end is the whole one of what was observed, or want of memory stands in its place
 abbrev pub IsWholeEnd : Declared → Aim → SeenEnd → SeenEnd → Type 0
 IsWholeEnd declared aim before after = (after ≡ whole_end declared aim before) ⊎ (after ≡ SeenEnd.Bad SeenFault.Memory)
 
 -- a run goes on with what was seen and its plan, and after a fault it has ended
-abbrev pub Follows : Declared → Bool → SeenEnd → Opening → Type 0
-Follows declared orphans end (Opening.Planned seen plan) =
-    (end ≡ SeenEnd.Good seen) × (plan.actions ≡ planned (up_basis declared seen orphans)) × (is_too_long (up_basis declared seen orphans) ≡ false)
-Follows declared orphans end Opening.Ended = (fault : SeenFault) × (end ≡ SeenEnd.Bad fault)
+abbrev pub Follows : Declared → Aim → SeenEnd → Opening → Type 0
+Follows declared aim end (Opening.Planned seen plan) =
+    (end ≡ SeenEnd.Good seen) × (plan.actions ≡ planned (basis_of declared seen aim)) × (is_too_long (basis_of declared seen aim) ≡ false)
+Follows declared aim end Opening.Ended = (fault : SeenFault) × (end ≡ SeenEnd.Bad fault)
 
 -- a run has opened: its journal is the observation that was made with the hand
-pub record Opens (declared : Declared) (orphans : Bool) (opening : Opening) (journal : List Entry) (before now : Telling) : Type 0 where
+pub record Opens (declared : Declared) (aim : Aim) (opening : Opening) (journal : List Entry) (before now : Telling) : Type 0 where
   pub observation : Observed
   pub only : journal ≡ Entry.Seen observation ∷ []
-  pub observed : IsObserved declared (up_aim orphans) observation
-  pub follows : Follows declared orphans observation.end opening
+  pub observed : IsObserved declared aim observation
+  pub follows : Follows declared aim observation.end opening
   pub log : GrowsBy observation.exchanges before.log now.log
   pub told : exchanges.ToldBy observation.exchanges before.engine now.engine
   pub cause : HasCauseOfEnd before.heard before.faults now.faults observation.end

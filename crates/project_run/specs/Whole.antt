@@ -1,5 +1,5 @@
 -- What a whole run of one worker leaves.
-use Rattle.std.specs.Prelude.{◌≡◌, ◌⊎◌, ◌≤◌, ℕ, Bool, List, [], ◌∷◌, Option, Some, None, false, IfSome, slice_get}
+use Rattle.std.specs.Prelude.{◌≡◌, ◌⊎◌, ◌≤◌, ℕ, List, [], ◌∷◌, Option, Some, None, false, IfSome, slice_get}
 use Rattle.engine_types.specs.declared.ActionKind.{ActionKind}
 use Rattle.engine_types.specs.declared.ActionKind.TheVariants.{CreateSlot, RemoveContainer, StopContainer}
 use Rattle.engine_types.specs.declared.Declared.{Declared}
@@ -11,13 +11,13 @@ use Rattle.observe_project.specs.Exchanges.{HasCauseOfEnd}
 use Rattle.outside_api.specs.Hands.{Heard, HearsEach, HearsMore}
 use Rattle.run_model.specs.EngineRules.{Among}
 use Rattle.run_model.specs.Logs.{GrowsBy}
-use Rattle.run_model.specs.Plans.{is_kept, kept, kind_of}
+use Rattle.run_model.specs.Plans.{Aim, is_kept, kept, kind_of}
 use Rattle.run_model.specs.Runs.{IsRun, Task, run_exchanges, run_seen, run_setup}
-use Rattle.serial_run.specs.Serial.{AllCaused, Telling, ToldBy, one_worker, up_aim}
+use Rattle.serial_run.specs.Serial.{AllCaused, Telling, ToldBy, one_worker}
 
--- to bring a declared set up with one worker, with or without the removal of orphans
-abbrev pub upping : Declared → Bool → Task
-upping declared orphans = record { declared = declared; aim = up_aim orphans; limits = one_worker }
+-- to carry out for a declared set what an aim asks for, with one worker
+abbrev pub task_of : Declared → Aim → Task
+task_of declared aim = record { declared = declared; aim = aim; limits = one_worker }
 
 -- a fact on a journal that has an entry
 abbrev pub IfBegun : List Entry → Type 0 → Type 0

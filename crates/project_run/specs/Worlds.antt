@@ -2,7 +2,7 @@
 use Rattle.std.specs.Prelude.{◌≡◌, List, Option, Some, None, IsSomeAnd}
 use Rattle.engine_types.specs.declared.Engine.{Engine}
 use Rattle.engine_types.specs.declared.Entry.{Entry}
-use Rattle.run_model.specs.Exact.{IsExact}
+use Rattle.run_model.specs.Exact.{IsExact, IsGone}
 use Rattle.run_model.specs.Runs.{IsWorldOfRun, Task}
 use Rattle.run_model.specs.Worlds.{Move}
 
@@ -14,3 +14,8 @@ GoesThrough task journal (Some first) now = IsSomeAnd now (λ last. (moves : Lis
 -- in every world of the run the Engine holds exactly what is declared at its end
 abbrev pub EndsExact : Task → List Entry → Type 0
 EndsExact task journal = (first last : Engine) (moves : List Move) → IsWorldOfRun task journal first moves last → IsExact task.declared last task.aim.orphans
+
+-- in every world of the run all that is declared is gone from the Engine at its end
+abbrev pub EndsGone : Task → List Entry → Type 0
+EndsGone task journal = (first last : Engine) (moves : List Move) → IsWorldOfRun task journal first moves last
+    → IsGone task.declared last task.aim.orphans task.aim.volumes

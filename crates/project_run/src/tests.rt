@@ -2,8 +2,8 @@ ghost use Rattle.std.specs.Prelude.{None};
 ghost use Rattle.run_model.specs.Plans.{IsWhole};
 ghost use Rattle.serial_run.specs.Serial.{NeedsNoSlot};
 
-use crate::bring_up;
-use engine_types::{Declared, Entry, Exchange, Outcome, Reply, Request};
+use crate::{Aim, run_project};
+use engine_types::{Declared, Entry, Exchange, Outcome, Purpose, Reply, Request};
 use outside_api::Hand;
 use std::alloc::Global;
 use std::test::Fail;
@@ -82,9 +82,14 @@ fn nothing_declared(alloc: Global) -> Declared
 }
 
 /// The kinds of a run's entries, each by its first letter, and its report behind them.
-fn words_of_run(alloc: Global, hand: &mut EmptyHand) -> Result<Text, Memory> {
+fn words_of_run(alloc: Global, hand: &mut EmptyHand, purpose: Purpose) -> Result<Text, Memory> {
     let declared = nothing_declared(alloc);
-    let ran = bring_up(alloc, hand, &declared, false);
+    let aim = Aim {
+        purpose,
+        orphans: true,
+        volumes: true,
+    };
+    let ran = run_project(alloc, hand, &declared, aim);
     let mut words = Text::new(alloc);
     for entry in ran.journal.as_slice() {
         words.push_str(match entry {
@@ -103,10 +108,20 @@ fn words_of_run(alloc: Global, hand: &mut EmptyHand) -> Result<Text, Memory> {
 }
 
 #[test]
-fn a_project_of_nothing_is_only_listed(rt: HostRuntime) -> Result<(), Fail> {
+fn a_project_of_nothing_is_only_listed_to_bring_it_up(rt: HostRuntime) -> Result<(), Fail> {
     let alloc = rt.alloc();
     let mut hand = empty_hand(alloc);
-    let words = words_of_run(alloc, &mut hand)?;
+    let words = words_of_run(alloc, &mut hand, Purpose::Up)?;
+    assert_eq!(rt; words.as_str(), "SL well ");
+    assert_eq!(rt; hand.log.len(), 1);
+    Ok(())
+}
+
+#[test]
+fn a_project_of_nothing_is_only_listed_to_take_it_down(rt: HostRuntime) -> Result<(), Fail> {
+    let alloc = rt.alloc();
+    let mut hand = empty_hand(alloc);
+    let words = words_of_run(alloc, &mut hand, Purpose::Down)?;
     assert_eq!(rt; words.as_str(), "SL well ");
     assert_eq!(rt; hand.log.len(), 1);
     Ok(())

@@ -1,0 +1,20 @@
+use Rattle.project_run.proofs.Exact.{ends_exact, ends_gone, goes_through, if_any}
+use Rattle.project_run.proofs.Sparing.{runs_spare_kept}
+use Rattle.serial_run.specs.Serial.{aim_of}
+use Rattle.project_run.specs.Whole.{task_of}
+use Rattle.project_run.proofs.whole_run.run_project.Goals as goal
+
+pub returns-clause-kept : goal.returns-clause-kept
+returns-clause-kept g c = λ up. runs_spare_kept (task_of c.args.declared.now (aim_of c.args.aim)) c.run.result.journal up c.run.ensures.leaves.run
+
+pub returns-clause-world : goal.returns-clause-world
+returns-clause-world g c = if_any c.run.result.journal
+    (goes_through c.args.declared.now (aim_of c.args.aim) c.run.result.journal c.requires.whole c.run.ensures.leaves.run (g.H.Hand.engine c.args.hand.now) (g.H.Hand.engine c.run.new.hand) c.run.ensures.leaves.told)
+
+pub returns-clause-exact : goal.returns-clause-exact
+returns-clause-exact g c =
+    ends_exact c.args.declared.now (aim_of c.args.aim) c.run.result.journal c.requires.whole c.run.ensures.leaves.run c.run.result.fault c.run.ensures.fault
+
+pub returns-clause-gone : goal.returns-clause-gone
+returns-clause-gone g c =
+    ends_gone c.args.declared.now (aim_of c.args.aim) c.run.result.journal c.requires.whole c.run.ensures.leaves.run c.run.result.fault c.run.ensures.fault
