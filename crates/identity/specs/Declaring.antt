@@ -1,5 +1,5 @@
--- What a project of one service declares: one slot, by the names and labels of Docker Compose.
-use Rattle.std.specs.Prelude.{ℕ, false, List, [], ◌∷◌, ◌++◌, codes}
+-- What a project of services by their images declares: a slot for each, by the names and labels of Docker Compose.
+use Rattle.std.specs.Prelude.{ℕ, false, List, [], ◌∷◌, ◌++◌, map, codes}
 use Rattle.sha2.specs.Sha256.{sha256}
 use Rattle.hex.specs.Hex.{encode_lower}
 use Rattle.json.specs.Print.{quoted}
@@ -10,9 +10,10 @@ use Rattle.engine_types.specs.declared.Declared.{Declared}
 use Rattle.engine_types.specs.declared.Policy.{Policy}
 use Rattle.engine_types.specs.declared.Slot.{Slot}
 use Rattle.run_model.specs.OneService.{plain_spec}
-use Rattle.one_service.specs.declared.Project.{Project}
+use Rattle.plain_services.specs.declared.PlainService.{PlainService}
+use Rattle.plain_services.specs.declared.Project.{Project}
 
--- the service's attributes as JSON (RFC 8259) without spaces, under the names of the Compose Specification
+-- a service's attributes as JSON (RFC 8259) without spaces, under the names of the Compose Specification
 abbrev pub attributes_text : List ℕ → List ℕ
 attributes_text image = codes "{\"image\":" ++ quoted image ++ codes ",\"network_mode\":\"none\"}"
 
@@ -20,34 +21,34 @@ attributes_text image = codes "{\"image\":" ++ quoted image ++ codes ",\"network
 abbrev pub config_hash : List ℕ → List ℕ
 config_hash image = encode_lower (sha256 (attributes_text image))
 
--- the name of the service's first container, as Docker Compose gives it
-abbrev pub container_name : Project → List ℕ
-container_name project = project.name ++ codes "-" ++ project.service ++ codes "-1"
+-- the name of a service's first container in a project of this name, as Docker Compose gives it
+abbrev pub container_name : List ℕ → PlainService → List ℕ
+container_name project service = project ++ codes "-" ++ service.name ++ codes "-1"
 
 -- the labels of that container, in byte order of their names
-abbrev pub container_labels : Project → List Var
-container_labels project =
-    record { name = hash_label; value = config_hash project.image } ∷ record { name = number_label; value = codes "1" }
-    ∷ record { name = oneoff_label; value = not_oneoff } ∷ record { name = project_label; value = project.name }
-    ∷ record { name = service_label; value = project.service } ∷ []
+abbrev pub container_labels : List ℕ → PlainService → List Var
+container_labels project service =
+    record { name = hash_label; value = config_hash service.image } ∷ record { name = number_label; value = codes "1" }
+    ∷ record { name = oneoff_label; value = not_oneoff } ∷ record { name = project_label; value = project }
+    ∷ record { name = service_label; value = service.name } ∷ []
 
--- the service's one slot: its image is pulled where it is missing, it needs nothing, and a stop waits for ten seconds
-abbrev pub slot_of : Project → Slot
-slot_of project = record {
-  service = project.service;
+-- a service's one slot: its image is pulled where it is missing, it needs nothing, and a stop waits for ten seconds
+abbrev pub slot_of : List ℕ → PlainService → Slot
+slot_of project service = record {
+  service = service.name;
   number = 1;
-  name = container_name project;
-  image = project.image;
+  name = container_name project service;
+  image = service.image;
   policy = Policy.Missing;
   has_build = false;
-  hash = config_hash project.image;
-  spec = plain_spec (container_labels project) project.image;
+  hash = config_hash service.image;
+  spec = plain_spec (container_labels project service) service.image;
   attach = [];
   needs = [];
   goal = Condition.Running;
   stop_seconds = 10;
 }
 
--- what the project declares: that slot, and no network or volume
+-- what the project declares: a slot for each service, in the services' order, and no network or volume
 abbrev pub declared_of : Project → Declared
-declared_of project = record { project = project.name; slots = slot_of project ∷ []; networks = []; volumes = [] }
+declared_of project = record { project = project.name; slots = map (slot_of project.name) project.services; networks = []; volumes = [] }

@@ -1,23 +1,22 @@
-ghost use Rattle.std.specs.Prelude.{◌≡◌, ◌++◌, ◌∷◌, [], IfOk, OnOk};
+ghost use Rattle.std.specs.Prelude.{◌≡◌, ◌++◌, ◌∷◌, [], map, IfOk, OnOk};
 ghost use Rattle.identity.specs.Declaring.{config_hash, container_labels, container_name, declared_of, slot_of};
 
 use crate::hash::config_hash;
 use crate::spec::container_spec;
 use engine_types::{Condition, Declared, Pairs, Policy, Slot, labels};
-use one_service::Project;
+use plain_services::{PlainService, Project};
 use std::alloc::Global;
 use tree_base::{List, Memory, Text, Var};
 
 /// The seconds that a stop waits before it kills, where no attribute says so.
 const STOP_SECONDS: u64 = 10;
 
-/// What a project of one service declares: one slot, without networks and volumes. Memory where there is no
-/// memory for it.
+/// What a project declares: one slot for each service, in the services' order, without networks and volumes.
+/// Memory where there is no memory for it.
 pub fn declare(alloc: Global, project: &Project) -> Result<Declared, Memory>
     ensures { IfOk result (λ declared. declared ≡ declared_of project.now) }
 {
-    let mut slots = List::new(alloc);
-    slots.push(slot(alloc, project)?)?;
+    let slots = slots_of(alloc, &project.name, project.services.as_slice())?;
     Ok(Declared {
         project: project.name.copy(alloc)?,
         slots,
@@ -26,20 +25,30 @@ pub fn declare(alloc: Global, project: &Project) -> Result<Declared, Memory>
     })
 }
 
-fn slot(alloc: Global, project: &Project) -> Result<Slot, Memory>
-    ensures { IfOk result (λ slot. slot ≡ slot_of project.now) }
+fn slots_of(alloc: Global, project: &Text, services: &[PlainService]) -> Result<List<Slot>, Memory>
+    ensures { IfOk result (λ slots. slots ≡ map (slot_of project.now) services.now) }
 {
-    let hash = config_hash(alloc, project.image.as_str())?;
-    let labels = slot_labels(alloc, project, &hash)?;
+    let mut slots = List::new(alloc);
+    for service in services {
+        slots.push(slot_of(alloc, project, service)?)?;
+    }
+    Ok(slots)
+}
+
+fn slot_of(alloc: Global, project: &Text, service: &PlainService) -> Result<Slot, Memory>
+    ensures { IfOk result (λ slot. slot ≡ slot_of project.now service.now) }
+{
+    let hash = config_hash(alloc, service.image.as_str())?;
+    let labels = container_labels(alloc, project, service, &hash)?;
     Ok(Slot {
-        service: project.service.copy(alloc)?,
+        service: service.name.copy(alloc)?,
         number: 1,
-        name: container_name(alloc, project)?,
-        image: project.image.copy(alloc)?,
+        name: container_name(alloc, project, service)?,
+        image: service.image.copy(alloc)?,
         policy: Policy::Missing,
         has_build: false,
         hash,
-        spec: container_spec(alloc, labels, &project.image)?,
+        spec: container_spec(alloc, labels, &service.image)?,
         attach: List::new(alloc),
         needs: List::new(alloc),
         goal: Condition::Running,
@@ -47,25 +56,29 @@ fn slot(alloc: Global, project: &Project) -> Result<Slot, Memory>
     })
 }
 
-fn container_name(alloc: Global, project: &Project) -> Result<Text, Memory>
-    ensures { IfOk result (λ name. name ≡ container_name project.now) }
+fn container_name(alloc: Global, project: &Text, service: &PlainService) -> Result<Text, Memory>
+    ensures { IfOk result (λ name. name ≡ container_name project.now service.now) }
 {
-    let project_name = &project.name;
-    let service = &project.service;
-    let name = format!(in alloc; "{project_name}-{service}-1")?;
+    let service = &service.name;
+    let name = format!(in alloc; "{project}-{service}-1")?;
     Ok(Text::from_string(name))
 }
 
-fn slot_labels(alloc: Global, project: &Project, hash: &Text) -> Result<Pairs, Memory>
-    requires { hash.now ≡ config_hash project.now.image }
-    ensures { IfOk result (λ labels. labels ≡ container_labels project.now) }
+fn container_labels(
+    alloc: Global,
+    project: &Text,
+    service: &PlainService,
+    hash: &Text,
+) -> Result<Pairs, Memory>
+    requires { hash.now ≡ config_hash service.now.image }
+    ensures { IfOk result (λ labels. labels ≡ container_labels project.now service.now) }
 {
     let mut pairs = List::new(alloc);
     push_label(alloc, &mut pairs, labels::HASH, hash.as_str())?;
     push_label(alloc, &mut pairs, labels::NUMBER, "1")?;
     push_label(alloc, &mut pairs, labels::ONEOFF, labels::NOT_ONEOFF)?;
-    push_label(alloc, &mut pairs, labels::PROJECT, project.name.as_str())?;
-    push_label(alloc, &mut pairs, labels::SERVICE, project.service.as_str())?;
+    push_label(alloc, &mut pairs, labels::PROJECT, project.as_str())?;
+    push_label(alloc, &mut pairs, labels::SERVICE, service.name.as_str())?;
     Ok(pairs)
 }
 

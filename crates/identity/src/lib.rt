@@ -1,6 +1,6 @@
 //! What a project declares of the Engine: the names, labels and configuration hash of its containers.
 //!
-//! Contracts say the declared set of a project of one service exactly.
+//! The contract of `declare` says exactly the declared set of a project: a slot for each of its services.
 #![tactic(auto)]
 
 mod declaring;

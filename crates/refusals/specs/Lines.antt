@@ -7,17 +7,19 @@ use Rattle.refusals.specs.declared.refusal.LoadRefusal.{LoadRefusal}
 use Rattle.refusals.specs.declared.refusal.ProjectRefusal.{ProjectRefusal}
 use Rattle.refusals.specs.declared.refusal.Part.{Part}
 use Rattle.refusals.specs.declared.refusal.Unbuilt.{Unbuilt}
+use Rattle.yaml_lines.specs.Printed.{refusal_text}
 
 -- a text at a place is named by its path, line and column
 abbrev pub unbuilt_words : Unbuilt → List ℕ
 unbuilt_words Unbuilt.Words = codes "not built: words"
 unbuilt_words (Unbuilt.Text path place) = path ++ codes ":" ++ decimal place.line ++ codes ":" ++ decimal place.column ++ codes ": not built"
 
--- a file is named by its path
+-- a file is named by its path; where its text is refused, the place and the name of the fault follow
 abbrev pub load_words : LoadRefusal → List ℕ
 load_words (LoadRefusal.NotFound path) = path ++ codes ": NotFound"
 load_words (LoadRefusal.ReadFault path) = path ++ codes ": ReadFault"
 load_words (LoadRefusal.FileTooLarge path) = path ++ codes ": FileTooLarge"
+load_words (LoadRefusal.Yaml path refusal) = path ++ codes ":" ++ refusal_text refusal
 
 -- a name that is none stands as it is
 abbrev pub name_words : ProjectRefusal → List ℕ

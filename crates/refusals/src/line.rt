@@ -2,6 +2,7 @@ ghost use Rattle.std.specs.Prelude.{◌≡◌, ◌++◌, IfOk};
 ghost use Rattle.run_model.specs.Lines.{request_words, cause_words, kind_words, refused_words, lost_words, not_sent_words, outcome_words, seen_words};
 ghost use Rattle.engine_types.specs.declared.Outcome.{Outcome};
 ghost use Rattle.engine_types.specs.declared.SeenFault.{SeenFault};
+ghost use Rattle.refusals.specs.declared.refusal.LoadRefusal.{LoadRefusal};
 ghost use Rattle.refusals.specs.declared.refusal.Refusal.{Refusal};
 ghost use Rattle.refusals.specs.declared.refusal.Unbuilt.{Unbuilt};
 ghost use Rattle.refusals.specs.Lines.{refusal_line, refusal_words, unbuilt_words, load_words, name_words, part_words};
@@ -11,6 +12,7 @@ use crate::refusal::{LoadRefusal, Part, ProjectRefusal, Refusal, Unbuilt};
 use engine_types::{Kind, Outcome, Reply, Request, SeenFault, WireEnd};
 use std::alloc::Global;
 use tree_base::{Memory, Place, Text};
+use yaml_lines::YamlRefusal;
 
 /// The line that a refusal prints, with its line feed.
 pub fn refusal_line(alloc: Global, refusal: &Refusal) -> Result<Text, Memory>
@@ -67,7 +69,15 @@ fn load_words(alloc: Global, refusal: &LoadRefusal) -> Result<Text, Memory>
         LoadRefusal::NotFound { path } => after_text(alloc, path, ": NotFound"),
         LoadRefusal::ReadFault { path } => after_text(alloc, path, ": ReadFault"),
         LoadRefusal::FileTooLarge { path } => after_text(alloc, path, ": FileTooLarge"),
+        LoadRefusal::Yaml { path, refusal } => yaml_words(alloc, path, refusal),
     }
+}
+
+fn yaml_words(alloc: Global, path: &Text, refusal: &YamlRefusal) -> Result<Text, Memory>
+    ensures { IfOk result (λ words. words ≡ load_words (LoadRefusal.Yaml path.now refusal.now)) }
+{
+    let words = format!(in alloc; "{path}:{refusal}")?;
+    Ok(Text::from_string(words))
 }
 
 fn after_text(alloc: Global, text: &Text, words: &str) -> Result<Text, Memory>

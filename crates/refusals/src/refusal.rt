@@ -1,5 +1,6 @@
 use engine_types::{Condition, LateWhy, Outcome, Report, Request, SeenFault};
 use tree_base::{Place, Text};
+use yaml_lines::YamlRefusal;
 
 /// Why a call ended otherwise than well. Each has its exit status and the line that it prints.
 #[derive(Debug, Drop)]
@@ -49,6 +50,8 @@ pub enum LoadRefusal {
     ReadFault { path: Text },
     /// The file has more bytes than the limit.
     FileTooLarge { path: Text },
+    /// The file's text is no YAML, or YAML past a limit of its reader.
+    Yaml { path: Text, refusal: YamlRefusal },
 }
 
 /// What is wrong with a project.

@@ -1,9 +1,10 @@
 ghost use Rattle.std.specs.Prelude.{◌≡◌};
 ghost use Rattle.run_model.specs.Ending.{lost_status, seen_status, outcome_status};
-ghost use Rattle.refusals.specs.Statuses.{unbuilt_status, load_status, refusal_status, status_of};
+ghost use Rattle.refusals.specs.Statuses.{unbuilt_status, yaml_status, load_status, refusal_status, status_of};
 
 use crate::refusal::{LoadRefusal, Refusal, Unbuilt};
 use engine_types::{Outcome, SeenFault, WireEnd};
+use yaml_lines::YamlRefusal;
 
 /// The exit status of a call: 0 where nothing is refused.
 pub fn status_of(refusal: &Option<Refusal>) -> u8
@@ -49,6 +50,19 @@ fn load_status(refusal: &LoadRefusal) -> u8
         LoadRefusal::NotFound { .. } => 2,
         LoadRefusal::ReadFault { .. } => 7,
         LoadRefusal::FileTooLarge { .. } => 8,
+        LoadRefusal::Yaml { refusal, .. } => yaml_status(refusal),
+    }
+}
+
+fn yaml_status(refusal: &YamlRefusal) -> u8
+    ensures { result ≡ yaml_status refusal.now }
+{
+    match refusal {
+        YamlRefusal::Bad { .. } => 2,
+        YamlRefusal::TooDeep { .. } => 8,
+        YamlRefusal::TooManyNodes { .. } => 8,
+        YamlRefusal::TooMuchText { .. } => 8,
+        YamlRefusal::Memory => 9,
     }
 }
 

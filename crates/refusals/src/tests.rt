@@ -10,6 +10,7 @@ use std::alloc::Global;
 use std::process::Abort;
 use std::test::Fail;
 use tree_base::{Memory, Place, Text};
+use yaml_lines::{YamlFault, YamlRefusal};
 
 /// A refusal has this status and prints this line.
 fn says(
@@ -59,6 +60,35 @@ fn a_file_is_named_by_its_path(rt: HostRuntime) -> Result<(), Fail> {
     let large = Refusal::Load(LoadRefusal::FileTooLarge { path });
     says(&rt, alloc, large, 8, "compose: /a: FileTooLarge\n")?;
     Ok(())
+}
+
+#[test]
+fn a_text_is_named_by_its_path_and_place(rt: HostRuntime) -> Result<(), Fail> {
+    let alloc = rt.alloc();
+    let place = Place {
+        file: 0,
+        line: 5,
+        column: 3,
+    };
+    let which = YamlFault::RepeatedKey;
+    let twice = yaml(alloc, YamlRefusal::Bad { which, place })?;
+    says(&rt, alloc, twice, 2, "compose: /a:5:3: RepeatedKey\n")?;
+    let which = YamlFault::BadUtf8;
+    let bytes = yaml(alloc, YamlRefusal::Bad { which, place })?;
+    says(&rt, alloc, bytes, 2, "compose: /a:5:3: BadUtf8\n")?;
+    let deep = yaml(alloc, YamlRefusal::TooDeep { place })?;
+    says(&rt, alloc, deep, 8, "compose: /a:5:3: TooDeep\n")?;
+    let nodes = yaml(alloc, YamlRefusal::TooManyNodes { place })?;
+    says(&rt, alloc, nodes, 8, "compose: /a:5:3: TooManyNodes\n")?;
+    let text = yaml(alloc, YamlRefusal::TooMuchText { place })?;
+    says(&rt, alloc, text, 8, "compose: /a:5:3: TooMuchText\n")?;
+    Ok(())
+}
+
+/// The file `/a` whose text is refused so.
+fn yaml(alloc: Global, refusal: YamlRefusal) -> Result<Refusal, Memory> {
+    let path = Text::from_str(alloc, "/a")?;
+    Ok(Refusal::Load(LoadRefusal::Yaml { path, refusal }))
 }
 
 #[test]

@@ -1,4 +1,0 @@
-pub mod Ascii
-pub mod Loads
-pub mod Names
-pub mod Walks

@@ -1,4 +1,0 @@
-pub mod Directories
-pub mod Loading
-pub mod OneServiceTexts
-pub mod ProjectNames

@@ -1,0 +1,14 @@
+pub mod Alike
+pub mod Ascii
+pub mod Faults
+pub mod Known
+pub mod LineLemmas
+pub mod Loads
+pub mod Names
+pub mod Ordering
+pub mod Prints
+pub mod Sorting
+pub mod Steps
+pub mod Texts
+pub mod Walks
+pub mod Words

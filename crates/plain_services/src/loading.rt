@@ -1,0 +1,140 @@
+ghost use Rattle.std.specs.Prelude.{◌≡◌, ◌≤◌, Ok, Err, IfSome, IfOk, IfErr, IsNone, map};
+ghost use Rattle.std.specs.Str.{bytes_eq};
+ghost use Rattle.std.specs.List.{IsDistinct};
+ghost use Rattle.refusals.specs.Origins.{IsBeforeDial};
+ghost use Rattle.outside_api.specs.Counts.{Rose};
+ghost use Rattle.plain_services.specs.Commands.{command_of};
+ghost use Rattle.plain_services.specs.Directories.{base_name};
+ghost use Rattle.plain_services.specs.Groups.{services_in};
+ghost use Rattle.plain_services.specs.Loading.{loaded, read, refused, spelled, named, compose_path, IsSpelled, LoadsAs};
+ghost use Rattle.plain_services.specs.Projects.{IsInOrder};
+ghost use Rattle.plain_services.specs.ProjectNames.{name_from};
+ghost use Rattle.refusals.specs.declared.Refusal.{Refusal};
+ghost use Rattle.refusals.specs.declared.LoadRefusal.{LoadRefusal};
+ghost use Rattle.refusals.specs.declared.Unbuilt.{Unbuilt};
+
+use crate::groups::{Unread, read_services};
+use crate::order::in_order;
+use crate::project::{PlainService, Project};
+use crate::{command, directory, project_name};
+use outside_api::{FileAnswer, Files};
+use refusals::{LoadRefusal, ProjectRefusal, Refusal, Unbuilt};
+use std::alloc::Global;
+use tree_base::{List, Memory, Place, Text};
+use yaml_lines::{YamlFault, YamlRefusal};
+
+/// The greatest number of bytes of a file.
+const FILE_LIMIT: u64 = 4_194_304;
+
+/// Loads the project of the Compose file in a directory, where the words are those of a command. The refusals, in their
+/// order: `NotBuilt(Words)` for other words; `Load(NotFound)` and `Load(FileTooLarge)` for the file; `NotBuilt(Text)` and
+/// `Load(Yaml)` for the first fault of its text; `Name(BadName)`. `Load(ReadFault)` comes where a read failed, and `Memory`
+/// where memory was wanted.
+pub fn load<F: Files>(
+    alloc: Global,
+    words: &List<Text>,
+    directory: &Text,
+    files: &mut F,
+) -> Result<Project, Refusal>
+    ensures told { IfSome (F.told files.old) (λ contents. LoadsAs (loaded words.now directory.now contents) result) }
+    ensures words { IsNone (command_of words.now) → result ≡ Err (Refusal.NotBuilt Unbuilt.Words) }
+
+    // Also of files that aren't told: some text spells the project, and its services are in order.
+    ensures text { IfOk result (IsSpelled directory.now) }
+    ensures order { IfOk result (λ project. IsInOrder project.services) }
+
+    // A read that failed is that of the Compose file, and was counted.
+    ensures path { (path : _) → result ≡ Err (Refusal.Load (LoadRefusal.ReadFault path)) → path ≡ compose_path directory.now }
+    ensures read { (path : _) → result ≡ Err (Refusal.Load (LoadRefusal.ReadFault path)) → Rose (F.faults files.old) (F.faults files.new) }
+    ensures kind { IfErr result IsBeforeDial }
+    ensures kept { F.told files.new ≡ F.told files.old }
+{
+    if command::command_of(words).is_none() {
+        return Err(Refusal::NotBuilt(Unbuilt::Words));
+    }
+    let Ok((path, base)) = locate(alloc, directory) else {
+        return Err(Refusal::Memory);
+    };
+    match files.read(alloc, &path, FILE_LIMIT) {
+        FileAnswer::Bytes(bytes) => project_of(alloc, path, base, bytes.as_slice()),
+        FileAnswer::Missing => Err(Refusal::Load(LoadRefusal::NotFound { path })),
+        FileAnswer::Longer => Err(Refusal::Load(LoadRefusal::FileTooLarge { path })),
+        FileAnswer::Failed => Err(Refusal::Load(LoadRefusal::ReadFault { path })),
+        FileAnswer::Memory => Err(Refusal::Memory),
+    }
+}
+
+/// The path of the Compose file in a directory, and the directory's base name.
+fn locate(alloc: Global, directory: &Text) -> Result<(Text, &str), Memory>
+    ensures path { IfOk result (λ place. place.0 ≡ compose_path directory.now) }
+    ensures base { IfOk result (λ place. place.1.now ≡ base_name directory.now) }
+{
+    let parts = directory::parts_of(alloc, directory)?;
+    let path = directory::path_in(alloc, parts.as_slice(), "compose.yaml")?;
+    let base = directory::base_name(parts.as_slice());
+    Ok((path, base))
+}
+
+/// The project that a text spells, in a directory with this base name.
+fn project_of(alloc: Global, path: Text, base: &str, bytes: &[u8]) -> Result<Project, Refusal>
+    ensures told { LoadsAs (spelled path base.now (services_in bytes.now)) result }
+    ensures order { IfOk result (λ project. IsInOrder project.services) }
+    ensures read { (path : _) → result ≡ Err (Refusal.Load (LoadRefusal.ReadFault path)) → ⊥ }
+    ensures kind { IfErr result IsBeforeDial }
+{
+    match read_services(alloc, bytes) {
+        Ok(services) => named(alloc, base, services),
+        Err(reason) => Err(refused(path, reason)),
+    }
+}
+
+/// The refusal of a text that isn't read for this reason.
+fn refused(path: Text, reason: Unread) -> Refusal
+    ensures told { result ≡ refused path reason }
+    ensures read { (path : _) → result ≡ Refusal.Load (LoadRefusal.ReadFault path) → ⊥ }
+    ensures kind { IsBeforeDial result }
+{
+    match reason {
+        Unread::NotSo { line } => {
+            let place = place(line, 1);
+            Refusal::NotBuilt(Unbuilt::Text { path, place })
+        }
+        Unread::Repeated { line } => {
+            let which = YamlFault::RepeatedKey;
+            let place = place(line, 3);
+            let refusal = YamlRefusal::Bad { which, place };
+            Refusal::Load(LoadRefusal::Yaml { path, refusal })
+        }
+        Unread::Memory => Refusal::Memory,
+    }
+}
+
+/// A place in the only file.
+fn place(line: u32, column: u32) -> Place
+    ensures { result ≡ record { file = 0; line = line; column = column } }
+{
+    Place {
+        file: 0,
+        line,
+        column,
+    }
+}
+
+fn named(alloc: Global, base: &str, services: Vec<PlainService>) -> Result<Project, Refusal>
+    requires { IsDistinct bytes_eq (map (λ service. service.name) services.items) }
+    ensures told { LoadsAs (named (name_from base.now) services.items) result }
+    ensures order { IfOk result (λ project. IsInOrder project.services) }
+    ensures read { (path : _) → result ≡ Err (Refusal.Load (LoadRefusal.ReadFault path)) → ⊥ }
+    ensures kind { IfErr result IsBeforeDial }
+{
+    let Ok(name) = project_name::name_from(alloc, base) else {
+        return Err(Refusal::Memory);
+    };
+    if name.is_empty() {
+        return Err(Refusal::Name(ProjectRefusal::BadName { name }));
+    }
+    match in_order(services) {
+        Ok(services) => Ok(Project { name, services }),
+        Err(_) => Err(Refusal::Memory),
+    }
+}
