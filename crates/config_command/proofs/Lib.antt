@@ -1,0 +1,5 @@
+pub mod Entries
+pub mod Lines
+pub mod Loads
+pub mod PlainWords
+pub mod Printed

@@ -1,0 +1,23 @@
+-- The page of a project: what `config` prints of it (the Compose Specification's names of its attributes).
+use Rattle.std.specs.Prelude.{ℕ, List, [], ◌∷◌, codes, map}
+use Rattle.plain_services.specs.declared.PlainService.{PlainService}
+use Rattle.plain_services.specs.declared.Project.{Project}
+use Rattle.project_print.specs.Pages.{page_text}
+use Rattle.project_print.specs.declared.node.Node.{Node}
+use Rattle.project_print.specs.declared.node.Node.TheVariants.{Map, Text}
+
+-- what the page shows of a service: its image, and that it has no network
+abbrev pub service_node : PlainService → Node
+service_node service = Map ((codes "image", Text service.image) ∷ (codes "network_mode", Text (codes "none")) ∷ [])
+
+-- each service under its name
+abbrev pub entry_of : PlainService → List ℕ × Node
+entry_of service = (service.name, service_node service)
+
+-- what the page shows of a project: its name, and its services in their order, keys in byte order
+abbrev pub node_of : Project → Node
+node_of project = Map ((codes "name", Text project.name) ∷ (codes "services", Map (map entry_of project.services)) ∷ [])
+
+-- the page of a project
+abbrev pub project_page : Project → List ℕ
+project_page project = page_text (node_of project)

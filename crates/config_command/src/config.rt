@@ -1,0 +1,122 @@
+ghost use Rattle.std.specs.Prelude.{◌≡◌, ◌⊎◌, ◌↔◌, Some, None, IfSome, IfOk, IfErr};
+ghost use Rattle.config_command.specs.Commands.{ForProject, GrewByPrefix, IsConfigOrNone, IsOfConfig, PrintsPage};
+ghost use Rattle.config_command.specs.ProjectPages.{project_page};
+ghost use Rattle.outside_api.specs.Counts.{Rose};
+ghost use Rattle.outside_api.specs.Sinks.{GrewBy};
+ghost use Rattle.plain_services.specs.Commands.{command_of};
+ghost use Rattle.plain_services.specs.Loading.{compose_path, loaded};
+ghost use Rattle.plain_services.specs.Projects.{IsInOrder};
+ghost use Rattle.refusals.specs.Origins.{IsOfLoading};
+ghost use Rattle.refusals.specs.Statuses.{status_of};
+ghost use Rattle.refusals.specs.declared.LoadRefusal.{LoadRefusal};
+ghost use Rattle.refusals.specs.declared.Part.{Part};
+ghost use Rattle.refusals.specs.declared.Refusal.{Refusal};
+ghost use Rattle.refusals.specs.declared.Unbuilt.{Unbuilt};
+ghost use Rattle.text_output.specs.Refused.{IsRefusal};
+ghost use Rattle.text_output.specs.Saying.{IsSaid, SaysRefusal};
+
+use crate::project_page::page_of;
+use outside_api::{Files, Sink};
+use plain_services::{Project, load};
+use refusals::{Part, Refusal, status_of};
+use std::alloc::Global;
+use text_output::{say_if_any, write_all};
+use tree_base::{Env, List, Text};
+
+/// What came of a call of `config`: the exit status, and what the call is refused with, None exactly at status 0.
+#[derive(Debug, Drop)]
+pub struct ConfigEnd {
+    pub status: u8,
+    pub refusal: Option<Refusal>,
+}
+
+/// Prints the project that the words of the command line ask for, and always returns.
+///
+/// The Compose file is `compose.yaml` in the working directory `cwd`. The page of its project is written to `out`, and
+/// the line of a refusal to `err`. No variable is read so far.
+pub fn config_run<F: Files, O: Sink, G: Sink>(
+    alloc: Global,
+    words: &List<Text>,
+    env: &Env,
+    cwd: &Text,
+    files: &mut F,
+    out: &mut O,
+    err: &mut G,
+) -> ConfigEnd
+    requires { IsConfigOrNone (command_of words.now) }
+
+    // Where the words aren't built, or the files are told, what loading refuses is what the call is refused with.
+    ensures words { command_of words.now ≡ None → IsSaid (Refusal.NotBuilt Unbuilt.Words) result.refusal }
+    ensures loading { IfSome (F.told files.old) (λ contents. IfErr (loaded words.now cwd.now contents) (λ refusal. IsRefusal refusal result.refusal)) }
+
+    // No other refusals than these come, and a fault is told only where something outside failed.
+    ensures kind { IsOfConfig result.refusal }
+    ensures path { (path : _) → result.refusal ≡ Some (Refusal.Load (LoadRefusal.ReadFault path)) → path ≡ compose_path cwd.now }
+    ensures read_fault { (path : _) → result.refusal ≡ Some (Refusal.Load (LoadRefusal.ReadFault path)) → Rose (F.faults files.old) (F.faults files.new) }
+    ensures output_fault { result.refusal ≡ Some (Refusal.Outside Part.Out) → Rose (O.faults out.old) (O.faults out.new) }
+
+    // At status 0 the page of the project was written whole, and else nothing, or a prefix of it.
+    ensures page { result.status ≡ 0 → ForProject words.now cwd.now (F.told files.old) (λ project. GrewBy (O.written out.old) (project_page project) (O.written out.new)) }
+    ensures prefix { (O.written out.new ≡ O.written out.old) ⊎ ForProject words.now cwd.now (F.told files.old) (GrewByPrefix (O.written out.old) (O.written out.new)) }
+    ensures quiet { IsOfLoading result.refusal → O.written out.new ≡ O.written out.old }
+
+    // A project that loading gives is printed, unless memory is wanted or something outside fails.
+    ensures complete { IfSome (F.told files.old) (λ contents. IfOk (loaded words.now cwd.now contents) (λ _.
+        (result.status ≡ 0) ⊎ (result.status ≡ 9) ⊎ Rose (F.faults files.old) (F.faults files.new) ⊎ Rose (O.faults out.old) (O.faults out.new))) }
+
+    // The status is that of the refusal, whose line is written to `err`.
+    ensures status { result.status ≡ status_of result.refusal }
+    ensures none { (result.refusal ≡ None) ↔ (result.status ≡ 0) }
+    ensures line { SaysRefusal result.refusal (G.written err.old) (G.written err.new) (G.faults err.old) (G.faults err.new) }
+    ensures kept { F.told files.new ≡ F.told files.old }
+{
+    let _ = env;
+    let refusal = print(alloc, words, cwd, files, out);
+    let refusal = say_if_any(alloc, refusal, err);
+    ConfigEnd {
+        status: status_of(&refusal),
+        refusal,
+    }
+}
+
+/// Loads the project and writes its page.
+fn print<F: Files, O: Sink>(
+    alloc: Global,
+    words: &List<Text>,
+    cwd: &Text,
+    files: &mut F,
+    out: &mut O,
+) -> Option<Refusal>
+    ensures words { command_of words.now ≡ None → result ≡ Some (Refusal.NotBuilt Unbuilt.Words) }
+    ensures loading { IfSome (F.told files.old) (λ contents. IfErr (loaded words.now cwd.now contents) (λ refusal. IsRefusal refusal result)) }
+    ensures kind { IsOfConfig result }
+    ensures path { (path : _) → result ≡ Some (Refusal.Load (LoadRefusal.ReadFault path)) → path ≡ compose_path cwd.now }
+    ensures read_fault { (path : _) → result ≡ Some (Refusal.Load (LoadRefusal.ReadFault path)) → Rose (F.faults files.old) (F.faults files.new) }
+    ensures output_fault { result ≡ Some (Refusal.Outside Part.Out) → Rose (O.faults out.old) (O.faults out.new) }
+    ensures page { result ≡ None → ForProject words.now cwd.now (F.told files.old) (λ project. GrewBy (O.written out.old) (project_page project) (O.written out.new)) }
+    ensures prefix { (O.written out.new ≡ O.written out.old) ⊎ ForProject words.now cwd.now (F.told files.old) (GrewByPrefix (O.written out.old) (O.written out.new)) }
+    ensures quiet { IsOfLoading result → O.written out.new ≡ O.written out.old }
+    ensures complete { IfSome (F.told files.old) (λ contents. IfOk (loaded words.now cwd.now contents) (λ _.
+        (result ≡ None) ⊎ (result ≡ Some Refusal.Memory) ⊎ Rose (F.faults files.old) (F.faults files.new) ⊎ Rose (O.faults out.old) (O.faults out.new))) }
+    ensures kept { F.told files.new ≡ F.told files.old }
+{
+    match load(alloc, words, cwd, files) {
+        Ok(project) => write_page(alloc, &project, out),
+        Err(refusal) => Some(refusal),
+    }
+}
+
+/// Writes the page of a project.
+fn write_page<O: Sink>(alloc: Global, project: &Project, out: &mut O) -> Option<Refusal>
+    requires order { IsInOrder project.now.services }
+    ensures { PrintsPage project.now result (O.written out.old) (O.written out.new) (O.faults out.old) (O.faults out.new) }
+{
+    let Ok(page) = page_of(alloc, project) else {
+        return Some(Refusal::Memory);
+    };
+    if write_all(out, page.as_str().as_bytes()) {
+        None
+    } else {
+        Some(Refusal::Outside(Part::Out))
+    }
+}

@@ -1,0 +1,16 @@
+//! The command `config`: it prints the page of the project that the words and the Compose file give.
+//!
+//! The contract of `config_run` says when the call is refused and how, that at status 0 the page was written whole, and
+//! that otherwise no more than a prefix of it was. Laws say what the page is, line by line, and where it is the text of a
+//! Compose file below the project's name.
+#![tactic(auto)]
+
+mod config;
+mod laws;
+mod project_page;
+
+pub use config::{ConfigEnd, config_run};
+pub use laws::{pages_have_their_lines, plain_pages_are_files};
+
+#[cfg(test)]
+mod tests;
