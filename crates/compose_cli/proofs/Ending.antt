@@ -1,14 +1,17 @@
 -- How a call ends that loading refuses.
 use Rattle.std.proofs.Common.{◌≡◌, ℕ, List, Some, None, Ok, Err, refl, sym, subst}
 use Rattle.std.specs.Prelude.{Option, Result, IfErr}
-use Rattle.compose_cli.specs.Ends.{IsRefusal, IsRefusedWith, IsSaid, SendsNothing}
+use Rattle.compose_cli.specs.Ends.{IsRefusedWith, SendsNothing}
 use Rattle.refusals.specs.Origins.{IsBeforeDial}
-use Rattle.one_service.specs.Loading.{LoadsAs}
+use Rattle.plain_services.specs.Loading.{LoadsAs}
 use Rattle.compose_cli.specs.declared.ended.Ended.{Ended}
-use Rattle.one_service.specs.declared.Project.{Project}
+use Rattle.plain_services.specs.declared.Project.{Project}
 use Rattle.refusals.specs.declared.LoadRefusal.{LoadRefusal}
 use Rattle.refusals.specs.declared.Part.{Part}
 use Rattle.refusals.specs.declared.Refusal.{Refusal}
+use Rattle.text_output.specs.Refused.{IsRefusal}
+use Rattle.text_output.specs.Saying.{IsSaid}
+use Rattle.text_output.proofs.Said.{said}
 
 abbrev IsRefusedAs : Result Project Refusal → Option Refusal → Type 0
 IsRefusedAs expected found = IfErr expected (λ refusal. IsRefusal refusal found)
@@ -30,6 +33,7 @@ loaded_refusal expected (Refusal.NotBuilt unbuilt) h = same expected (Refusal.No
 loaded_refusal expected (Refusal.Load (LoadRefusal.NotFound path)) h = same expected (Refusal.Load (LoadRefusal.NotFound path)) h refl
 loaded_refusal expected (Refusal.Load (LoadRefusal.ReadFault path)) h = free_read expected path
 loaded_refusal expected (Refusal.Load (LoadRefusal.FileTooLarge path)) h = same expected (Refusal.Load (LoadRefusal.FileTooLarge path)) h refl
+loaded_refusal expected (Refusal.Load (LoadRefusal.Yaml path refusal)) h = same expected (Refusal.Load (LoadRefusal.Yaml path refusal)) h refl
 loaded_refusal expected (Refusal.Name refusal) h = same expected (Refusal.Name refusal) h refl
 loaded_refusal expected (Refusal.Seen fault) h = same expected (Refusal.Seen fault) h refl
 loaded_refusal expected (Refusal.Request request outcome) h = same expected (Refusal.Request request outcome) h refl
@@ -38,19 +42,6 @@ loaded_refusal expected Refusal.Stopped h = same expected Refusal.Stopped h refl
 loaded_refusal expected (Refusal.Late why) h = same expected (Refusal.Late why) h refl
 loaded_refusal expected (Refusal.Outside part) h = same expected (Refusal.Outside part) h refl
 loaded_refusal expected Refusal.Memory h = free_memory expected
-
-pub said : (refusal : Refusal) (found : Option Refusal) → IsSaid refusal found → (P : Option Refusal → Type 0) → P (Some Refusal.Memory) → P (Some refusal) → P found
-said refusal None h P memory is = subst P (sym h) is
-said refusal (Some Refusal.Memory) h P memory is = memory
-said refusal (Some (Refusal.NotBuilt unbuilt)) h P memory is = subst P (sym h) is
-said refusal (Some (Refusal.Load load)) h P memory is = subst P (sym h) is
-said refusal (Some (Refusal.Name name)) h P memory is = subst P (sym h) is
-said refusal (Some (Refusal.Seen fault)) h P memory is = subst P (sym h) is
-said refusal (Some (Refusal.Request request outcome)) h P memory is = subst P (sym h) is
-said refusal (Some (Refusal.Condition slot condition report)) h P memory is = subst P (sym h) is
-said refusal (Some Refusal.Stopped) h P memory is = subst P (sym h) is
-said refusal (Some (Refusal.Late why)) h P memory is = subst P (sym h) is
-said refusal (Some (Refusal.Outside part)) h P memory is = subst P (sym h) is
 
 -- what loading refuses is what the call is refused with
 pub refused_as : (expected : Result Project Refusal) (refusal : Refusal) (found : Option Refusal) → LoadsAs expected (Err refusal) → IsSaid refusal found → IsRefusedAs expected found

@@ -7,33 +7,38 @@ use Rattle.engine_types.specs.declared.Outcome.{Outcome}
 use Rattle.engine_types.specs.declared.RunFault.{RunFault}
 use Rattle.engine_types.specs.declared.SeenEnd.{SeenEnd}
 use Rattle.engine_types.specs.declared.SeenFault.{SeenFault}
-use Rattle.engine_types.specs.declared.WireEnd.{WireEnd}
-use Rattle.compose_cli.specs.Ends.{IsSaid, IsSaidIfAny}
-use Rattle.compose_cli.specs.Runs.{ForProject, HoldsExactly, IsRefusalOf, IsStatusOf, IsUnbegun, LeadsOn, Reports, RunsTask}
-use Rattle.compose_cli.specs.Writing.{Says, Wrote}
-use Rattle.compose_cli.proofs.Ending.{said}
+use Rattle.compose_cli.specs.Runs.{ForTask, HoldsExactly, HoldsNone, IsRefusalOf, IsStatusOf, IsUnbegun, LeadsOn, Reports, RunsTask, aim_for, task_for}
 use Rattle.engine_types.specs.declared.Entry.{Entry}
 use Rattle.engine_types.specs.declared.Exchange.{Exchange}
 use Rattle.observe_project.specs.Exchanges.{HasCauseOfEnd, HasCauseOfFault}
-use Rattle.one_service.specs.Loading.{LoadsAs, loaded}
-use Rattle.one_service.specs.declared.Project.{Project}
+use Rattle.config_command.proofs.Loads.{for_project}
+use Rattle.plain_services.specs.Commands.{command_of}
+use Rattle.plain_services.specs.Loading.{IsSpelled, LoadsAs, loaded}
+use Rattle.plain_services.specs.declared.Project.{Project}
 use Rattle.outside_api.specs.Counts.{Rose}
 use Rattle.outside_api.specs.Files.{Contents}
 use Rattle.outside_api.specs.Hands.{BeginsWith, HasCause, Heard, HearsMore}
 use Rattle.outside_api.specs.Sinks.{GrewBy}
-use Rattle.project_run.specs.Whole.{IfBegun, IsCaused, IsFault, IsReport}
-use Rattle.project_run.specs.Worlds.{EndsExact, GoesThrough}
+use Rattle.project_run.specs.Whole.{IfBegun, IsCaused, IsFault, IsReport, SparesKept}
+use Rattle.project_run.specs.Worlds.{EndsExact, EndsGone, GoesThrough}
 use Rattle.refusals.specs.Origins.{IsOfRun, run_refusal}
 use Rattle.refusals.specs.Statuses.{refusal_status, status_of}
-use Rattle.refusals.specs.declared.LoadRefusal.{LoadRefusal}
 use Rattle.refusals.specs.declared.Part.{Part}
 use Rattle.refusals.specs.declared.Refusal.{Refusal}
-use Rattle.refusals.specs.declared.Unbuilt.{Unbuilt}
 use Rattle.run_model.specs.EngineRules.{Among}
-use Rattle.run_model.specs.Ending.{fault_status, lost_status, outcome_status, seen_status}
+use Rattle.run_model.specs.Ending.{fault_status}
 use Rattle.run_model.specs.Logs.{GrowsBy}
+use Rattle.run_model.specs.Observation.{is_up}
+use Rattle.run_model.specs.Plans.{Aim}
 use Rattle.run_model.specs.Runs.{IsRun, IsWorldOfRun, Task, run_exchanges, run_fault, run_report}
 use Rattle.run_model.specs.Worlds.{Move}
+use Rattle.plain_services.specs.declared.Command.{Command}
+use Rattle.serial_run.specs.Serial.{aim_of}
+use Rattle.serial_run.specs.declared.plan_aim as given
+use Rattle.text_output.specs.Saying.{IsSaid, IsSaidIfAny}
+use Rattle.text_output.specs.Writing.{Says, Wrote}
+use Rattle.text_output.proofs.Said.{said, unsaid}
+use Rattle.compose_cli.proofs.Statuses.{not_refused}
 
 -- a run's refusal is no refusal of loading
 pub run_origin : (fault : RunFault) → IsOfRun (Some (run_refusal fault))
@@ -172,10 +177,6 @@ if_begun_of [] a b c f = tt
 if_begun_of (entry ∷ rest) a b c f = f a b c
 
 -- a run of which nothing is refused went well
-unsaid : (refusal found : Option Refusal) → IsSaidIfAny refusal found → found ≡ None → refusal ≡ None
-unsaid None found h e = refl
-unsaid (Some refusal) found h e = let is : IsSaid refusal None = subst (IsSaid refusal) e h in absurd (cc is)
-
 unrefused : (fault : Option RunFault) (old new : ℕ) (refusal : Option Refusal) → IsRefusalOf fault old new refusal → refusal ≡ None → fault ≡ None
 unrefused None old new refusal r e = refl
 unrefused (Some fault) old new refusal (inl h) e = let bad : Some (run_refusal fault) ≡ None = sym h ∙ e in absurd (cc bad)
@@ -190,9 +191,10 @@ pub runs_task : {H : Type 0} (log : H → List Exchange) (heard : H → Option (
     (fault : Option RunFault) (refusal found : Option Refusal) (hand after : H) (written_old written_new : Option (List ℕ)) (old new : ℕ)
     → IfBegun journal (IsRun task journal) → IfBegun journal (GrowsBy (run_exchanges task journal 0) (log hand) (log after)) → IfBegun journal (IsFault (run_fault task journal) fault)
     → IsReport (run_report task journal) fault report → IsCaused journal (heard hand) (faults hand) (faults after) → HearsMore (heard hand) (heard after)
-    → (fault ≡ None → EndsExact task journal) → log hand ≡ [] → faults hand ≡ 0 → hands ≡ after ∷ [] → IsRefusalOf fault old new refusal → Says report written_old written_new old new → IsSaidIfAny refusal found
+    → (is_up task.aim.purpose ≡ true → SparesKept task journal) → (fault ≡ None → is_up task.aim.purpose ≡ true → EndsExact task journal)
+    → (fault ≡ None → is_up task.aim.purpose ≡ false → EndsGone task journal) → log hand ≡ [] → faults hand ≡ 0 → hands ≡ after ∷ [] → IsRefusalOf fault old new refusal → Says report written_old written_new old new → IsSaidIfAny refusal found
     → IfBegun journal (RunsTask log heard faults task (record { status = status; journal = journal; hands = hands; refusal = found }) written_old written_new old new)
-runs_task log heard faults task journal hands status report fault refusal found hand after written_old written_new old new is grows told reports causes hears ends unused faultless one refused says is_said =
+runs_task log heard faults task journal hands status report fault refusal found hand after written_old written_new old new is grows told reports causes hears spares ends lacks unused faultless one refused says is_said =
     if_begun_of journal is grows told (λ run grown is_fault. record {
       run = run;
       logs = λ other m. let same : other ≡ after = among_one hands after other one m in
@@ -202,7 +204,9 @@ runs_task log heard faults task journal hands status report fault refusal found 
           (caused_now journal (heard hand) (heard after) 0 (faults after) hears (subst (λ (n : ℕ). IsCaused journal (heard hand) n (faults after)) faultless causes));
       refused = refused_by old new (run_fault task journal) fault refusal found is_fault refused is_said;
       reported = reports_by old new (run_report task journal) report fault refusal found written_old written_new reports says refused is_said;
+      spares = spares;
       exact = λ e. ends (went_well fault old new refusal found refused is_said e);
+      gone = λ e. lacks (went_well fault old new refusal found refused is_said e);
     })
 
 -- the Engine that the call's one hand tells went through the run, and holds exactly what is declared
@@ -229,6 +233,19 @@ exact_by engine task journal hands began after fault empty goes ends one well ot
     let through : GoesThrough task journal began (engine after) = begun_by journal goes (λ e. let bad : None ≡ Some RunFault.Memory = sym well ∙ empty e in cc bad) in
     subst (λ (h : _). HoldsExactly task (engine h)) (sym same) (holds_by task journal began (engine after) through (ends well))
 
+lacks_by : (task : Task) (journal : List Entry) (began now : Option Engine) → GoesThrough task journal began now → EndsGone task journal → HoldsNone task now
+lacks_by task journal None now goes ends = subst (HoldsNone task) (sym goes) tt
+lacks_by task journal (Some first) None goes ends = tt
+lacks_by task journal (Some first) (Some last) goes ends = ends first last goes.0 goes.1
+
+pub gone_by : {H : Type 0} (engine : H → Option Engine) (task : Task) (journal : List Entry) (hands : List H) (began : Option Engine) (after : H) (fault : Option RunFault)
+    → (journal ≡ [] → fault ≡ Some RunFault.Memory) → IfBegun journal (GoesThrough task journal began (engine after)) → (fault ≡ None → EndsGone task journal)
+    → hands ≡ after ∷ [] → fault ≡ None → (other : H) → Among hands other → HoldsNone task (engine other)
+gone_by engine task journal hands began after fault empty goes ends one well other m =
+    let same : other ≡ after = among_one hands after other one m in
+    let through : GoesThrough task journal began (engine after) = begun_by journal goes (λ e. let bad : None ≡ Some RunFault.Memory = sym well ∙ empty e in cc bad) in
+    subst (λ (h : _). HoldsNone task (engine h)) (sym same) (lacks_by task journal began (engine after) through (ends well))
+
 -- the hand told the plug's Engine at first
 leads_by : (task : Task) (journal : List Entry) (plugged told now : Option Engine) → BeginsWith plugged told → GoesThrough task journal told now → LeadsOn task journal plugged now
 leads_by task journal None told now b g = tt
@@ -242,51 +259,6 @@ pub all_lead : {H : Type 0} (engine : H → Option Engine) (task : Task) (journa
 all_lead engine task journal hands plugged told begins goes = if_begun journal goes (λ through other m. leads_by task journal plugged told (engine other) begins (through other m))
 
 -- a call of status 0 isn't refused
-lost_not_zero : (cause : WireEnd) → lost_status cause ≡ 0 → ⊥
-lost_not_zero WireEnd.TooLarge e = absurd (cc e)
-lost_not_zero WireEnd.Fault e = absurd (cc e)
-lost_not_zero WireEnd.Ended e = absurd (cc e)
-lost_not_zero (WireEnd.Malformed at) e = absurd (cc e)
-lost_not_zero WireEnd.Encoded e = absurd (cc e)
-lost_not_zero WireEnd.BadBody e = absurd (cc e)
-
-seen_not_zero : (fault : SeenFault) → seen_status fault ≡ 0 → ⊥
-seen_not_zero (SeenFault.Lost request cause) e = lost_not_zero cause e
-seen_not_zero (SeenFault.NotSent request) e = absurd (cc e)
-seen_not_zero (SeenFault.TooManyActions count) e = absurd (cc e)
-seen_not_zero SeenFault.Memory e = absurd (cc e)
-seen_not_zero (SeenFault.RequestFailed request status message) e = absurd (cc e)
-seen_not_zero (SeenFault.PullFailed image message) e = absurd (cc e)
-seen_not_zero (SeenFault.NetworkTwice name first second) e = absurd (cc e)
-seen_not_zero (SeenFault.ForeignNetwork name id) e = absurd (cc e)
-seen_not_zero (SeenFault.ExternalMissing kind name) e = absurd (cc e)
-seen_not_zero (SeenFault.NeedsBuild service) e = absurd (cc e)
-
-outcome_not_zero : (outcome : Outcome) → outcome_status outcome ≡ 0 → ⊥
-outcome_not_zero (Outcome.Answered reply) e = absurd (cc e)
-outcome_not_zero (Outcome.Lost cause) e = lost_not_zero cause e
-outcome_not_zero Outcome.NotSent e = absurd (cc e)
-outcome_not_zero Outcome.Memory e = absurd (cc e)
-
-refusal_not_zero : (refusal : Refusal) → refusal_status refusal ≡ 0 → ⊥
-refusal_not_zero (Refusal.NotBuilt Unbuilt.Words) e = absurd (cc e)
-refusal_not_zero (Refusal.NotBuilt (Unbuilt.Text path place)) e = absurd (cc e)
-refusal_not_zero (Refusal.Load (LoadRefusal.NotFound path)) e = absurd (cc e)
-refusal_not_zero (Refusal.Load (LoadRefusal.ReadFault path)) e = absurd (cc e)
-refusal_not_zero (Refusal.Load (LoadRefusal.FileTooLarge path)) e = absurd (cc e)
-refusal_not_zero (Refusal.Name refusal) e = absurd (cc e)
-refusal_not_zero (Refusal.Seen fault) e = seen_not_zero fault e
-refusal_not_zero (Refusal.Request request outcome) e = outcome_not_zero outcome e
-refusal_not_zero (Refusal.Condition slot condition report) e = absurd (cc e)
-refusal_not_zero Refusal.Stopped e = absurd (cc e)
-refusal_not_zero (Refusal.Late why) e = absurd (cc e)
-refusal_not_zero (Refusal.Outside part) e = absurd (cc e)
-refusal_not_zero Refusal.Memory e = absurd (cc e)
-
-pub not_refused : (refusal : Option Refusal) (status : ℕ) → status ≡ status_of refusal → status ≡ 0 → refusal ≡ None
-not_refused None status e z = refl
-not_refused (Some refusal) status e z = absurd (refusal_not_zero refusal (sym e ∙ z))
-
 pub said_not_zero : (refusal : Refusal) (found : Option Refusal) (status : ℕ) → IsSaid refusal found → status ≡ status_of found → status ≡ 0 → ⊥
 said_not_zero refusal found status h e z =
     let none : found ≡ None = not_refused found status e z in
@@ -295,8 +267,12 @@ said_not_zero refusal found status h e z =
 pub has_begun : (journal : List Entry) {A : Type 0} (refusal : Option Refusal) → (journal ≡ [] → IsUnbegun refusal) → refusal ≡ None → IfBegun journal A → A
 has_begun journal refusal unbegun e a = begun_by journal a (λ n. subst IsUnbegun e (unbegun n))
 
--- a fact on the project that was loaded
-pub for_project : (words : List (List ℕ)) (cwd : List ℕ) (told : Option Contents) (project : Project) (Fact : Project → Type 0)
-    → IfSome told (λ contents. LoadsAs (loaded words cwd contents) (Ok project)) → Fact project → ForProject words cwd told Fact
-for_project words cwd None project Fact loads fact = (project, fact)
-for_project words cwd (Some contents) project Fact loads fact = (project, sym loads, fact)
+-- a fact on the task that the words ask for of the project that was loaded
+pub for_task : (words : List (List ℕ)) (cwd : List ℕ) (told : Option Contents) (aim : Aim) (project : Project) (Fact : Task → Type 0) → aim_for (command_of words) ≡ Some aim
+    → IfSome told (λ contents. LoadsAs (loaded words cwd contents) (Ok project)) → IsSpelled cwd project → Fact (task_for aim project) → ForTask words cwd told Fact
+for_task words cwd told aim project Fact asked loads spelled fact = rw asked (for_project words cwd told project (λ p. Fact (task_for aim p)) loads spelled fact)
+
+-- what the words' run is for, by the calls that found it
+pub asked : (command : Option Command) (words : List (List ℕ)) (found : Option given.Aim.Aim) (aim : given.Aim.Aim) → command ≡ command_of words → option_map aim_of found ≡ aim_for command → found ≡ Some aim
+    → aim_for (command_of words) ≡ Some (aim_of aim)
+asked command words found aim is finds e = sym (ap aim_for is) ∙ (sym finds ∙ ap (option_map aim_of) e)

@@ -1,37 +1,53 @@
 -- What a call leaves that ran a project.
-use Rattle.std.specs.Prelude.{◌≡◌, ◌⊎◌, ◌≤◌, ℕ, Bool, false, List, [], ◌∷◌, Option, Some, None, IfSome, Result, Ok, length, option_map, take}
+use Rattle.std.specs.Prelude.{◌≡◌, ◌⊎◌, ◌≤◌, ℕ, true, false, List, [], Option, Some, None, IfSome, length, option_map, take}
 use Rattle.engine_types.specs.declared.Engine.{Engine}
 use Rattle.engine_types.specs.declared.Entry.{Entry}
 use Rattle.engine_types.specs.declared.Exchange.{Exchange}
+use Rattle.engine_types.specs.declared.Purpose.{Purpose}
 use Rattle.engine_types.specs.declared.RunFault.{RunFault}
-use Rattle.compose_cli.specs.Writing.{Says}
 use Rattle.compose_cli.specs.declared.ended.Ended.{Ended}
+use Rattle.config_command.specs.Commands.{ForProject}
 use Rattle.identity.specs.Declaring.{declared_of}
-use Rattle.one_service.specs.Loading.{loaded}
-use Rattle.one_service.specs.declared.Project.{Project}
 use Rattle.outside_api.specs.Counts.{Rose}
 use Rattle.outside_api.specs.Files.{Contents}
 use Rattle.outside_api.specs.Hands.{Heard}
 use Rattle.outside_api.specs.Sinks.{GrewBy}
-use Rattle.project_run.specs.Whole.{IsCaused, SparesKept, upping}
-use Rattle.project_run.specs.Worlds.{EndsExact}
+use Rattle.plain_services.specs.Commands.{command_of}
+use Rattle.plain_services.specs.declared.Command.{Command}
+use Rattle.plain_services.specs.declared.Project.{Project}
+use Rattle.project_run.specs.Whole.{IfBegun, IsCaused, SparesKept, task_of}
+use Rattle.project_run.specs.Worlds.{EndsExact, EndsGone}
 use Rattle.refusals.specs.Origins.{run_refusal}
 use Rattle.refusals.specs.declared.Part.{Part}
 use Rattle.refusals.specs.declared.Refusal.{Refusal}
 use Rattle.run_model.specs.EngineRules.{Among}
-use Rattle.run_model.specs.Exact.{IsExact}
+use Rattle.run_model.specs.Exact.{IsExact, IsGone}
 use Rattle.run_model.specs.Logs.{GrowsBy}
+use Rattle.run_model.specs.Observation.{is_up}
+use Rattle.run_model.specs.Plans.{Aim}
 use Rattle.run_model.specs.Runs.{IsRun, IsWorldOfRun, Task, run_exchanges, run_fault, run_report}
 use Rattle.run_model.specs.Worlds.{Move}
+use Rattle.text_output.specs.Writing.{Says}
 
--- to bring up what a project declares; orphans stay
-abbrev pub up_of : Project → Task
-up_of project = upping (declared_of project) false
+-- what a command's run is for: `up` and `down` leave volumes; `config` and other words run nothing
+abbrev pub aim_for : Option Command → Option Aim
+aim_for (Some (Command.Up orphans)) = Some (record { purpose = Purpose.Up; orphans = orphans; volumes = false })
+aim_for (Some (Command.Down orphans)) = Some (record { purpose = Purpose.Down; orphans = orphans; volumes = false })
+aim_for (Some Command.Config) = None
+aim_for None = None
 
--- a fact on the project that a call runs: the one that its words and its files give where the files are told, else some project
-abbrev pub ForProject : List (List ℕ) → List ℕ → Option Contents → (Project → Type 0) → Type 0
-ForProject words cwd None Fact = (project : Project) × Fact project
-ForProject words cwd (Some contents) Fact = (project : Project) × (loaded words cwd contents ≡ Ok project) × Fact project
+-- a fact on what the words' run is for, where they run anything
+abbrev pub IfRuns : List (List ℕ) → (Aim → Type 0) → Type 0
+IfRuns words Fact = IfSome (aim_for (command_of words)) Fact
+
+-- to do with what a project declares what a run is for
+abbrev pub task_for : Aim → Project → Task
+task_for aim project = task_of (declared_of project) aim
+
+-- a fact on the task that a call runs: what its words ask for, of the project that they and its files give where the files are
+-- told, else of some project
+abbrev pub ForTask : List (List ℕ) → List ℕ → Option Contents → (Task → Type 0) → Type 0
+ForTask words cwd told Fact = IfRuns words (λ aim. ForProject words cwd told (λ project. Fact (task_for aim project)))
 
 -- what a call is refused with whose run has this fault, if any: that fault, or a fault of the output where the run has none, or
 -- want of memory
@@ -67,6 +83,10 @@ LeadsOn task journal began now = IfSome began (λ first. IfSome now (λ last. (m
 abbrev pub HoldsExactly : Task → Option Engine → Type 0
 HoldsExactly task now = IfSome now (λ engine. IsExact task.declared engine task.aim.orphans)
 
+-- where an Engine is told, all that the task declares is gone
+abbrev pub HoldsNone : Task → Option Engine → Type 0
+HoldsNone task now = IfSome now (λ engine. IsGone task.declared engine task.aim.orphans task.aim.volumes)
+
 -- a call ran a task: its journal, what its hand tells, its refusal, and what it wrote
 pub record RunsTask {H : Type 0} (log : H → List Exchange) (heard : H → Option (List Heard)) (faults : H → ℕ) (task : Task) (ended : Ended H)
     (written_old written_new : Option (List ℕ)) (faults_old faults_new : ℕ) : Type 0 where
@@ -75,4 +95,12 @@ pub record RunsTask {H : Type 0} (log : H → List Exchange) (heard : H → Opti
   pub caused : (hand : H) → Among ended.hands hand → IsCaused ended.journal (heard hand) 0 (faults hand)
   pub refused : IsRefusalOf (run_fault task ended.journal) faults_old faults_new ended.refusal
   pub reported : Reports (run_report task ended.journal) ended.refusal written_old written_new faults_old faults_new
-  pub exact : ended.refusal ≡ None → EndsExact task ended.journal
+  pub spares : is_up task.aim.purpose ≡ true → SparesKept task ended.journal
+  pub exact : ended.refusal ≡ None → is_up task.aim.purpose ≡ true → EndsExact task ended.journal
+  pub gone : ended.refusal ≡ None → is_up task.aim.purpose ≡ false → EndsGone task ended.journal
+
+-- what became of the Engine that a call's hand tells, and that its plug told at first
+pub record MovesEngine {H : Type 0} (engine : H → Option Engine) (task : Task) (ended : Ended H) (began : Option Engine) : Type 0 where
+  pub leads : IfBegun ended.journal ((hand : H) → Among ended.hands hand → LeadsOn task ended.journal began (engine hand))
+  pub exact : ended.refusal ≡ None → is_up task.aim.purpose ≡ true → (hand : H) → Among ended.hands hand → HoldsExactly task (engine hand)
+  pub gone : ended.refusal ≡ None → is_up task.aim.purpose ≡ false → (hand : H) → Among ended.hands hand → HoldsNone task (engine hand)

@@ -1,34 +1,36 @@
-ghost use Rattle.std.specs.Prelude.{◌≡◌, ◌+◌, ◌<◌, ◌^◌, [], Some, None, if◌then◌else◌, false, length, vec_len, vec_capacity};
+ghost use Rattle.std.specs.Prelude.{◌≡◌, ◌+◌, ◌<◌, ◌^◌, [], Some, None, if◌then◌else◌, true, false, length, vec_len, vec_capacity};
 ghost use Rattle.std.specs.Option.{ForSome};
-ghost use Rattle.compose_cli.specs.Ends.{CountsHands, IsSaid, SaysRefusal, SendsNothing};
-ghost use Rattle.compose_cli.specs.Runs.{HoldsExactly, IsRefusalOf, IsUnbegun, LeadsOn, RunsTask};
-ghost use Rattle.compose_cli.specs.Writing.{Says};
+ghost use Rattle.compose_cli.specs.Ends.{CountsHands, SendsNothing};
+ghost use Rattle.compose_cli.specs.Runs.{HoldsExactly, HoldsNone, IsRefusalOf, IsUnbegun, MovesEngine, RunsTask};
 ghost use Rattle.outside_api.specs.Counts.{Rose};
-ghost use Rattle.project_run.specs.Whole.{IfBegun, SparesKept, upping};
+ghost use Rattle.project_run.specs.Whole.{IfBegun, task_of};
 ghost use Rattle.project_run.specs.Worlds.{GoesThrough};
 ghost use Rattle.refusals.specs.Origins.{IsOfLoading, IsOfRun};
 ghost use Rattle.refusals.specs.Statuses.{status_of};
 ghost use Rattle.refusals.specs.declared.Part.{Part};
 ghost use Rattle.refusals.specs.declared.Refusal.{Refusal};
 ghost use Rattle.run_model.specs.EngineRules.{Among};
+ghost use Rattle.run_model.specs.Observation.{is_up};
 ghost use Rattle.run_model.specs.Plans.{IsWhole};
-ghost use Rattle.serial_run.specs.Serial.{NeedsNoSlot};
+ghost use Rattle.serial_run.specs.Serial.{NeedsNoSlot, aim_of};
+ghost use Rattle.text_output.specs.Saying.{IsSaid, SaysRefusal};
+ghost use Rattle.text_output.specs.Writing.{Says};
 ghost use Rattle.world_laws.specs.OwnSpecs.{HasOwnSpecs};
 
 use crate::ended::Ended;
-use crate::saying::{say, say_if_any};
-use crate::writing::write_all;
 use engine_types::{Declared, RunFault};
 use outside_api::{DialAnswer, Hand, Plug, Sink, Target};
-use project_run::{Ran, bring_up};
+use project_run::{Aim, Ran, run_project};
 use refusals::{Part, Refusal, refusal_of, refusal_status, status_of};
 use std::alloc::Global;
+use text_output::{say, say_if_any, write_all};
 use tree_base::{List, Text};
 
-/// Dials the hand and brings up what is declared with it.
+/// Dials the hand, and does with it what an aim asks for of what is declared.
 pub(crate) fn run_declared<P: Plug, O: Sink, G: Sink>(
     alloc: Global,
     declared: &Declared,
+    aim: Aim,
     plug: &mut P,
     out: &mut O,
     err: &mut G,
@@ -42,11 +44,9 @@ pub(crate) fn run_declared<P: Plug, O: Sink, G: Sink>(
     ensures dialled { CountsHands (P.dialled plug.old) (P.dialled plug.new) (length result.hands) }
     ensures unbegun { result.journal ≡ [] → IsUnbegun result.refusal }
     ensures unsent { result.journal ≡ [] → (hand : P.Hand) → Among result.hands hand → P.Hand.log hand ≡ [] }
-    ensures ran { IfBegun result.journal (RunsTask (λ h. P.Hand.log h) (λ h. P.Hand.heard h) (λ h. P.Hand.faults h) (upping declared.now false) result
+    ensures ran { IfBegun result.journal (RunsTask (λ h. P.Hand.log h) (λ h. P.Hand.heard h) (λ h. P.Hand.faults h) (task_of declared.now (aim_of aim)) result
         (O.written out.old) (O.written out.new) (O.faults out.old) (O.faults out.new)) }
-    ensures spares { SparesKept (upping declared.now false) result.journal }
-    ensures leads { IfBegun result.journal ((hand : P.Hand) → Among result.hands hand → LeadsOn (upping declared.now false) result.journal (P.engine plug.old) (P.Hand.engine hand)) }
-    ensures holds { result.refusal ≡ None → (hand : P.Hand) → Among result.hands hand → HoldsExactly (upping declared.now false) (P.Hand.engine hand) }
+    ensures engine { MovesEngine (λ h. P.Hand.engine h) (task_of declared.now (aim_of aim)) result (P.engine plug.old) }
     ensures status { result.status ≡ status_of result.refusal }
     ensures line { SaysRefusal result.refusal (G.written err.old) (G.written err.new) (G.faults err.old) (G.faults err.new) }
     ensures quiet { result.refusal ≡ Some (Refusal.Outside Part.Plug) → O.written out.new ≡ O.written out.old }
@@ -55,7 +55,7 @@ pub(crate) fn run_declared<P: Plug, O: Sink, G: Sink>(
         return refused(alloc, Refusal::Memory, err);
     };
     match plug.dial(alloc, &Target::InMemory, None, 0) {
-        DialAnswer::Dialled(hand) => run_with(alloc, declared, hand, hands, out, err),
+        DialAnswer::Dialled(hand) => run_with(alloc, declared, aim, hand, hands, out, err),
         DialAnswer::Failed => refused(alloc, Refusal::Outside(Part::Plug), err),
         DialAnswer::Memory => refused(alloc, Refusal::Memory, err),
     }
@@ -77,10 +77,11 @@ pub(crate) fn refused<H, G: Sink>(alloc: Global, refusal: Refusal, err: &mut G) 
     }
 }
 
-/// Brings up what is declared with a new hand, writes the report, and hands the hand back.
+/// Does what an aim asks for with a new hand, writes the report, and hands the hand back.
 fn run_with<H: Hand, O: Sink, G: Sink>(
     alloc: Global,
     declared: &Declared,
+    aim: Aim,
     mut hand: H,
     mut hands: Vec<H>,
     out: &mut O,
@@ -97,11 +98,11 @@ fn run_with<H: Hand, O: Sink, G: Sink>(
     ensures origin { IsOfRun result.refusal }
     ensures unbegun { result.journal ≡ [] → IsUnbegun result.refusal }
     ensures unsent { result.journal ≡ [] → (hand : H) → Among result.hands hand → H.log hand ≡ [] }
-    ensures ran { IfBegun result.journal (RunsTask (λ h. H.log h) (λ h. H.heard h) (λ h. H.faults h) (upping declared.now false) result
+    ensures ran { IfBegun result.journal (RunsTask (λ h. H.log h) (λ h. H.heard h) (λ h. H.faults h) (task_of declared.now (aim_of aim)) result
         (O.written out.old) (O.written out.new) (O.faults out.old) (O.faults out.new)) }
-    ensures spares { SparesKept (upping declared.now false) result.journal }
-    ensures through { IfBegun result.journal ((other : H) → Among result.hands other → GoesThrough (upping declared.now false) result.journal (H.engine hand) (H.engine other)) }
-    ensures holds { result.refusal ≡ None → (other : H) → Among result.hands other → HoldsExactly (upping declared.now false) (H.engine other) }
+    ensures through { IfBegun result.journal ((other : H) → Among result.hands other → GoesThrough (task_of declared.now (aim_of aim)) result.journal (H.engine hand) (H.engine other)) }
+    ensures exact { result.refusal ≡ None → is_up aim.purpose ≡ true → (other : H) → Among result.hands other → HoldsExactly (task_of declared.now (aim_of aim)) (H.engine other) }
+    ensures gone { result.refusal ≡ None → is_up aim.purpose ≡ false → (other : H) → Among result.hands other → HoldsNone (task_of declared.now (aim_of aim)) (H.engine other) }
     ensures status { result.status ≡ status_of result.refusal }
     ensures line { SaysRefusal result.refusal (G.written err.old) (G.written err.new) (G.faults err.old) (G.faults err.new) }
 {
@@ -109,7 +110,7 @@ fn run_with<H: Hand, O: Sink, G: Sink>(
         journal,
         report,
         fault,
-    } = bring_up(alloc, &mut hand, declared, false);
+    } = run_project(alloc, &mut hand, declared, aim);
     hands.push(hand).unwrap();
     let refusal = say_if_any(alloc, write_report(fault, &report, out), err);
     Ended {

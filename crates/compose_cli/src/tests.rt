@@ -5,8 +5,8 @@ use engine_hand::{MemoryHand, MemoryPlug};
 use engine_types::{Engine, Entry, ImageRow, Request};
 use identity::declare;
 use memory_engine::{Catalogue, FaultPlan, LostAt, MemoryEngine};
-use one_service::Project;
 use outside_api::{DialAnswer, MemoryFiles, MemorySink, Plug, Target};
+use plain_services::{PlainService, Project};
 use std::alloc::Global;
 use std::str;
 use std::test::Fail;
@@ -14,6 +14,10 @@ use tree_base::{Env, List, Memory, Text, TextMap};
 use world_laws::exact;
 
 const ONE_SERVICE: &str = "services:\n  web:\n    image: nginx:1.25\n    network_mode: none\n";
+
+/// The one service and another one, which stands before it.
+const TWO_SERVICES: &str =
+    "services:\n  web:\n    image: nginx:1.25\n    network_mode: none\n  db:\n    image: nginx:1.25\n    network_mode: none\n";
 
 /// Words that are parted by spaces.
 fn words_of(alloc: Global, line: &str) -> Result<List<Text>, Memory> {
@@ -77,12 +81,20 @@ fn push_written(said: &mut Text, mark: &str, sink: &MemorySink) -> Result<(), Me
     }
 }
 
-/// The project `shop` with the service of the one file.
+fn web(alloc: Global) -> Result<PlainService, Memory> {
+    Ok(PlainService {
+        name: Text::from_str(alloc, "web")?,
+        image: Text::from_str(alloc, "nginx:1.25")?,
+    })
+}
+
+/// The project `shop` with the one service.
 fn shop(alloc: Global) -> Result<Project, Memory> {
+    let mut services = List::new(alloc);
+    services.push(web(alloc)?)?;
     Ok(Project {
         name: Text::from_str(alloc, "shop")?,
-        service: Text::from_str(alloc, "web")?,
-        image: Text::from_str(alloc, "nginx:1.25")?,
+        services,
     })
 }
 
@@ -220,7 +232,13 @@ fn one_service_comes_up(rt: HostRuntime) -> Result<(), Fail> {
 
 #[test]
 fn other_words_are_refused(rt: HostRuntime) -> Result<(), Fail> {
-    for line in ["", "up --memory", "--memory up x"] {
+    for line in [
+        "",
+        "up --memory",
+        "--memory up x",
+        "config x",
+        "--memory down --volumes",
+    ] {
         let path = "/w/shop/compose.yaml";
         let said = says(rt.alloc(), line, "/w/shop", path, ONE_SERVICE)?;
         assert_eq!(rt;
@@ -296,34 +314,42 @@ fn a_plug_that_has_no_hand_left_is_a_fault(rt: HostRuntime) -> Result<(), Fail> 
     Ok(())
 }
 
-/// Brings the one service up on an Engine, with an output.
-fn up_into(alloc: Global, engine: MemoryEngine, out: &mut MemorySink) -> Result<Called, Memory> {
-    let mut files = one_file(alloc, "/w/shop/compose.yaml", ONE_SERVICE, false)?;
+/// Makes a call in the project's directory on an Engine, with an output.
+fn call_into(
+    alloc: Global,
+    line: &str,
+    text: &str,
+    engine: MemoryEngine,
+    out: &mut MemorySink,
+) -> Result<Called, Memory> {
+    let mut files = one_file(alloc, "/w/shop/compose.yaml", text, false)?;
     let mut plug = MemoryPlug::new(engine, 1);
-    call_with(
-        alloc,
-        "--memory up",
-        "/w/shop",
-        &mut files,
-        &mut plug,
-        0,
-        out,
-    )
+    call_with(alloc, line, "/w/shop", &mut files, &mut plug, 0, out)
+}
+
+/// Makes a call in the project's directory on an Engine.
+fn call_on(alloc: Global, line: &str, text: &str, engine: MemoryEngine) -> Result<Called, Memory> {
+    let mut out = MemorySink::new(alloc, 4096, List::new(alloc))?;
+    call_into(alloc, line, text, engine, &mut out)
+}
+
+/// Makes a call on the Engine that another one left.
+fn call_after(alloc: Global, line: &str, text: &str, called: Called) -> Result<Called, Memory> {
+    let Called { engine, .. } = called;
+    match engine {
+        Some(engine) => call_on(alloc, line, text, engine),
+        None => Err(Memory),
+    }
 }
 
 /// Brings the one service up on an Engine.
 fn up(alloc: Global, engine: MemoryEngine) -> Result<Called, Memory> {
-    let mut out = MemorySink::new(alloc, 4096, List::new(alloc))?;
-    up_into(alloc, engine, &mut out)
+    call_on(alloc, "--memory up", ONE_SERVICE, engine)
 }
 
 /// Brings the one service up again, on the Engine that a call left.
 fn up_again(alloc: Global, called: Called) -> Result<Text, Memory> {
-    let Called { engine, .. } = called;
-    match engine {
-        Some(engine) => Ok(up(alloc, engine)?.said),
-        None => Text::from_str(alloc, "no Engine"),
-    }
+    Ok(call_after(alloc, "--memory up", ONE_SERVICE, called)?.said)
 }
 
 fn up_twice(alloc: Global) -> Result<Text, Memory> {
@@ -494,7 +520,8 @@ fn up_into_a_failing_output(alloc: Global) -> Result<Text, Memory> {
     let mut failing = List::new(alloc);
     failing.push(1)?;
     let mut out = MemorySink::new(alloc, 4096, failing)?;
-    Ok(up_into(alloc, MemoryEngine::fresh(alloc)?, &mut out)?.said)
+    let engine = MemoryEngine::fresh(alloc)?;
+    Ok(call_into(alloc, "--memory up", ONE_SERVICE, engine, &mut out)?.said)
 }
 
 #[test]
@@ -519,6 +546,86 @@ fn a_request_that_is_not_sent_is_a_fault(rt: HostRuntime) -> Result<(), Fail> {
     assert_eq!(rt;
         said.as_str(),
         "7 journal S hand L out  err compose: not sent: list containers\n"
+    );
+    Ok(())
+}
+
+/// Brings the services of a text up on a fresh Engine.
+fn up_first(alloc: Global, text: &str) -> Result<Called, Memory> {
+    call_on(alloc, "--memory up", text, MemoryEngine::fresh(alloc)?)
+}
+
+/// What a call says on the Engine that `up` of a text left.
+fn said_after_up(alloc: Global, up: &str, line: &str, text: &str) -> Result<Text, Memory> {
+    let first = up_first(alloc, up)?;
+    Ok(call_after(alloc, line, text, first)?.said)
+}
+
+fn down_twice(alloc: Global) -> Result<Text, Memory> {
+    let first = up_first(alloc, ONE_SERVICE)?;
+    let second = call_after(alloc, "--memory down", ONE_SERVICE, first)?;
+    Ok(call_after(alloc, "--memory down", ONE_SERVICE, second)?.said)
+}
+
+#[test]
+fn the_service_goes_down(rt: HostRuntime) -> Result<(), Fail> {
+    let said = said_after_up(rt.alloc(), ONE_SERVICE, "--memory down", ONE_SERVICE)?;
+    assert_eq!(rt;
+        said.as_str(),
+        "0 journal SCECEL hand LHR out container shop-web-1 stopped\ncontainer shop-web-1 removed\n err "
+    );
+    Ok(())
+}
+
+#[test]
+fn down_again_changes_nothing(rt: HostRuntime) -> Result<(), Fail> {
+    let said = down_twice(rt.alloc())?;
+    assert_eq!(rt; said.as_str(), "0 journal SL hand L out  err ");
+    Ok(())
+}
+
+#[test]
+fn two_services_come_up_in_order(rt: HostRuntime) -> Result<(), Fail> {
+    let path = "/w/shop/compose.yaml";
+    let said = says(rt.alloc(), "--memory up", "/w/shop", path, TWO_SERVICES)?;
+    assert_eq!(rt;
+        said.as_str(),
+        "0 journal SCECECECEL hand LIPICCSS exact out container shop-db-1 created\ncontainer shop-web-1 created\ncontainer shop-db-1 started\ncontainer shop-web-1 started\n err "
+    );
+    Ok(())
+}
+
+#[test]
+fn an_orphan_goes_where_that_is_asked_for(rt: HostRuntime) -> Result<(), Fail> {
+    let alloc = rt.alloc();
+    for (line, expected) in [
+        ("--memory up", "0 journal SL hand LI exact out  err "),
+        (
+            "--memory up --remove-orphans",
+            "0 journal SCECEL hand LIHR exact out container shop-db-1 stopped\ncontainer shop-db-1 removed\n err ",
+        ),
+        (
+            "--memory down",
+            "0 journal SCECEL hand LHR out container shop-web-1 stopped\ncontainer shop-web-1 removed\n err ",
+        ),
+        (
+            "--memory down --remove-orphans",
+            "0 journal SCECECECEL hand LHRHR out container shop-db-1 stopped\ncontainer shop-db-1 removed\ncontainer shop-web-1 stopped\ncontainer shop-web-1 removed\n err ",
+        ),
+    ] {
+        let said = said_after_up(alloc, TWO_SERVICES, line, ONE_SERVICE)?;
+        assert_eq!(rt; said.as_str(), expected);
+    }
+    Ok(())
+}
+
+#[test]
+fn config_prints_the_project_and_sends_nothing(rt: HostRuntime) -> Result<(), Fail> {
+    let path = "/w/shop/compose.yaml";
+    let said = says(rt.alloc(), "config", "/w/shop", path, ONE_SERVICE)?;
+    assert_eq!(rt;
+        said.as_str(),
+        "0 journal  out name: shop\nservices:\n  web:\n    image: nginx:1.25\n    network_mode: none\n err "
     );
     Ok(())
 }

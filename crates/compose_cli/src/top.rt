@@ -1,12 +1,17 @@
-ghost use Rattle.std.specs.Prelude.{◌≡◌, ◌<◌, ◌^◌, [], Some, None, IfSome, IfErr, length, false};
+ghost use Rattle.std.specs.Prelude.{◌≡◌, ◌⊎◌, ◌<◌, ◌^◌, [], Some, None, IfSome, IfErr, length, true, false, option_map};
 ghost use Rattle.std.specs.Option.{ForSome};
-ghost use Rattle.compose_cli.specs.Ends.{CountsHands, IsRefusedWith, SaysRefusal, SendsNothing};
-ghost use Rattle.compose_cli.specs.Runs.{ForProject, HoldsExactly, IsRefusalOf, IsStatusOf, IsUnbegun, LeadsOn, Reports, RunsTask, up_of};
-ghost use Rattle.identity.specs.Declaring.{declared_of};
-ghost use Rattle.one_service.specs.Loading.{are_built, loaded};
+ghost use Rattle.compose_cli.specs.Ends.{CountsHands, IsRefusedWith, SendsNothing};
+ghost use Rattle.compose_cli.specs.Runs.{ForTask, HoldsExactly, HoldsNone, IfRuns, IsRefusalOf, IsStatusOf, IsUnbegun, LeadsOn, MovesEngine, Reports, RunsTask, aim_for, task_for};
+ghost use Rattle.config_command.specs.Commands.{ForProject, GrewByPrefix};
+ghost use Rattle.config_command.specs.ProjectPages.{project_page};
 ghost use Rattle.outside_api.specs.Counts.{Rose};
+ghost use Rattle.outside_api.specs.Sinks.{GrewBy};
+ghost use Rattle.plain_services.specs.Commands.{command_of};
+ghost use Rattle.plain_services.specs.Loading.{loaded};
+ghost use Rattle.plain_services.specs.Projects.{IsInOrder};
+ghost use Rattle.plain_services.specs.declared.Command.{Command};
 ghost use Rattle.project_run.specs.Whole.{IfBegun, IsCaused, SparesKept};
-ghost use Rattle.project_run.specs.Worlds.{EndsExact};
+ghost use Rattle.project_run.specs.Worlds.{EndsExact, EndsGone};
 ghost use Rattle.refusals.specs.Origins.{IsOfLoading};
 ghost use Rattle.refusals.specs.Statuses.{status_of};
 ghost use Rattle.refusals.specs.declared.LoadRefusal.{LoadRefusal};
@@ -15,22 +20,29 @@ ghost use Rattle.refusals.specs.declared.Refusal.{Refusal};
 ghost use Rattle.refusals.specs.declared.Unbuilt.{Unbuilt};
 ghost use Rattle.run_model.specs.EngineRules.{Among};
 ghost use Rattle.run_model.specs.Logs.{GrowsBy};
+ghost use Rattle.run_model.specs.Observation.{is_up};
 ghost use Rattle.run_model.specs.Runs.{IsRun, run_exchanges, run_fault, run_report, run_status};
+ghost use Rattle.serial_run.specs.Serial.{aim_of};
+ghost use Rattle.text_output.specs.Saying.{SaysRefusal};
 
 use crate::ended::Ended;
 use crate::run::{refused, run_declared};
+use config_command::{ConfigEnd, config_run};
+use engine_types::Purpose;
 use identity::declare;
-use one_service::{Project, load};
 use outside_api::{Files, Plug, Sink};
+use plain_services::{Command, Project, command_of, load};
+use project_run::Aim;
 use refusals::Refusal;
 use std::alloc::Global;
 use tree_base::{Env, List, Text};
 
 /// Does what the words of the command line ask for, with one hand. It waits for nobody, and always returns.
 ///
-/// So far the words `--memory up` are built: the Compose file `compose.yaml` in the working directory, with
-/// one service by its image and without a network, is brought up on an Engine in memory. The report is
-/// written to `out`, one line for each action that ended well, and the line of a refusal to `err`.
+/// So far these words are built: `config`, which writes the project's page to `out`; and `--memory up` and `--memory down`, each
+/// also followed by `--remove-orphans`, which bring the project of the Compose file `compose.yaml` in the working
+/// directory up, or take it down, on an Engine in memory. The report of a run is written to `out`, one line for each
+/// action that ended well, and the line of a refusal to `err`.
 pub fn serial_main<F: Files, P: Plug, O: Sink, G: Sink>(
     alloc: Global,
     words: &List<Text>,
@@ -44,81 +56,131 @@ pub fn serial_main<F: Files, P: Plug, O: Sink, G: Sink>(
     requires { ForSome (P.dialled plug.old) (λ n. n < 2 ^ 61) }
 
     // Where the words aren't built, or the files are told, what loading refuses is what the call is refused with.
-    ensures words { are_built words.now ≡ false → IsRefusedWith (Refusal.NotBuilt Unbuilt.Words) result }
+    ensures words { command_of words.now ≡ None → IsRefusedWith (Refusal.NotBuilt Unbuilt.Words) result }
     ensures loading { IfSome (F.told files.old) (λ contents. IfErr (loaded words.now cwd.now contents) (λ refusal. IsRefusedWith refusal result)) }
     ensures read_fault { (path : _) → result.refusal ≡ Some (Refusal.Load (LoadRefusal.ReadFault path)) → Rose (F.faults files.old) (F.faults files.new) }
 
-    // A refused project sends nothing, and neither does a call whose dial failed.
+    // A refused project sends nothing, and neither does `config`, nor a call whose dial failed.
     ensures nothing_sent { IsOfLoading result.refusal → SendsNothing result }
+    ensures config { aim_for (command_of words.now) ≡ None → SendsNothing result }
     ensures dial { result.refusal ≡ Some (Refusal.Outside Part.Plug) → SendsNothing result × Rose (P.faults plug.old) (P.faults plug.new) }
 
     // Every hand that was made is handed back.
     ensures dialled { CountsHands (P.dialled plug.old) (P.dialled plug.new) (length result.hands) }
     ensures status { result.status ≡ status_of result.refusal }
 
+    // `config` writes the page of the project at status 0; at another one nothing, or a prefix of it.
+    ensures page { command_of words.now ≡ Some Command.Config → result.status ≡ 0 → ForProject words.now cwd.now (F.told files.old) (λ project.
+        GrewBy (O.written out.old) (project_page project) (O.written out.new)) }
+    ensures page_prefix { command_of words.now ≡ Some Command.Config
+        → (O.written out.new ≡ O.written out.old) ⊎ ForProject words.now cwd.now (F.told files.old) (GrewByPrefix (O.written out.old) (O.written out.new)) }
+    ensures page_fault { command_of words.now ≡ Some Command.Config → result.refusal ≡ Some (Refusal.Outside Part.Out) → Rose (O.faults out.old) (O.faults out.new) }
+
     // The journal is empty only where the call was refused before its run, or wanted memory; then nothing was sent.
-    ensures unbegun { result.journal ≡ [] → IsUnbegun result.refusal }
+    ensures unbegun { IfRuns words.now (λ aim. result.journal ≡ [] → IsUnbegun result.refusal) }
     ensures unsent { result.journal ≡ [] → (hand : P.Hand) → Among result.hands hand → P.Hand.log hand ≡ [] }
 
-    // Else the journal is that of a whole run, which brings up what the project declares, and the hand made its exchanges.
-    ensures legal { IfBegun result.journal (ForProject words.now cwd.now (F.told files.old) (λ project. IsRun (up_of project) result.journal)) }
-    ensures log { IfBegun result.journal (ForProject words.now cwd.now (F.told files.old) (λ project.
-        (hand : P.Hand) → Among result.hands hand → GrowsBy (run_exchanges (up_of project) result.journal 0) [] (P.Hand.log hand))) }
+    // Else the journal is that of a whole run of what the words ask for of the project, and the hand made its exchanges.
+    ensures legal { IfBegun result.journal (ForTask words.now cwd.now (F.told files.old) (λ task. IsRun task result.journal)) }
+    ensures log { IfBegun result.journal (ForTask words.now cwd.now (F.told files.old) (λ task.
+        (hand : P.Hand) → Among result.hands hand → GrowsBy (run_exchanges task result.journal 0) [] (P.Hand.log hand))) }
     ensures cause { IfBegun result.journal ((hand : P.Hand) → Among result.hands hand → IsCaused result.journal (P.Hand.heard hand) 0 (P.Hand.faults hand)) }
 
-    // Status, refusal and report are those of the run, and kept containers were left alone.
-    ensures run_status { IfBegun result.journal (ForProject words.now cwd.now (F.told files.old) (λ project. IsStatusOf (run_status (up_of project) result.journal) result.status)) }
-    ensures run_fault { IfBegun result.journal (ForProject words.now cwd.now (F.told files.old) (λ project.
-        IsRefusalOf (run_fault (up_of project) result.journal) (O.faults out.old) (O.faults out.new) result.refusal)) }
-    ensures report { IfBegun result.journal (ForProject words.now cwd.now (F.told files.old) (λ project.
-        Reports (run_report (up_of project) result.journal) result.refusal (O.written out.old) (O.written out.new) (O.faults out.old) (O.faults out.new))) }
-    ensures kept { IfBegun result.journal (ForProject words.now cwd.now (F.told files.old) (λ project. SparesKept (up_of project) result.journal)) }
+    // Status, refusal and report are those of the run, and `up` leaves kept containers alone.
+    ensures run_status { IfBegun result.journal (ForTask words.now cwd.now (F.told files.old) (λ task. IsStatusOf (run_status task result.journal) result.status)) }
+    ensures run_fault { IfBegun result.journal (ForTask words.now cwd.now (F.told files.old) (λ task.
+        IsRefusalOf (run_fault task result.journal) (O.faults out.old) (O.faults out.new) result.refusal)) }
+    ensures report { IfBegun result.journal (ForTask words.now cwd.now (F.told files.old) (λ task.
+        Reports (run_report task result.journal) result.refusal (O.written out.old) (O.written out.new) (O.faults out.old) (O.faults out.new))) }
+    ensures kept { IfBegun result.journal (ForTask words.now cwd.now (F.told files.old) (λ task. is_up task.aim.purpose ≡ true → SparesKept task result.journal)) }
 
-    // The Engine went through the run, and at status 0 it holds exactly what the project declares: the one that the hand tells,
-    // and one in every world of the run, whatever it held before.
-    ensures world { IfBegun result.journal (ForProject words.now cwd.now (F.told files.old) (λ project.
-        (hand : P.Hand) → Among result.hands hand → LeadsOn (up_of project) result.journal (P.engine plug.old) (P.Hand.engine hand))) }
-    ensures exact { result.status ≡ 0 → ForProject words.now cwd.now (F.told files.old) (λ project.
-        (hand : P.Hand) → Among result.hands hand → HoldsExactly (up_of project) (P.Hand.engine hand)) }
-    ensures exact_in_each_world { result.status ≡ 0 → ForProject words.now cwd.now (F.told files.old) (λ project. EndsExact (up_of project) result.journal) }
+    // The Engine went through the run: the one that the hand tells, and one in every world of the run, whatever it held before.
+    ensures world { IfBegun result.journal (ForTask words.now cwd.now (F.told files.old) (λ task.
+        (hand : P.Hand) → Among result.hands hand → LeadsOn task result.journal (P.engine plug.old) (P.Hand.engine hand))) }
+
+    // At status 0 it holds exactly what the project declares after `up`, and nothing of it after `down`.
+    ensures exact { result.status ≡ 0 → ForTask words.now cwd.now (F.told files.old) (λ task. is_up task.aim.purpose ≡ true
+        → (hand : P.Hand) → Among result.hands hand → HoldsExactly task (P.Hand.engine hand)) }
+    ensures exact_in_each_world { result.status ≡ 0 → ForTask words.now cwd.now (F.told files.old) (λ task. is_up task.aim.purpose ≡ true → EndsExact task result.journal) }
+    ensures gone { result.status ≡ 0 → ForTask words.now cwd.now (F.told files.old) (λ task. is_up task.aim.purpose ≡ false
+        → (hand : P.Hand) → Among result.hands hand → HoldsNone task (P.Hand.engine hand)) }
+    ensures gone_in_each_world { result.status ≡ 0 → ForTask words.now cwd.now (F.told files.old) (λ task. is_up task.aim.purpose ≡ false → EndsGone task result.journal) }
 
     // The line of the refusal is written to `err`, and nothing to `out` where nothing was sent.
     ensures line { SaysRefusal result.refusal (G.written err.old) (G.written err.new) (G.faults err.old) (G.faults err.new) }
     ensures quiet { IsOfLoading result.refusal → O.written out.new ≡ O.written out.old }
     ensures quiet_dial { result.refusal ≡ Some (Refusal.Outside Part.Plug) → O.written out.new ≡ O.written out.old }
 {
-    let _ = env;
+    let Some(aim) = aim_for(command_of(words)) else {
+        return without_hands(alloc, config_run(alloc, words, env, cwd, files, out, err));
+    };
     match load(alloc, words, cwd, files) {
-        Ok(project) => run_project(alloc, &project, plug, out, err),
+        Ok(project) => run_project(alloc, &project, aim, plug, out, err),
         Err(refusal) => refused(alloc, refusal, err),
     }
 }
 
-/// Runs a project that was loaded.
+/// What a command's run is for; None for `config` and other words, which run nothing. No memory.
+fn aim_for(command: Option<Command>) -> Option<Aim>
+    ensures { option_map aim_of result ≡ aim_for command }
+{
+    match command {
+        Some(Command::Up { orphans }) => Some(aim_of(Purpose::Up, orphans)),
+        Some(Command::Down { orphans }) => Some(aim_of(Purpose::Down, orphans)),
+        Some(Command::Config) | None => None,
+    }
+}
+
+/// The aim of a run that leaves volumes. No memory.
+fn aim_of(purpose: Purpose, orphans: bool) -> Aim
+    ensures { result ≡ record { purpose = purpose; orphans = orphans; volumes = false } }
+{
+    Aim {
+        purpose,
+        orphans,
+        volumes: false,
+    }
+}
+
+/// The end of a call that ran nothing.
+fn without_hands<H>(alloc: Global, end: ConfigEnd) -> Ended<H>
+    ensures nothing { SendsNothing result }
+    ensures status { result.status ≡ end.status }
+    ensures refusal { result.refusal ≡ end.refusal }
+{
+    Ended {
+        status: end.status,
+        journal: List::new(alloc),
+        hands: List::new(alloc),
+        refusal: end.refusal,
+    }
+}
+
+/// Does with a project that was loaded what an aim asks for.
 fn run_project<P: Plug, O: Sink, G: Sink>(
     alloc: Global,
     project: &Project,
+    aim: Aim,
     plug: &mut P,
     out: &mut O,
     err: &mut G,
 ) -> Ended<P::Hand>
-    requires { ForSome (P.dialled plug.old) (λ n. n < 2 ^ 61) }
+    requires dialled { ForSome (P.dialled plug.old) (λ n. n < 2 ^ 61) }
+    requires order { IsInOrder project.now.services }
     ensures origin { IsOfLoading result.refusal → ⊥ }
     ensures dial { result.refusal ≡ Some (Refusal.Outside Part.Plug) → SendsNothing result × Rose (P.faults plug.old) (P.faults plug.new) }
     ensures dialled { CountsHands (P.dialled plug.old) (P.dialled plug.new) (length result.hands) }
     ensures unbegun { result.journal ≡ [] → IsUnbegun result.refusal }
     ensures unsent { result.journal ≡ [] → (hand : P.Hand) → Among result.hands hand → P.Hand.log hand ≡ [] }
-    ensures ran { IfBegun result.journal (RunsTask (λ h. P.Hand.log h) (λ h. P.Hand.heard h) (λ h. P.Hand.faults h) (up_of project.now) result
+    ensures ran { IfBegun result.journal (RunsTask (λ h. P.Hand.log h) (λ h. P.Hand.heard h) (λ h. P.Hand.faults h) (task_for (aim_of aim) project.now) result
         (O.written out.old) (O.written out.new) (O.faults out.old) (O.faults out.new)) }
-    ensures spares { SparesKept (up_of project.now) result.journal }
-    ensures leads { IfBegun result.journal ((hand : P.Hand) → Among result.hands hand → LeadsOn (up_of project.now) result.journal (P.engine plug.old) (P.Hand.engine hand)) }
-    ensures holds { result.refusal ≡ None → (hand : P.Hand) → Among result.hands hand → HoldsExactly (up_of project.now) (P.Hand.engine hand) }
+    ensures engine { MovesEngine (λ h. P.Hand.engine h) (task_for (aim_of aim) project.now) result (P.engine plug.old) }
     ensures status { result.status ≡ status_of result.refusal }
     ensures line { SaysRefusal result.refusal (G.written err.old) (G.written err.new) (G.faults err.old) (G.faults err.new) }
     ensures quiet { result.refusal ≡ Some (Refusal.Outside Part.Plug) → O.written out.new ≡ O.written out.old }
 {
     match declare(alloc, project) {
-        Ok(declared) => run_declared(alloc, &declared, plug, out, err),
+        Ok(declared) => run_declared(alloc, &declared, aim, plug, out, err),
         Err(_) => refused(alloc, Refusal::Memory, err),
     }
 }

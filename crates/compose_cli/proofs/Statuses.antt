@@ -1,0 +1,66 @@
+-- No refusal has status 0.
+use Rattle.std.proofs.Common.{◌≡◌, ℕ, Some, None, sym, ◌∙◌, refl}
+use Rattle.std.specs.Prelude.{Option}
+use Rattle.engine_types.specs.declared.Outcome.{Outcome}
+use Rattle.engine_types.specs.declared.SeenFault.{SeenFault}
+use Rattle.engine_types.specs.declared.WireEnd.{WireEnd}
+use Rattle.refusals.specs.Statuses.{refusal_status, status_of, yaml_status}
+use Rattle.refusals.specs.declared.LoadRefusal.{LoadRefusal}
+use Rattle.refusals.specs.declared.Refusal.{Refusal}
+use Rattle.refusals.specs.declared.Unbuilt.{Unbuilt}
+use Rattle.run_model.specs.Ending.{lost_status, outcome_status, seen_status}
+use Rattle.yaml_lines.specs.declared.refusal.YamlRefusal.{YamlRefusal}
+
+lost_not_zero : (cause : WireEnd) → lost_status cause ≡ 0 → ⊥
+lost_not_zero WireEnd.TooLarge e = absurd (cc e)
+lost_not_zero WireEnd.Fault e = absurd (cc e)
+lost_not_zero WireEnd.Ended e = absurd (cc e)
+lost_not_zero (WireEnd.Malformed at) e = absurd (cc e)
+lost_not_zero WireEnd.Encoded e = absurd (cc e)
+lost_not_zero WireEnd.BadBody e = absurd (cc e)
+
+seen_not_zero : (fault : SeenFault) → seen_status fault ≡ 0 → ⊥
+seen_not_zero (SeenFault.Lost request cause) e = lost_not_zero cause e
+seen_not_zero (SeenFault.NotSent request) e = absurd (cc e)
+seen_not_zero (SeenFault.TooManyActions count) e = absurd (cc e)
+seen_not_zero SeenFault.Memory e = absurd (cc e)
+seen_not_zero (SeenFault.RequestFailed request status message) e = absurd (cc e)
+seen_not_zero (SeenFault.PullFailed image message) e = absurd (cc e)
+seen_not_zero (SeenFault.NetworkTwice name first second) e = absurd (cc e)
+seen_not_zero (SeenFault.ForeignNetwork name id) e = absurd (cc e)
+seen_not_zero (SeenFault.ExternalMissing kind name) e = absurd (cc e)
+seen_not_zero (SeenFault.NeedsBuild service) e = absurd (cc e)
+
+outcome_not_zero : (outcome : Outcome) → outcome_status outcome ≡ 0 → ⊥
+outcome_not_zero (Outcome.Answered reply) e = absurd (cc e)
+outcome_not_zero (Outcome.Lost cause) e = lost_not_zero cause e
+outcome_not_zero Outcome.NotSent e = absurd (cc e)
+outcome_not_zero Outcome.Memory e = absurd (cc e)
+
+yaml_not_zero : (refusal : YamlRefusal) → yaml_status refusal ≡ 0 → ⊥
+yaml_not_zero (YamlRefusal.Bad which place) e = absurd (cc e)
+yaml_not_zero (YamlRefusal.TooDeep place) e = absurd (cc e)
+yaml_not_zero (YamlRefusal.TooManyNodes place) e = absurd (cc e)
+yaml_not_zero (YamlRefusal.TooMuchText place) e = absurd (cc e)
+yaml_not_zero YamlRefusal.Memory e = absurd (cc e)
+
+refusal_not_zero : (refusal : Refusal) → refusal_status refusal ≡ 0 → ⊥
+refusal_not_zero (Refusal.NotBuilt Unbuilt.Words) e = absurd (cc e)
+refusal_not_zero (Refusal.NotBuilt (Unbuilt.Text path place)) e = absurd (cc e)
+refusal_not_zero (Refusal.Load (LoadRefusal.NotFound path)) e = absurd (cc e)
+refusal_not_zero (Refusal.Load (LoadRefusal.ReadFault path)) e = absurd (cc e)
+refusal_not_zero (Refusal.Load (LoadRefusal.FileTooLarge path)) e = absurd (cc e)
+refusal_not_zero (Refusal.Load (LoadRefusal.Yaml path refusal)) e = yaml_not_zero refusal e
+refusal_not_zero (Refusal.Name refusal) e = absurd (cc e)
+refusal_not_zero (Refusal.Seen fault) e = seen_not_zero fault e
+refusal_not_zero (Refusal.Request request outcome) e = outcome_not_zero outcome e
+refusal_not_zero (Refusal.Condition slot condition report) e = absurd (cc e)
+refusal_not_zero Refusal.Stopped e = absurd (cc e)
+refusal_not_zero (Refusal.Late why) e = absurd (cc e)
+refusal_not_zero (Refusal.Outside part) e = absurd (cc e)
+refusal_not_zero Refusal.Memory e = absurd (cc e)
+
+-- a call of status 0 isn't refused
+pub not_refused : (refusal : Option Refusal) (status : ℕ) → status ≡ status_of refusal → status ≡ 0 → refusal ≡ None
+not_refused None status e z = refl
+not_refused (Some refusal) status e z = absurd (refusal_not_zero refusal (sym e ∙ z))
