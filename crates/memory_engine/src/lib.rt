@@ -29,4 +29,6 @@ pub use script::{Change, Tick};
 pub use state::MemoryEngine;
 
 #[cfg(test)]
+mod request_tests;
+#[cfg(test)]
 mod tests;
