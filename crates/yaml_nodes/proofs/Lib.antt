@@ -1,0 +1,6 @@
+pub mod AddedSteps
+pub mod Chains
+pub mod LenSteps
+pub mod MarkSteps
+pub mod PropertySteps
+pub mod Spellings

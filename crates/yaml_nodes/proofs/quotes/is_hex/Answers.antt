@@ -1,0 +1,31 @@
+use Rattle.std.proofs.Common.{◌∙◌, ◌-◌, ◌≤◌, ◌+◌, ◌*◌, drop, sym, ap, arith}
+use Rattle.std.specs.Char.{digit_value}
+use Rattle.std.specs.Option.{is_some}
+use Rattle.yaml_lines.proofs.QuoteSteps.{hex_more, hex_short, hex_bad, hex_large}
+use Rattle.yaml_lines.specs.Quoted.{hex_of}
+use Rattle.yaml_nodes.proofs.quotes.is_hex.Goals as goal
+
+pub returns-then-i-chars-clause-is : goal.returns-then-i-chars-clause-is
+returns-then-i-chars-clause-is c =
+    ap is_some (sym (hex_short c.args.chars.now c.args.digits c.loop-i.i c.loop-i.value (omega arith) (omega arith)) ∙ c.loop-i.invariant.is)
+
+pub returns-then-value-ge1114112-clause-is : goal.returns-then-value-ge1114112-clause-is
+returns-then-value-ge1114112-clause-is c =
+    ap is_some (sym (hex_large (c.args.digits - c.loop-i.i) c.loop-i.value (drop c.loop-i.i c.args.chars.now) (omega arith)) ∙ c.loop-i.invariant.is)
+
+pub returns-in-None-clause-is : goal.returns-in-None-clause-is
+returns-in-None-clause-is c =
+    let no = c.in-None.ensures.value in
+    let large : 16 ≤ digit_value c.index-chars-i.result = omega (arith, no) in
+    ap is_some (sym (hex_bad c.args.chars.now c.args.digits c.loop-i.i c.loop-i.value c.index-chars-i.result (omega arith) (omega arith) c.index-chars-i.is large) ∙ c.loop-i.invariant.is)
+
+pub loop-i-preserved : goal.loop-i-preserved
+loop-i-preserved c =
+    let digit = c.in-Some.ensures.value in
+    record {
+      within = omega arith;
+      is =
+          ap (λ d. hex_of (c.args.digits - (c.loop-i.i + 1)) (c.loop-i.value * 16 + d) (drop (c.loop-i.i + 1) c.args.chars.now)) digit.1
+          ∙ sym (hex_more c.args.chars.now c.args.digits c.loop-i.i c.loop-i.value c.index-chars-i.result (omega arith) (omega arith) c.index-chars-i.is digit.0)
+          ∙ c.loop-i.invariant.is;
+    }

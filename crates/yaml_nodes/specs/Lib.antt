@@ -1,0 +1,5 @@
+pub mod Mappings
+pub mod Marks
+pub mod Progress
+pub mod Properties
+pub mod Scalars

@@ -1,0 +1,157 @@
+ghost use Rattle.std.specs.Prelude.{◌≡◌, Some, IfOk};
+ghost use Rattle.tree_base.specs.declared.tree.Tree.{out-Tree};
+ghost use Rattle.yaml_lines.specs.Answers.{Gives};
+ghost use Rattle.yaml_nodes.specs.Progress.{result_beside, result_left};
+ghost use Rattle.yaml_nodes.specs.Mappings.{no_entries, is_there, new_key, all_pairs, added_maps, with_merge, with_pair, merged_with, merged};
+
+use crate::added::{added, count, put_all};
+use crate::key::Key;
+use crate::progress::Progress;
+use crate::spot::Spot;
+use std::alloc::Global;
+use tree_base::{List, Map, Memory, Tree};
+use yaml_lines::{Row, YamlFault, YamlRefusal};
+
+/// A merge key with its value.
+#[derive(Drop)]
+pub struct Merge {
+    /// The mappings that it adds, earlier ones first.
+    pub maps: List<Map>,
+    /// Where the key stands.
+    pub spot: Spot,
+}
+
+/// The entries of a mapping so far: its own, and its merge key.
+#[derive(Drop)]
+pub struct Entries {
+    pub own: Map,
+    pub merge: Option<Merge>,
+}
+
+/// No entry.
+pub fn no_entries(alloc: Global) -> Entries
+    ensures { result ≡ no_entries }
+{
+    Entries {
+        own: Map::new(alloc),
+        merge: None,
+    }
+}
+
+/// Counts the text of a key that isn't there yet. Refuses one that is (`RepeatedKey`), and a text past the limit, both
+/// at the key.
+pub fn new_key(
+    progress: &mut Progress,
+    entries: &Entries,
+    row: &Row,
+    at: usize,
+    key: &Key,
+) -> Result<(), YamlRefusal>
+    ensures { Gives (result_left result progress.new) (new_key entries.now progress.old row.now at key.now) }
+{
+    if is_there(entries, key) {
+        return Err(progress.bad(YamlFault::RepeatedKey, row, at));
+    }
+    progress.more_text(row, Spot::Here(at), key.text.len() as u64)
+}
+
+/// Whether a key is there already.
+fn is_there(entries: &Entries, key: &Key) -> bool
+    ensures { result ≡ is_there entries.now key.now }
+{
+    if key.is_merge {
+        entries.merge.is_some()
+    } else {
+        entries.own.get(&key.text).is_some()
+    }
+}
+
+/// Puts the value of a key that stands at a spot. Refuses a merge key whose value is no mapping and no sequence of
+/// mappings (`BadMerge`), at the key.
+pub fn with_pair(
+    alloc: Global,
+    progress: &Progress,
+    entries: &mut Entries,
+    row: &Row,
+    spot: Spot,
+    key: Key,
+    tree: Tree,
+) -> Result<(), YamlRefusal>
+    ensures { Gives (result_left result entries.new) (with_pair entries.old progress.now row.now spot key tree) }
+{
+    if key.is_merge {
+        let Some(maps) = added_maps(alloc, tree)? else {
+            return Err(YamlRefusal::Bad {
+                which: YamlFault::BadMerge,
+                place: progress.place_of(row, spot),
+            });
+        };
+        entries.merge = Some(Merge { maps, spot });
+    } else {
+        drop(entries.own.put(key.text, tree)?);
+    }
+    Ok(())
+}
+
+/// The mappings that the value of a merge key adds: it is one, or a sequence of some; else None.
+fn added_maps(alloc: Global, tree: Tree) -> Result<Option<List<Map>>, Memory>
+    ensures { IfOk result (λ maps. maps ≡ added_maps (out-Tree tree)) }
+{
+    match tree {
+        Tree::Map(map) => {
+            let mut maps = List::new(alloc);
+            maps.push(map)?;
+            Ok(Some(maps))
+        }
+        Tree::Seq(trees) => all_maps(alloc, trees),
+        _ => Ok(None),
+    }
+}
+
+/// The mappings among which nothing else is; None where something is.
+fn all_maps(alloc: Global, trees: List<Tree>) -> Result<Option<List<Map>>, Memory>
+    ensures { IfOk result (λ maps. maps ≡ all_pairs trees) }
+{
+    let mut maps = List::new(alloc);
+    for tree in trees.into_vec() {
+        let Tree::Map(map) = tree else {
+            return Ok(None);
+        };
+        maps.push(map)?;
+    }
+    Ok(Some(maps))
+}
+
+/// The mapping of entries: its own, then those of its merge key that aren't there yet, which count once more.
+/// Refuses a limit that they pass, at the merge key.
+pub fn merged(
+    alloc: Global,
+    progress: &mut Progress,
+    row: &Row,
+    entries: Entries,
+) -> Result<Tree, YamlRefusal>
+    ensures { Gives (result_beside result progress.new) (merged progress.old row.now entries) }
+{
+    let Entries { own, merge } = entries;
+    match merge {
+        None => Ok(Tree::Map(own)),
+        Some(merge) => merged_with(alloc, progress, row, own, &merge),
+    }
+}
+
+/// The mapping of its own entries and of those that its merge key adds.
+fn merged_with(
+    alloc: Global,
+    progress: &mut Progress,
+    row: &Row,
+    own: Map,
+    merge: &Merge,
+) -> Result<Tree, YamlRefusal>
+    ensures { Gives (result_beside result progress.new) (merged_with progress.old row.now own (Some merge.now)) }
+{
+    let mut own = own;
+    let found = added(alloc, &own, merge.maps.as_slice())?;
+    count(progress, row, merge.spot, &found)?;
+    put_all(alloc, &mut own, &found)?;
+    Ok(Tree::Map(own))
+}
