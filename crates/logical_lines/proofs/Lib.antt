@@ -1,0 +1,4 @@
+pub mod CutSteps
+pub mod HeadSteps
+pub mod FlowSteps
+pub mod GroupSteps
