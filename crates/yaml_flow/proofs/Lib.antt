@@ -1,0 +1,3 @@
+pub mod GapSteps
+pub mod Levels
+pub mod PieceSteps

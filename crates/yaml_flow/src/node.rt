@@ -1,0 +1,309 @@
+ghost use Rattle.std.specs.Prelude.{◌≤◌, ◌<◌, ◌-◌, ◌^◌, [], length, IfOk};
+ghost use Rattle.yaml_flow.specs.Flow.{between, flow, flow_entry, flow_item, flow_mapping, flow_node, flow_sequence, flow_value, read_piece};
+ghost use Rattle.yaml_lines.specs.Answers.{Gives};
+ghost use Rattle.yaml_nodes.specs.Mappings.{no_entries};
+ghost use Rattle.yaml_nodes.specs.Progress.{result_beside, result_left};
+
+use crate::gap::next_place;
+use crate::key::{behind_key, fault_of_pair};
+use crate::piece::{Piece, at_stop, behind_bracket, is_last, piece_from};
+use crate::properties::flow_properties;
+use std::alloc::Global;
+use tree_base::{List, Tree};
+use yaml_lines::{Context, Row, YamlFault, YamlRefusal, text_at};
+use yaml_nodes::{
+    Entries, Progress, Properties, Spot, finished, is_key_behind, key_at, merged, new_key,
+    no_entries, no_properties, nothing, starts, unspelled, with_pair, word,
+};
+
+/// In how many runs properties may stand: one more than a node can have.
+const RUNS: u32 = 3;
+
+/// The node that begins at a character of a row, in a flow collection or as one, and the place behind it. So many
+/// levels are left for it. Refuses a collection that is wrong or isn't closed (`BadFlow`) at its opening bracket, a
+/// pair in a sequence (`Unsupported`), `!!str` on a collection (`BadTag`), and what the crate `yaml_nodes` refuses of
+/// keys, properties and scalars.
+#[cycle(collection)]
+pub fn flow(
+    alloc: Global,
+    progress: &mut Progress,
+    levels: u32,
+    found: Properties,
+    row: &Row,
+    at: usize,
+) -> Result<(Tree, usize), YamlRefusal>
+    ensures is { Gives (result_beside result progress.new) (flow levels found progress.old row.now at) }
+    ensures within { IfOk result (λ got. got.1 ≤ length row.now.chars) }
+{
+    let chars = text_at(row, at);
+    if starts(chars, '[') {
+        let found = unspelled(progress, row, found)?;
+        return sequence(alloc, progress, levels, found, row, at);
+    }
+    if starts(chars, '{') {
+        let found = unspelled(progress, row, found)?;
+        return mapping(alloc, progress, levels, found, row, at);
+    }
+    word(alloc, progress, Context::Flow, levels, found, row, at)
+}
+
+/// The sequence whose bracket opens at a place of a row, and the place behind it.
+#[cycle(collection)]
+fn sequence(
+    alloc: Global,
+    progress: &mut Progress,
+    levels: u32,
+    found: Properties,
+    row: &Row,
+    at: usize,
+) -> Result<(Tree, usize), YamlRefusal>
+    requires within { at < length row.now.chars }
+    requires small { length row.now.chars < 2 ^ 63 }
+    ensures is { Gives (result_beside result progress.new) (flow_sequence levels (levels - 1) (flow (levels - 1)) found progress.old row.now at) }
+    ensures within { IfOk result (λ got. got.1 ≤ length row.now.chars) }
+{
+    progress.one_node(levels, row, at, 0)?;
+    let (items, end) = items(alloc, progress, levels - 1, row, at)?;
+    let tree = finished(alloc, progress, found, Tree::Seq(items))?;
+    Ok((tree, end))
+}
+
+/// The mapping whose bracket opens at a place of a row, and the place behind it.
+#[cycle(collection)]
+fn mapping(
+    alloc: Global,
+    progress: &mut Progress,
+    levels: u32,
+    found: Properties,
+    row: &Row,
+    at: usize,
+) -> Result<(Tree, usize), YamlRefusal>
+    requires within { at < length row.now.chars }
+    requires small { length row.now.chars < 2 ^ 63 }
+    ensures is { Gives (result_beside result progress.new) (flow_mapping levels (levels - 1) (flow (levels - 1)) found progress.old row.now at) }
+    ensures within { IfOk result (λ got. got.1 ≤ length row.now.chars) }
+{
+    progress.one_node(levels, row, at, 0)?;
+    let (entries, end) = entries(alloc, progress, levels - 1, row, at)?;
+    let map = merged(alloc, progress, row, entries)?;
+    let tree = finished(alloc, progress, found, map)?;
+    Ok((tree, end))
+}
+
+/// The items of the sequence whose bracket opens at a place of a row, and the place behind it.
+#[cycle(collection)]
+fn items(
+    alloc: Global,
+    progress: &mut Progress,
+    levels: u32,
+    row: &Row,
+    bracket: usize,
+) -> Result<(List<Tree>, usize), YamlRefusal>
+    requires within { bracket < length row.now.chars }
+    requires small { length row.now.chars < 2 ^ 63 }
+    ensures is { Gives (result_beside result progress.new) (between (flow_item levels (flow levels) row.now) row.now bracket 93 [] progress.old) }
+    ensures within { IfOk result (λ got. got.1 ≤ length row.now.chars) }
+{
+    let mut items = List::new(alloc);
+    let mut start = bracket + 1;
+    loop {
+        let piece = piece_from(row, bracket, start);
+        let last = is_last(row, piece);
+        item_piece(alloc, progress, &mut items, levels, row, piece, last, start)?;
+        if last {
+            let end = behind_bracket(progress, row, piece, ']')?;
+            return Ok((items, end));
+        }
+        start = piece.stop + 1;
+    }
+}
+
+/// The entries of the mapping whose bracket opens at a place of a row, and the place behind it.
+#[cycle(collection)]
+fn entries(
+    alloc: Global,
+    progress: &mut Progress,
+    levels: u32,
+    row: &Row,
+    bracket: usize,
+) -> Result<(Entries, usize), YamlRefusal>
+    requires within { bracket < length row.now.chars }
+    requires small { length row.now.chars < 2 ^ 63 }
+    ensures is { Gives (result_beside result progress.new) (between (flow_entry levels (flow levels) row.now) row.now bracket 125 no_entries progress.old) }
+    ensures within { IfOk result (λ got. got.1 ≤ length row.now.chars) }
+{
+    let mut entries = no_entries(alloc);
+    let mut start = bracket + 1;
+    loop {
+        let piece = piece_from(row, bracket, start);
+        let last = is_last(row, piece);
+        entry_piece(
+            alloc,
+            progress,
+            &mut entries,
+            levels,
+            row,
+            piece,
+            last,
+            start,
+        )?;
+        if last {
+            let end = behind_bracket(progress, row, piece, '}')?;
+            return Ok((entries, end));
+        }
+        start = piece.stop + 1;
+    }
+}
+
+/// Puts the item of a piece last, which begins at a place; only the last piece may be empty.
+#[cycle(collection)]
+fn item_piece(
+    alloc: Global,
+    progress: &mut Progress,
+    items: &mut List<Tree>,
+    levels: u32,
+    row: &Row,
+    piece: Piece,
+    is_last: bool,
+    start: usize,
+) -> Result<(), YamlRefusal>
+    requires { start ≤ length row.now.chars }
+    ensures { Gives (result_left result (items.new, progress.new)) (read_piece (flow_item levels (flow levels) row.now) row.now piece is_last (items.old, progress.old) start) }
+{
+    let at = next_place(progress, row, start, false)?;
+    if at < piece.stop {
+        return item(alloc, progress, items, levels, row, piece, at);
+    }
+    if is_last {
+        Ok(())
+    } else {
+        Err(progress.bad(YamlFault::BadFlow, row, piece.bracket))
+    }
+}
+
+/// Puts the entry of a piece, which begins at a place; only the last piece may be empty.
+#[cycle(collection)]
+fn entry_piece(
+    alloc: Global,
+    progress: &mut Progress,
+    entries: &mut Entries,
+    levels: u32,
+    row: &Row,
+    piece: Piece,
+    is_last: bool,
+    start: usize,
+) -> Result<(), YamlRefusal>
+    requires { start ≤ length row.now.chars }
+    ensures { Gives (result_left result (entries.new, progress.new)) (read_piece (flow_entry levels (flow levels) row.now) row.now piece is_last (entries.old, progress.old) start) }
+{
+    let at = next_place(progress, row, start, false)?;
+    if at < piece.stop {
+        return entry(alloc, progress, entries, levels, row, piece, at);
+    }
+    if is_last {
+        Ok(())
+    } else {
+        Err(progress.bad(YamlFault::BadFlow, row, piece.bracket))
+    }
+}
+
+/// Puts the item last that begins at a place, which is no pair.
+#[cycle(collection)]
+fn item(
+    alloc: Global,
+    progress: &mut Progress,
+    items: &mut List<Tree>,
+    levels: u32,
+    row: &Row,
+    piece: Piece,
+    at: usize,
+) -> Result<(), YamlRefusal>
+    requires { at ≤ length row.now.chars }
+    ensures { Gives (result_left result (items.new, progress.new)) (flow_item levels (flow levels) row.now piece (items.old, progress.old) at) }
+{
+    let chars = text_at(row, at);
+    if is_key_behind(chars, Context::Flow) {
+        return Err(progress.bad(fault_of_pair(chars), row, at));
+    }
+    let tree = flow_node(alloc, progress, levels, row, piece, at, at, false)?;
+    items.push(tree)?;
+    Ok(())
+}
+
+/// Puts the entry that begins at a place: a key, and its value behind a colon on the key's line.
+#[cycle(collection)]
+fn entry(
+    alloc: Global,
+    progress: &mut Progress,
+    entries: &mut Entries,
+    levels: u32,
+    row: &Row,
+    piece: Piece,
+    at: usize,
+) -> Result<(), YamlRefusal>
+    requires { at ≤ length row.now.chars }
+    ensures { Gives (result_left result (entries.new, progress.new)) (flow_entry levels (flow levels) row.now piece (entries.old, progress.old) at) }
+{
+    let key = key_at(alloc, progress, Context::Flow, row, at)?;
+    new_key(progress, entries, row, at, &key)?;
+    let (behind, has_colon) = behind_key(row, at, &key);
+    let tree = flow_value(alloc, progress, levels, row, piece, at, behind, has_colon)?;
+    with_pair(alloc, progress, entries, row, Spot::Here(at), key, tree)
+}
+
+/// The value of a key, from behind its colon or the key on: null where nothing stands before the piece ends.
+#[cycle(collection)]
+fn flow_value(
+    alloc: Global,
+    progress: &mut Progress,
+    levels: u32,
+    row: &Row,
+    piece: Piece,
+    key: usize,
+    behind: usize,
+    has_colon: bool,
+) -> Result<Tree, YamlRefusal>
+    requires { behind ≤ length row.now.chars }
+    ensures { Gives (result_beside result progress.new) (flow_value levels (flow levels) row.now piece key progress.old behind has_colon) }
+{
+    let at = next_place(progress, row, behind, false)?;
+    if piece.stop <= at {
+        return nothing(alloc, progress, levels, no_properties(), row, key);
+    }
+    if !has_colon {
+        return Err(progress.bad(YamlFault::BadFlow, row, piece.bracket));
+    }
+    flow_node(alloc, progress, levels, row, piece, key, at, true)
+}
+
+/// The node that begins at a place of a piece; where only properties stand, nothing, at the place of its key or of
+/// itself.
+#[cycle(collection)]
+fn flow_node(
+    alloc: Global,
+    progress: &mut Progress,
+    levels: u32,
+    row: &Row,
+    piece: Piece,
+    owner: usize,
+    at: usize,
+    may_be_marked: bool,
+) -> Result<Tree, YamlRefusal>
+    requires { at ≤ length row.now.chars }
+    ensures { Gives (result_beside result progress.new) (flow_node levels (flow levels) may_be_marked row.now piece owner progress.old at) }
+{
+    let (found, at) = flow_properties(
+        alloc,
+        progress,
+        row,
+        at,
+        no_properties(),
+        may_be_marked,
+        RUNS,
+    )?;
+    if piece.stop <= at {
+        return nothing(alloc, progress, levels, found, row, owner);
+    }
+    let (tree, end) = flow(alloc, progress, levels, found, row, at)?;
+    at_stop(progress, row, piece, tree, end)
+}
