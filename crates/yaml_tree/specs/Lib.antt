@@ -1,0 +1,5 @@
+pub mod Blocks
+pub mod Inline
+pub mod Parts
+pub mod Reading
+pub mod Steps
