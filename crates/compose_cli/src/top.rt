@@ -1,8 +1,8 @@
-ghost use Rattle.std.specs.Prelude.{◌≡◌, ◌⊎◌, ◌<◌, ◌^◌, [], Some, None, IfSome, IfErr, length, true, false, option_map};
+ghost use Rattle.std.specs.Prelude.{◌≡◌, ◌⊎◌, ◌<◌, ◌^◌, [], Some, None, IfSome, IfErr, IfOk, length, true, false, option_map};
 ghost use Rattle.std.specs.Option.{ForSome};
 ghost use Rattle.compose_cli.specs.Ends.{CountsHands, IsRefusedWith, SendsNothing};
 ghost use Rattle.compose_cli.specs.Runs.{ForTask, HoldsExactly, HoldsNone, IfRuns, IsRefusalOf, IsStatusOf, IsUnbegun, LeadsOn, MovesEngine, Reports, RunsTask, aim_for, task_for};
-ghost use Rattle.config_command.specs.Commands.{ForProject, GrewByPrefix};
+ghost use Rattle.config_command.specs.Commands.{ForProject, GrewByPrefix, IsOfConfig};
 ghost use Rattle.config_command.specs.ProjectPages.{project_page};
 ghost use Rattle.outside_api.specs.Counts.{Rose};
 ghost use Rattle.outside_api.specs.Sinks.{GrewBy};
@@ -75,6 +75,11 @@ pub fn serial_main<F: Files, P: Plug, O: Sink, G: Sink>(
     ensures page_prefix { command_of words.now ≡ Some Command.Config
         → (O.written out.new ≡ O.written out.old) ⊎ ForProject words.now cwd.now (F.told files.old) (GrewByPrefix (O.written out.old) (O.written out.new)) }
     ensures page_fault { command_of words.now ≡ Some Command.Config → result.refusal ≡ Some (Refusal.Outside Part.Out) → Rose (O.faults out.old) (O.faults out.new) }
+
+    // Nothing else refuses `config`: a project that loads is printed, unless memory is wanted or something outside fails.
+    ensures page_kind { command_of words.now ≡ Some Command.Config → IsOfConfig result.refusal }
+    ensures page_complete { command_of words.now ≡ Some Command.Config → IfSome (F.told files.old) (λ contents. IfOk (loaded words.now cwd.now contents) (λ _.
+        (result.status ≡ 0) ⊎ (result.status ≡ 9) ⊎ Rose (F.faults files.old) (F.faults files.new) ⊎ Rose (O.faults out.old) (O.faults out.new))) }
 
     // The journal is empty only where the call was refused before its run, or wanted memory; then nothing was sent.
     ensures unbegun { IfRuns words.now (λ aim. result.journal ≡ [] → IsUnbegun result.refusal) }
