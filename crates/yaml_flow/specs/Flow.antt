@@ -34,31 +34,35 @@ flow_properties (suc runs) may_be_marked p row found at =
 abbrev pub FlowReader : Type 0
 FlowReader = Properties → Progress → Row → ℕ → Result Inline YamlRefusal
 
--- behind a node nothing stands before its piece ends
-abbrev pub at_stop : Row → Piece → Inline → Result (Tree × Progress) YamlRefusal
-at_stop row piece ((tree, end), p) = next_place p row false end >>= λ at. if at == piece.stop then Ok (tree, p) else bad BadFlow p row piece.bracket
+-- behind a node that ends before a place nothing stands before its piece ends
+abbrev pub at_stop : Row → Piece → Progress → ℕ → Result Progress YamlRefusal
+at_stop row piece p end = next_place p row false end >>= λ at. if at == piece.stop then Ok p else bad BadFlow p row piece.bracket
 
--- the node before a piece's end, which begins at a place; where only properties stand, nothing, whose place is that of its key or of itself
-abbrev pub flow_node : ℕ → FlowReader → Bool → Row → Piece → ℕ → Progress → ℕ → Result (Tree × Progress) YamlRefusal
+-- nothing stands before a place, at which its piece ends
+abbrev pub nothing_before : ℕ → Properties → Progress → Row → ℕ → ℕ → Result Inline YamlRefusal
+nothing_before levels found p row owner end = nothing levels found p row owner >>= λ got. Ok (ending end got)
+
+-- the node of a piece, which begins at a place; where only properties stand, nothing, whose place is that of its key or of itself
+abbrev pub flow_node : ℕ → FlowReader → Bool → Row → Piece → ℕ → Progress → ℕ → Result Inline YamlRefusal
 flow_node levels read may_be_marked row piece owner p at =
     flow_properties 3 may_be_marked p row no_properties at >>= λ found.
-    if nat_le piece.stop found.1 then nothing levels found.0 p row owner
-    else (read found.0 p row found.1 >>= at_stop row piece)
+    if nat_le piece.stop found.1 then nothing_before levels found.0 p row owner found.1 else read found.0 p row found.1
 
 -- an item, which is no pair
 abbrev pub flow_item : ℕ → FlowReader → Row → Piece → List Tree × Progress → ℕ → Result (List Tree × Progress) YamlRefusal
 flow_item levels read row piece (items, p) at =
     if is_key_behind Flow (text_at row at) then bad (if is_property (text_at row at) then fault_of_key (text_at row at) else Unsupported) p row at
-    else (flow_node levels read false row piece at p at >>= λ got. Ok (items ++ got.0 ∷ [], got.1))
+    else (flow_node levels read false row piece at p at >>= λ got.
+    at_stop row piece got.1 got.0.1 >>= λ p. Ok (items ++ got.0.0 ∷ [], p))
 
 -- the value of a key, from behind the colon or the key on: null where nothing stands before the piece's end
-abbrev pub flow_value : ℕ → FlowReader → Row → Piece → ℕ → Progress → ℕ → Bool → Result (Tree × Progress) YamlRefusal
+abbrev pub flow_value : ℕ → FlowReader → Row → Piece → ℕ → Progress → ℕ → Bool → Result Inline YamlRefusal
 flow_value levels read row piece key p behind has_colon =
     next_place p row false behind >>= λ at.
-    if nat_le piece.stop at then nothing levels no_properties p row key
+    if nat_le piece.stop at then nothing_before levels no_properties p row key at
     else (if has_colon then flow_node levels read true row piece key p at else bad BadFlow p row piece.bracket)
 
--- an entry: a key, and its value behind a colon on the key's line
+-- an entry: a key, and its value behind a colon on the key's line, with which a merge key is asked, and nothing behind that
 abbrev pub flow_entry : ℕ → FlowReader → Row → Piece → Entries × Progress → ℕ → Result (Entries × Progress) YamlRefusal
 flow_entry levels read row piece (entries, p) at =
     let cs = text_at row at in
@@ -67,7 +71,8 @@ flow_entry levels read row piece (entries, p) at =
     key_at Flow p row at >>= λ key.
     new_key entries p row at key >>= λ p.
     flow_value levels read row piece at p (if has_colon then colon + 1 else at + key.len) has_colon >>= λ got.
-    with_pair entries got.1 row (Here at) key got.0 >>= λ entries. Ok (entries, got.1)
+    with_pair entries got.1 row (Here at) key got.0.0 >>= λ entries.
+    at_stop row piece got.1 got.0.1 >>= λ p. Ok (entries, p)
 
 -- a reader of one piece of a collection, from a place on, beside what was read before
 abbrev pub PieceReader : Type 0 → Type 0

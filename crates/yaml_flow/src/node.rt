@@ -225,12 +225,13 @@ fn item(
     if is_key_behind(chars, Context::Flow) {
         return Err(progress.bad(fault_of_pair(chars), row, at));
     }
-    let tree = flow_node(alloc, progress, levels, row, piece, at, at, false)?;
+    let (tree, end) = flow_node(alloc, progress, levels, row, piece, at, at, false)?;
+    at_stop(progress, row, piece, end)?;
     items.push(tree)?;
     Ok(())
 }
 
-/// Puts the entry that begins at a place: a key, and its value behind a colon on the key's line.
+/// Puts the entry that begins at a place: a key, its value behind a colon on the key's line, and nothing behind that.
 #[cycle(collection)]
 fn entry(
     alloc: Global,
@@ -247,11 +248,13 @@ fn entry(
     let key = key_at(alloc, progress, Context::Flow, row, at)?;
     new_key(progress, entries, row, at, &key)?;
     let (behind, has_colon) = behind_key(row, at, &key);
-    let tree = flow_value(alloc, progress, levels, row, piece, at, behind, has_colon)?;
-    with_pair(alloc, progress, entries, row, Spot::Here(at), key, tree)
+    let (tree, end) = flow_value(alloc, progress, levels, row, piece, at, behind, has_colon)?;
+    with_pair(alloc, progress, entries, row, Spot::Here(at), key, tree)?;
+    at_stop(progress, row, piece, end)
 }
 
-/// The value of a key, from behind its colon or the key on: null where nothing stands before the piece ends.
+/// The value of a key, from behind its colon or the key on, and the place behind it: null where nothing stands before
+/// the piece ends.
 #[cycle(collection)]
 fn flow_value(
     alloc: Global,
@@ -262,13 +265,15 @@ fn flow_value(
     key: usize,
     behind: usize,
     has_colon: bool,
-) -> Result<Tree, YamlRefusal>
+) -> Result<(Tree, usize), YamlRefusal>
     requires { behind ≤ length row.now.chars }
-    ensures { Gives (result_beside result progress.new) (flow_value levels (flow levels) row.now piece key progress.old behind has_colon) }
+    ensures is { Gives (result_beside result progress.new) (flow_value levels (flow levels) row.now piece key progress.old behind has_colon) }
+    ensures within { IfOk result (λ got. got.1 ≤ length row.now.chars) }
 {
     let at = next_place(progress, row, behind, false)?;
     if piece.stop <= at {
-        return nothing(alloc, progress, levels, no_properties(), row, key);
+        let null = nothing(alloc, progress, levels, no_properties(), row, key)?;
+        return Ok((null, at));
     }
     if !has_colon {
         return Err(progress.bad(YamlFault::BadFlow, row, piece.bracket));
@@ -276,8 +281,8 @@ fn flow_value(
     flow_node(alloc, progress, levels, row, piece, key, at, true)
 }
 
-/// The node that begins at a place of a piece; where only properties stand, nothing, at the place of its key or of
-/// itself.
+/// The node that begins at a place of a piece, and the place behind it; where only properties stand, nothing, at the
+/// place of its key or of itself.
 #[cycle(collection)]
 fn flow_node(
     alloc: Global,
@@ -288,9 +293,10 @@ fn flow_node(
     owner: usize,
     at: usize,
     may_be_marked: bool,
-) -> Result<Tree, YamlRefusal>
+) -> Result<(Tree, usize), YamlRefusal>
     requires { at ≤ length row.now.chars }
-    ensures { Gives (result_beside result progress.new) (flow_node levels (flow levels) may_be_marked row.now piece owner progress.old at) }
+    ensures is { Gives (result_beside result progress.new) (flow_node levels (flow levels) may_be_marked row.now piece owner progress.old at) }
+    ensures within { IfOk result (λ got. got.1 ≤ length row.now.chars) }
 {
     let (found, at) = flow_properties(
         alloc,
@@ -302,8 +308,8 @@ fn flow_node(
         RUNS,
     )?;
     if piece.stop <= at {
-        return nothing(alloc, progress, levels, found, row, owner);
+        let null = nothing(alloc, progress, levels, found, row, owner)?;
+        return Ok((null, at));
     }
-    let (tree, end) = flow(alloc, progress, levels, found, row, at)?;
-    at_stop(progress, row, piece, tree, end)
+    flow(alloc, progress, levels, found, row, at)
 }

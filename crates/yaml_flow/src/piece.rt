@@ -5,11 +5,10 @@ ghost use Rattle.yaml_lines.specs.Answers.{Gives};
 ghost use Rattle.yaml_lines.specs.declared.refusal.YamlFault.TheVariants.{BadFlow};
 ghost use Rattle.yaml_lines.specs.Rows.{text_at};
 ghost use Rattle.yaml_nodes.specs.Marks.{starts};
-ghost use Rattle.yaml_nodes.specs.Progress.{bad, result_beside};
+ghost use Rattle.yaml_nodes.specs.Progress.{bad, result_left};
 
 use crate::gap::next_place;
 use logical_lines::cut_len;
-use tree_base::Tree;
 use yaml_lines::{Row, YamlFault, YamlRefusal, text_at};
 use yaml_nodes::{Progress, starts};
 
@@ -59,19 +58,13 @@ pub fn behind_bracket(
     }
 }
 
-/// A node that ends before a place, where nothing stands before its piece ends; else `BadFlow`.
-pub fn at_stop(
-    progress: &Progress,
-    row: &Row,
-    piece: Piece,
-    tree: Tree,
-    end: usize,
-) -> Result<Tree, YamlRefusal>
+/// Refuses what stands behind a node, from the place behind it to the end of its piece (`BadFlow`).
+pub fn at_stop(progress: &Progress, row: &Row, piece: Piece, end: usize) -> Result<(), YamlRefusal>
     requires { end ≤ length row.now.chars }
-    ensures { Gives (result_beside result progress.now) (at_stop row.now piece ((tree, end), progress.now)) }
+    ensures { Gives (result_left result progress.now) (at_stop row.now piece progress.now end) }
 {
     if next_place(progress, row, end, false)? == piece.stop {
-        Ok(tree)
+        Ok(())
     } else {
         Err(progress.bad(YamlFault::BadFlow, row, piece.bracket))
     }

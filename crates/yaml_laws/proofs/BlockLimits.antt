@@ -1,5 +1,5 @@
 -- Block collections are within the limits.
-use Rattle.std.proofs.Common.{ℕ, zero, suc, ◌+◌, ◌-◌, ◌≤◌, List, [], ◌∷◌, true, false, ◌||◌, ◌&&◌, arith}
+use Rattle.std.proofs.Common.{ℕ, zero, suc, ◌+◌, ◌-◌, ◌≤◌, List, [], ◌∷◌, true, false, take, drop, ◌||◌, ◌&&◌, arith}
 use Rattle.logical_lines.specs.declared.line.LogicalLine.{LogicalLine}
 use Rattle.tree_base.specs.declared.tree.Tree.{Tree}
 use Rattle.yaml_lines.specs.Blanks.{blanks, is_rest_blank}
@@ -15,14 +15,14 @@ use Rattle.yaml_nodes.specs.Marks.{before_colon, is_colon_of, is_item, is_key, i
 use Rattle.yaml_nodes.specs.Properties.{carried, no_properties, properties_from, unspelled}
 use Rattle.yaml_laws.proofs.Chains.{Yields, given, refused, either, chained, followed, unchanged}
 use Rattle.yaml_laws.proofs.EntryLimits.{Fills, none_fill, new_key_counts, with_pair_fills, merged_grows}
-use Rattle.yaml_laws.proofs.InlineLimits.{inline_alone_grows}
+use Rattle.yaml_laws.proofs.InlineLimits.{alone_same, inline_alone_grows}
 use Rattle.yaml_laws.proofs.ItemLimits.{Lists, none_list, push_lists, seq_grows}
 use Rattle.yaml_laws.proofs.Limits.{Counts, Grows, finished_grows}
 use Rattle.yaml_laws.proofs.NodeLimits.{one_node_takes, nothing_grows}
 use Rattle.yaml_laws.proofs.PartLimits.{begun_same, block_keeps}
-use Rattle.yaml_tree.specs.Blocks.{Reader, block_entry, block_item, block_mapping, block_or_inline, block_sequence, block_value, item_node, no_level, node, node_with, value_behind}
+use Rattle.yaml_tree.specs.Blocks.{Reader, block_entry, block_item, block_mapping, block_or_inline, block_sequence, block_value, item_node, no_level, node, node_with, stands_behind, value_behind}
 use Rattle.yaml_tree.specs.Inline.{Owned, goes_on_at}
-use Rattle.yaml_tree.specs.Parts.{begins_entry, begins_item, begun, first_indent, is_entry_at, is_item_at}
+use Rattle.yaml_tree.specs.Parts.{begins_entry, begins_item, begun, first_indent, is_entry_at, is_item_at, value_len}
 
 -- what a reader reads is of at most so many levels and counted
 abbrev pub BlockGrows : ℕ → Reader → Type 0
@@ -50,12 +50,14 @@ module _ (levels : ℕ) (read : Reader) (grows : BlockGrows levels read) where
   block_entry_fills p column done line more h =
       let cs = text_at line.row column in
       let colon = column + before_colon Block cs in
+      let len = value_len column (stands_behind line.row (colon + 1)) more in
       followed (key_at Block done.1 line.row column) _
       (λ key. either (is_colon_of Block cs (text_at line.row colon)) _ _
       (chained _ _ (new_key_counts done.0 done.1 line.row column key)
-      (λ q c. chained _ _ (block_value_grows (record { row = line.row; column = column; is_key = true }) q line (colon + 1) more)
+      (λ q c. chained _ _ (block_value_grows (record { row = line.row; column = column; is_key = true }) q line (colon + 1) (take len more))
       (λ got k. let both : Counts done.1 _ _ got.1 = record { nodes = omega arith; text = omega arith } in
-      chained _ _ (with_pair_fills levels p done.1 got.1 line.row (Before (place_in got.1.file line.row column)) done.0 key got.0 h both k.deep k.within) (λ entries f. given _ f))))
+      chained _ _ (with_pair_fills levels p done.1 got.1 line.row (Before (place_in got.1.file line.row column)) done.0 key got.0 h both k.deep k.within)
+      (λ entries f. unchanged got.1 _ _ (alone_same false 0 got.1 (drop len more)) (given _ f)))))
       (refused _))
 
 module _ (levels under : ℕ) (read : Reader) (less : under ≤ levels - 1) (grows : BlockGrows under read) where

@@ -68,11 +68,11 @@ value_read levels read owner p line behind d ds here is room fits =
     (rw start (no_property_from d ds word true p line.row (behind + 1) no_properties)) (rw start (no_properties_len d ds word)) (rw start (not_blank d ds word true))
     ∙ alone_is (suc levels) p line (behind + 1) d ds start is.chars is.spells (omega arith) room fits (owner.column + 1) owner.column
 
-entry_by : (column levels : ℕ) (read : Reader) (entries : Entries) (p q r : Progress) (line : LogicalLine) (more : List LogicalLine) (len : ℕ) (key : Key) (tree : Tree)
+entry_by : (column levels : ℕ) (read : Reader) (entries : Entries) (p q r : Progress) (line : LogicalLine) (len : ℕ) (key : Key) (tree : Tree)
     → before_colon Block (drop column line.row.chars) ≡ len → key_at Block p line.row column ≡ Ok key → is_colon (drop (column + len) line.row.chars) ≡ true → new_key entries p line.row column key ≡ Ok q
-    → block_value levels read (record { row = line.row; column = column; is_key = true }) q line (column + len + 1) more ≡ Ok (tree, r) → key.is_merge ≡ false
-    → block_entry column levels read (entries, p) line more ≡ Ok (record entries { own = with_entry entries.own key.text tree }, r)
-entry_by column levels read entries p q r line more len key tree before reads colon new value plain = rw (before, reads, colon, new, value, plain)
+    → block_value levels read (record { row = line.row; column = column; is_key = true }) q line (column + len + 1) [] ≡ Ok (tree, r) → key.is_merge ≡ false
+    → block_entry column levels read (entries, p) line [] ≡ Ok (record entries { own = with_entry entries.own key.text tree }, r)
+entry_by column levels read entries p q r line len key tree before reads colon new value plain = rw (before, reads, colon, new, value, plain)
 
 new_is : (own : Pairs) (p : Progress) (row : Row) (at : ℕ) (word : List ℕ) → value_at own (encode_utf8_all word) ≡ None → p.text + length (encode_utf8_all word) ≤ 16777216
     → new_key (entries_with own) p row at (key_of word) ≡ Ok (counted p (length (encode_utf8_all word)))
@@ -92,6 +92,6 @@ entry_is levels read own p number (c ∷ cs) (d ∷ ds) is has new room fits =
     let colon : is_colon (drop (0 + suc (length cs)) line.row.chars) ≡ true = ap is_colon (behind_key c cs is.chars (d ∷ ds) (0 + suc (length cs)) 0 (omega arith)) in
     let space = behind_key c cs is.chars (d ∷ ds) (0 + suc (length cs) + 1) 1 (omega arith) in
     let value = value_read levels read owner (counted p (length key)) line (0 + suc (length cs) + 1) d ds space has room fits in
-    entry_by 0 (suc levels) read (entries_with own) p (counted p (length key)) (grown (counted p (length key)) 1 (length (encode_utf8_all (d ∷ ds)))) line [] (suc (length cs)) (key_of (c ∷ cs)) (scalar_of (d ∷ ds))
+    entry_by 0 (suc levels) read (entries_with own) p (counted p (length key)) (grown (counted p (length key)) 1 (length (encode_utf8_all (d ∷ ds)))) line (suc (length cs)) (key_of (c ∷ cs)) (scalar_of (d ∷ ds))
     (colon_is c cs is.chars (d ∷ ds)) (key_read p number c cs (d ∷ ds) is.chars) colon (new_is own p line.row 0 (c ∷ cs) new (omega (arith, fits))) value refl
     ∙ ap (λ pairs. Ok (entries_with pairs, grown (counted p (length key)) 1 (length (encode_utf8_all (d ∷ ds))))) (put_last own key (scalar_of (d ∷ ds)) new)

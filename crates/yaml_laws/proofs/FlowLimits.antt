@@ -1,8 +1,8 @@
 -- Flow collections are within the limits.
-use Rattle.std.proofs.Common.{ℕ, zero, suc, ◌+◌, ◌-◌, ◌≤◌, List, [], Bool, true, false, nat_le, arith}
+use Rattle.std.proofs.Common.{◌≡◌, ℕ, zero, suc, ◌+◌, ◌-◌, ◌≤◌, List, [], Bool, true, false, nat_le, refl, arith}
 use Rattle.tree_base.specs.declared.tree.Tree.{Tree}
 use Rattle.yaml_flow.specs.declared.piece.Piece.{Piece}
-use Rattle.yaml_flow.specs.Flow.{FlowReader, at_stop, flow, flow_entry, flow_item, flow_mapping, flow_node, flow_properties, flow_sequence, flow_value, flow_with, no_level}
+use Rattle.yaml_flow.specs.Flow.{FlowReader, at_stop, flow, flow_entry, flow_item, flow_mapping, flow_node, flow_properties, flow_sequence, flow_value, flow_with, no_level, nothing_before}
 use Rattle.yaml_flow.specs.Gaps.{next_place}
 use Rattle.yaml_lines.specs.declared.plain.Context.TheVariants.{Flow}
 use Rattle.yaml_lines.specs.declared.row.Row.{Row}
@@ -14,8 +14,7 @@ use Rattle.yaml_nodes.specs.declared.spot.Spot.TheVariants.{Here}
 use Rattle.yaml_nodes.specs.Mappings.{key_at, no_entries}
 use Rattle.yaml_nodes.specs.Marks.{is_key_behind, starts}
 use Rattle.yaml_nodes.specs.Properties.{no_properties, unspelled}
-use Rattle.yaml_nodes.specs.Scalars.{Inline}
-use Rattle.yaml_laws.proofs.Chains.{Yields, given, refused, either, chained, followed}
+use Rattle.yaml_laws.proofs.Chains.{Yields, given, refused, either, chained, followed, unchanged}
 use Rattle.yaml_laws.proofs.EntryLimits.{Fills, none_fill, new_key_counts, with_pair_fills, merged_grows}
 use Rattle.yaml_laws.proofs.ItemLimits.{Lists, none_list, push_lists, seq_grows}
 use Rattle.yaml_laws.proofs.Limits.{Counts, Grows, GrowsInline, finished_grows}
@@ -27,23 +26,27 @@ abbrev pub FlowGrows : ℕ → FlowReader → Type 0
 FlowGrows levels read = (found : Properties) (p : Progress) (row : Row) (at : ℕ) → Yields (GrowsInline levels p) (read found p row at)
 
 module _ (levels : ℕ) (read : FlowReader) (grows : FlowGrows levels read) (row : Row) where
-  at_stop_grows : (p : Progress) (piece : Piece) (got : Inline) → GrowsInline levels p got → Yields (Grows levels p) (at_stop row piece got)
-  at_stop_grows p piece got h = followed (next_place got.1 row false got.0.1) _ (λ at. either _ _ _ (given _ h) (refused _))
+  at_stop_same : (piece : Piece) (p : Progress) (end : ℕ) → Yields (λ q. p ≡ q) (at_stop row piece p end)
+  at_stop_same piece p end = followed (next_place p row false end) _ (λ at. either _ _ _ (given p refl) (refused _))
 
-  flow_node_grows : (may_be_marked : Bool) (piece : Piece) (owner : ℕ) (p : Progress) (at : ℕ) → Yields (Grows levels p) (flow_node levels read may_be_marked row piece owner p at)
+  nothing_before_grows : (found : Properties) (p : Progress) (owner end : ℕ) → Yields (GrowsInline levels p) (nothing_before levels found p row owner end)
+  nothing_before_grows found p owner end = chained _ _ (nothing_grows levels found p row owner) (λ got h. given _ h)
+
+  flow_node_grows : (may_be_marked : Bool) (piece : Piece) (owner : ℕ) (p : Progress) (at : ℕ) → Yields (GrowsInline levels p) (flow_node levels read may_be_marked row piece owner p at)
   flow_node_grows may_be_marked piece owner p at =
       followed (flow_properties 3 may_be_marked p row no_properties at) _
-      (λ found. either (nat_le piece.stop found.1) _ _ (nothing_grows levels found.0 p row owner) (chained _ _ (grows found.0 p row found.1) (λ got h. at_stop_grows p piece got h)))
+      (λ found. either (nat_le piece.stop found.1) _ _ (nothing_before_grows found.0 p owner found.1) (grows found.0 p row found.1))
 
   flow_item_lists : (p : Progress) (piece : Piece) (done : List Tree × Progress) (at : ℕ) → Lists levels p done → Yields (Lists levels p) (flow_item levels read row piece done at)
   flow_item_lists p piece done at h =
       either (is_key_behind Flow (text_at row at)) _ _ (refused _)
-      (chained _ _ (flow_node_grows false piece at done.1 at) (λ got k. given _ (push_lists levels p done.1 got.1 done.0 got.0 h k)))
+      (chained _ _ (flow_node_grows false piece at done.1 at) 
+      (λ got k. unchanged got.1 _ _ (at_stop_same piece got.1 got.0.1) (given _ (push_lists levels p done.1 got.1 done.0 got.0.0 h k))))
 
-  flow_value_grows : (piece : Piece) (key : ℕ) (p : Progress) (behind : ℕ) (has_colon : Bool) → Yields (Grows levels p) (flow_value levels read row piece key p behind has_colon)
+  flow_value_grows : (piece : Piece) (key : ℕ) (p : Progress) (behind : ℕ) (has_colon : Bool) → Yields (GrowsInline levels p) (flow_value levels read row piece key p behind has_colon)
   flow_value_grows piece key p behind has_colon =
       followed (next_place p row false behind) _
-      (λ at. either (nat_le piece.stop at) _ _ (nothing_grows levels no_properties p row key) (either has_colon _ _ (flow_node_grows true piece key p at) (refused _)))
+      (λ at. either (nat_le piece.stop at) _ _ (nothing_before_grows no_properties p key at) (either has_colon _ _ (flow_node_grows true piece key p at) (refused _)))
 
   flow_entry_fills : (p : Progress) (piece : Piece) (done : Entries × Progress) (at : ℕ) → Fills levels p done → Yields (Fills levels p) (flow_entry levels read row piece done at)
   flow_entry_fills p piece done at h =
@@ -51,7 +54,8 @@ module _ (levels : ℕ) (read : FlowReader) (grows : FlowGrows levels read) (row
       (λ key. chained _ _ (new_key_counts done.0 done.1 row at key)
       (λ q c. chained _ _ (flow_value_grows piece at q _ _)
       (λ got k. let both : Counts done.1 _ _ got.1 = record { nodes = omega arith; text = omega arith } in
-      chained _ _ (with_pair_fills levels p done.1 got.1 row (Here at) done.0 key got.0 h both k.deep k.within) (λ entries f. given _ f))))
+      chained _ _ (with_pair_fills levels p done.1 got.1 row (Here at) done.0 key got.0.0 h both k.deep k.within)
+      (λ entries f. unchanged got.1 _ _ (at_stop_same piece got.1 got.0.1) (given _ f)))))
 
 module _ (levels under : ℕ) (read : FlowReader) (less : under ≤ levels - 1) (grows : FlowGrows under read) where
   flow_sequence_grows : FlowGrows levels (flow_sequence levels under read)

@@ -20,7 +20,7 @@ inline_grows levels column found p line at =
     either (begins_flow cs) _ _ (flow_grows levels found p line.row at)
     (either (begins_block cs) _ _ (block_scalar_grows levels found p line.row at column line.content) (word_grows Block levels found p line.row at))
 
-alone_same : (scalar : Bool) (indent : ℕ) (p : Progress) (lines : List LogicalLine) → Yields (λ q. p ≡ q) (alone scalar indent p lines)
+pub alone_same : (scalar : Bool) (indent : ℕ) (p : Progress) (lines : List LogicalLine) → Yields (λ q. p ≡ q) (alone scalar indent p lines)
 alone_same scalar indent p [] = given p refl
 alone_same scalar indent p (line ∷ lines) = followed (begun p line) _ (λ q. refused _)
 

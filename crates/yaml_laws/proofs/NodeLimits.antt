@@ -111,4 +111,7 @@ word_grows context levels found p row at =
 -- a block scalar
 pub block_scalar_grows : (levels : ℕ) (found : Properties) (p : Progress) (row : Row) (at column : ℕ) (content : List Row) → Yields (GrowsInline levels p) (block_scalar levels found p row at column content)
 block_scalar_grows levels found p row at column content =
-    followed _ _ (λ read. chained _ _ (one_node_takes levels p row at _) (λ q h. given _ (finished_grows levels p found _ (scalar_grows _ h))))
+    chained _ _ (one_node_takes levels p row at 0)
+    (λ first t. followed _ _ (λ read. chained _ _ (more_text_counts first row (Here at) _)
+    (λ q (c : CountsText first _ q). let sum : Takes levels 1 p 1 _ q = record { levels_left = t.levels_left; counted = record { nodes = omega arith; text = omega arith }; within = record { nodes = omega arith; text = c.text } } in
+    given _ (finished_grows levels p found _ (scalar_grows _ sum)))))

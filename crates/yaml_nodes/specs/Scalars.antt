@@ -18,7 +18,8 @@ use Rattle.yaml_lines.specs.Rows.{text_at}
 use Rattle.yaml_nodes.specs.declared.progress.Progress.{Progress}
 use Rattle.yaml_nodes.specs.declared.properties.Properties.{Properties}
 use Rattle.yaml_nodes.specs.Marks.{is_quote, name_len, starts}
-use Rattle.yaml_nodes.specs.Progress.{◌>>=◌, bad, copied, one_node}
+use Rattle.yaml_nodes.specs.declared.spot.Spot.TheVariants.{Here}
+use Rattle.yaml_nodes.specs.Progress.{◌>>=◌, bad, copied, more_text, one_node}
 use Rattle.yaml_nodes.specs.Properties.{finished, is_spelled, name_of, unspelled}
 
 -- a plain word for null
@@ -107,9 +108,10 @@ header p row at =
     if is_digit (text_at row behind) then bad Unsupported p row behind
     else (line_end p row behind >>= λ behind. Ok (chomp.0, behind))
 
--- a block scalar, whose content is deeper than a column
+-- a block scalar, whose content is deeper than a column: its node is asked before its header is read, and its text behind it
 abbrev pub block_scalar : ℕ → Properties → Progress → Row → ℕ → ℕ → List Row → Result Inline YamlRefusal
 block_scalar levels found p row at column content =
+    one_node levels p row at 0 >>= λ p.
     header p row at >>= λ read.
     let text = encode_utf8_all (block_of (starts 62 (text_at row at)) read.0 column (lines_of_rows content)).0 in
-    one_node levels p row at (length text) >>= λ p. Ok (ending read.1 (finished found (Scalar text, p)))
+    more_text p row (Here at) (length text) >>= λ p. Ok (ending read.1 (finished found (Scalar text, p)))

@@ -6,6 +6,7 @@ ghost use Rattle.yaml_nodes.specs.Scalars.{line_end, chomp_of, is_digit, header,
 use crate::marks::starts;
 use crate::progress::Progress;
 use crate::properties::{Properties, finished};
+use crate::spot::Spot;
 use std::alloc::Global;
 use tree_base::Tree;
 use yaml_lines::{
@@ -65,8 +66,8 @@ fn header(progress: &Progress, row: &Row, at: usize) -> Result<(Chomp, usize), Y
 }
 
 /// The block scalar whose `|` or `>` stands at a character of a row, by its content's lines, and the place behind its
-/// header. The content is deeper than a column. Refuses a digit in the header (`Unsupported`), something else behind
-/// it (`BadScalar`), and a limit that this node passes.
+/// header. The content is deeper than a column. Refuses the levels or nodes that this node passes, then a digit in the
+/// header (`Unsupported`) or something else behind it (`BadScalar`), then the bytes that its text passes.
 pub fn block_scalar(
     alloc: Global,
     progress: &mut Progress,
@@ -81,10 +82,11 @@ pub fn block_scalar(
     ensures is { Gives (result_beside result progress.new) (block_scalar levels found progress.old row.now at column content.now) }
     ensures within { IfOk result (λ got. got.1 ≤ length row.now.chars) }
 {
+    progress.one_node(levels, row, at, 0)?;
     let folded = starts(text_at(row, at), '>');
     let (chomp, behind) = header(progress, row, at)?;
     let (text, _) = block_of_rows(alloc, content, column, folded, chomp)?;
-    progress.one_node(levels, row, at, text.len() as u64)?;
+    progress.more_text(row, Spot::Here(at), text.len() as u64)?;
     let tree = finished(alloc, progress, found, Tree::Scalar(text))?;
     Ok((tree, behind))
 }

@@ -1,5 +1,5 @@
 -- Block collections: lines, by their indentation (YAML 1.2, chapter 8.2).
-use Rattle.std.specs.Prelude.{ℕ, zero, suc, ◌+◌, List, [], ◌∷◌, ◌++◌, true, false, Result, Ok, Err, ◌&&◌, ◌||◌, if◌then◌else◌}
+use Rattle.std.specs.Prelude.{ℕ, zero, suc, ◌+◌, List, [], ◌∷◌, ◌++◌, Bool, true, false, Result, Ok, Err, take, drop, not, ◌&&◌, ◌||◌, if◌then◌else◌}
 use Rattle.logical_lines.specs.declared.line.LogicalLine.{LogicalLine}
 use Rattle.tree_base.specs.declared.tree.Tree.{Tree}
 use Rattle.tree_base.specs.declared.tree.Tree.TheVariants.{Seq}
@@ -9,6 +9,7 @@ use Rattle.yaml_lines.specs.Plain.{is_colon}
 use Rattle.yaml_lines.specs.declared.refusal.YamlFault.TheVariants.{BadScalar, Unsupported}
 use Rattle.yaml_lines.specs.declared.refusal.YamlRefusal.{YamlRefusal}
 use Rattle.yaml_lines.specs.declared.refusal.YamlRefusal.TheVariants.{TooDeep}
+use Rattle.yaml_lines.specs.declared.row.Row.{Row}
 use Rattle.yaml_lines.specs.Rows.{place_in, text_at}
 use Rattle.yaml_nodes.specs.declared.entries.Entries.{Entries}
 use Rattle.yaml_nodes.specs.declared.progress.Progress.{Progress}
@@ -19,8 +20,8 @@ use Rattle.yaml_nodes.specs.Marks.{before_colon, is_colon_of, is_item, is_key, i
 use Rattle.yaml_nodes.specs.Progress.{◌>>=◌, bad, one_node}
 use Rattle.yaml_nodes.specs.Properties.{carried, fault_of_key, finished, no_properties, properties_from, unspelled}
 use Rattle.yaml_nodes.specs.Scalars.{nothing}
-use Rattle.yaml_tree.specs.Inline.{Owned, goes_on_at, inline_alone}
-use Rattle.yaml_tree.specs.Parts.{PartReader, begins_entry, begins_item, begun, block, first_indent, is_entry_at, is_item_at}
+use Rattle.yaml_tree.specs.Inline.{Owned, alone, goes_on_at, inline_alone}
+use Rattle.yaml_tree.specs.Parts.{PartReader, begins_entry, begins_item, begun, block, first_indent, is_entry_at, is_item_at, value_len}
 
 -- a reader of the node of an owner, beside the properties before it: it begins at a place of the first line; without lines nothing stands there
 abbrev pub Reader : Type 0
@@ -61,15 +62,23 @@ block_value levels read owner p line behind more =
     properties_from true p line.row start no_properties 0 (text_at line.row start) >>= λ found.
     value_behind levels read owner found p line (start + properties_len 0 (text_at line.row start)) more
 
--- an entry of a mapping at a column: a key and its colon on one line, then its value
+-- more than properties stands behind a colon on its line
+abbrev pub stands_behind : Row → ℕ → Bool
+stands_behind row behind =
+    let start = behind + blanks (text_at row behind) in
+    not (is_rest_blank true (text_at row (start + properties_len 0 (text_at row start))))
+
+-- an entry of a mapping at a column: a key and its colon on one line, then its value, with which a merge key is asked; an item behind that is at a wrong column
 abbrev pub block_entry : ℕ → ℕ → Reader → PartReader Entries
 block_entry column levels read (entries, p) line more =
     let colon = column + before_colon Block (text_at line.row column) in
+    let len = value_len column (stands_behind line.row (colon + 1)) more in
     key_at Block p line.row column >>= λ key.
     if is_colon_of Block (text_at line.row column) (text_at line.row colon)
     then (new_key entries p line.row column key >>= λ p.
-    block_value levels read (record { row = line.row; column = column; is_key = true }) p line (colon + 1) more >>= λ got.
-    with_pair entries got.1 line.row (Before (place_in got.1.file line.row column)) key got.0 >>= λ entries. Ok (entries, got.1))
+    block_value levels read (record { row = line.row; column = column; is_key = true }) p line (colon + 1) (take len more) >>= λ got.
+    with_pair entries got.1 line.row (Before (place_in got.1.file line.row column)) key got.0 >>= λ entries.
+    alone false 0 got.1 (drop len more) >>= λ p. Ok (entries, p))
     else bad BadScalar p line.row column
 
 -- a block mapping at the place from which its first line is read; its values have so many levels left

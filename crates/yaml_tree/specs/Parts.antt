@@ -1,12 +1,12 @@
 -- How a block is cut: into parts, at the lines that aren't deeper than it (YAML 1.2, chapter 8.2).
-use Rattle.std.specs.Prelude.{ℕ, List, [], ◌∷◌, Bool, Option, Some, None, Result, Ok, nat_le, ◌==◌, ◌&&◌, not, if◌then◌else◌}
+use Rattle.std.specs.Prelude.{ℕ, ◌+◌, List, [], ◌∷◌, Bool, true, Option, Some, None, Result, Ok, length, nat_le, ◌==◌, ◌&&◌, ◌||◌, not, if◌then◌else◌}
 use Rattle.logical_lines.specs.declared.line.LogicalLine.{LogicalLine}
-use Rattle.yaml_lines.specs.Blanks.{tab_indent}
+use Rattle.yaml_lines.specs.Blanks.{is_rest_blank, tab_indent}
 use Rattle.yaml_lines.specs.declared.refusal.YamlFault.TheVariants.{BadIndent, TabIndent, Unsupported}
 use Rattle.yaml_lines.specs.declared.refusal.YamlRefusal.{YamlRefusal}
 use Rattle.yaml_lines.specs.Rows.{text_at}
 use Rattle.yaml_nodes.specs.declared.progress.Progress.{Progress}
-use Rattle.yaml_nodes.specs.Marks.{is_item, is_left_out}
+use Rattle.yaml_nodes.specs.Marks.{is_item, is_left_out, is_property, properties_len}
 use Rattle.yaml_nodes.specs.Progress.{◌>>=◌, bad}
 
 -- a line without a tab in its indentation, which is one of those that are left out or isn't
@@ -57,6 +57,19 @@ begins_item column line = nat_le line.row.indent column
 -- in a mapping at a column a line that isn't deeper begins an entry, but for an item at that column, which belongs to the entry before it
 abbrev pub begins_entry : ℕ → LogicalLine → Bool
 begins_entry column line = nat_le line.row.indent column && not (is_item_at column line)
+
+-- a line that holds properties alone
+abbrev pub is_bare : LogicalLine → Bool
+is_bare line =
+    let cs = text_at line.row line.row.indent in
+    is_property cs && is_rest_blank true (text_at line.row (line.row.indent + properties_len 0 cs))
+
+-- how many lines of an entry come before an item at its column that comes too late, since a value stands already: on the key's line, or in the lines before the item. Properties are no value
+abbrev pub value_len : ℕ → Bool → List LogicalLine → ℕ
+value_len column stands [] = 0
+value_len column stands (line ∷ more) =
+    if is_item_at column line then (if stands then 0 else 1 + length more)
+    else 1 + value_len column (stands || not (is_bare line)) more
 
 -- a line at the column of a mapping
 abbrev pub is_entry_at : ℕ → LogicalLine → Bool

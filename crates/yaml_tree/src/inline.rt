@@ -70,7 +70,7 @@ fn inline(
 
 /// Refuses lines behind a node on one line: one that would go on with a scalar (`Unsupported`), being of at least an
 /// indentation, and every other (`BadIndent`).
-fn alone(
+pub(crate) fn alone(
     progress: &Progress,
     scalar: bool,
     indent: usize,

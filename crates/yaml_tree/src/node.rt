@@ -9,9 +9,11 @@ ghost use Rattle.yaml_tree.specs.Blocks.{below, item_node, block_item, block_seq
 ghost use Rattle.yaml_tree.specs.Parts.{begins_item, begins_entry, is_item_at, is_entry_at, block};
 ghost use Rattle.yaml_tree.specs.Steps.{behind_properties, inner};
 
-use crate::inline::{goes_on_at, inline_alone};
+use crate::inline::{alone, goes_on_at, inline_alone};
 use crate::owner::Owner;
-use crate::parts::{begun, behind_dash, entry_len, is_item_at, item_len, later_begun};
+use crate::parts::{
+    begun, behind_dash, entry_len, is_item_at, item_len, later_begun, stands_behind, value_len,
+};
 use logical_lines::LogicalLine;
 use std::alloc::Global;
 use tree_base::{List, Tree};
@@ -268,7 +270,8 @@ fn entries(
     Ok(entries)
 }
 
-/// Puts the entry that begins at a column of a line: a key and its colon on the line, then its value.
+/// Puts the entry that begins at a column of a line: a key and its colon on the line, then its value. An item behind
+/// that, at the column of the mapping, is refused last.
 #[cycle(node)]
 fn put_entry(
     alloc: Global,
@@ -294,9 +297,12 @@ fn put_entry(
         column,
         is_key: true,
     };
-    let value = block_value(alloc, progress, levels, &owner, line, colon + 1, more)?;
+    let len = value_len(more, column, stands_behind(row, colon + 1));
+    let (own, late) = more.split_at(len);
+    let value = block_value(alloc, progress, levels, &owner, line, colon + 1, own)?;
     let spot = Spot::Before(place_in(progress.file, row, column));
-    with_pair(alloc, progress, entries, row, spot, key, value)
+    with_pair(alloc, progress, entries, row, spot, key, value)?;
+    alone(progress, false, 0, late)
 }
 
 /// The value of an entry, from behind its colon on: on the key's line, or in the lines below. Its properties stand on

@@ -3,12 +3,13 @@ ghost use Rattle.std.specs.List.{position_or_len};
 ghost use Rattle.yaml_lines.specs.Answers.{Gives};
 ghost use Rattle.yaml_lines.specs.Rows.{text_at};
 ghost use Rattle.yaml_nodes.specs.Progress.{result_left};
-ghost use Rattle.yaml_tree.specs.Parts.{begun, is_item_at, begins_item, begins_entry};
+ghost use Rattle.yaml_tree.specs.Blocks.{stands_behind};
+ghost use Rattle.yaml_tree.specs.Parts.{begun, is_item_at, begins_item, begins_entry, is_bare, value_len};
 ghost use Rattle.yaml_tree.specs.Steps.{later_begun};
 
 use logical_lines::LogicalLine;
-use yaml_lines::{Row, YamlFault, YamlRefusal, tab_indent, text_at};
-use yaml_nodes::{Progress, is_item, is_left_out};
+use yaml_lines::{Row, YamlFault, YamlRefusal, blanks, is_rest_blank, tab_indent, text_at};
+use yaml_nodes::{Progress, is_item, is_left_out, is_property, properties_len};
 
 /// Refuses a line with a tab in its indentation (`TabIndent`), and one that is left out (`Unsupported`).
 pub(crate) fn begun(progress: &Progress, line: &LogicalLine) -> Result<(), YamlRefusal>
@@ -82,6 +83,41 @@ pub(crate) fn entry_len(lines: &[LogicalLine], column: usize) -> usize
         if line.row.indent <= column && !is_item_at(line, column) {
             return at;
         }
+    }
+    lines.len()
+}
+
+/// Whether more than properties stands behind a colon, from a character of its row on.
+pub(crate) fn stands_behind(row: &Row, behind: usize) -> bool
+    requires { behind ≤ length row.now.chars }
+    ensures { result ≡ stands_behind row.now behind }
+{
+    let start = behind + blanks(text_at(row, behind));
+    let at = start + properties_len(text_at(row, start));
+    !is_rest_blank(text_at(row, at), true)
+}
+
+/// Whether a line holds properties alone.
+fn is_bare(line: &LogicalLine) -> bool
+    ensures { result ≡ is_bare line.now }
+{
+    let row = &line.row;
+    let chars = text_at(row, row.indent);
+    is_property(chars) && is_rest_blank(text_at(row, row.indent + properties_len(chars)), true)
+}
+
+/// How many lines of an entry come before an item at its column that comes too late, since a value stands already: on
+/// the key's line, or in the lines before the item.
+pub(crate) fn value_len(lines: &[LogicalLine], column: usize, on_key_line: bool) -> usize
+    ensures is { result ≡ value_len column on_key_line lines.now }
+    ensures within { result ≤ length lines.now }
+{
+    let mut stands = on_key_line;
+    for (at, line) in lines.iter().enumerate() {
+        if is_item_at(line, column) {
+            return if stands { at } else { lines.len() };
+        }
+        stands = stands || !is_bare(line);
     }
     lines.len()
 }

@@ -27,7 +27,7 @@ fn repeat(text: &str, times: usize, out: &mut Text) -> Result<(), Memory> {
 }
 
 // What stands first, what opens and how often, what stands within, what closes each
-static LEVELS: [(&str, &str, usize, &str, &str, &str); 23] = [
+static LEVELS: [(&str, &str, usize, &str, &str, &str); 25] = [
     // At most 64 nodes stand above one another, and the root is the first
     ("", "[", 64, "", "]", "64 nodes, 0 bytes"),
     ("", "[", 65, "", "]", "TooDeep 1:65"),
@@ -65,6 +65,9 @@ static LEVELS: [(&str, &str, usize, &str, &str, &str); 23] = [
     ("", "[", 64, "@", "]", "BadScalar 1:65"),
     ("", "[", 64, "*x", "]", "UnknownAlias 1:65"),
     ("", "[", 64, "!!str [a]", "]", "BadTag 1:65"),
+    // And before the header of a block scalar
+    ("", "- ", 64, "|2", "", "TooDeep 1:129"),
+    ("", "- ", 63, "|2", "", "Unsupported 1:128"),
 ];
 
 /// Nodes above one another.

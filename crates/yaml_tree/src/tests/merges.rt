@@ -1,7 +1,7 @@
 use super::check;
 use std::test::Fail;
 
-static READ: [(&str, &str); 20] = [
+static READ: [(&str, &str); 21] = [
     // Its pairs go behind the mapping's own, each key that isn't there
     ("<<: {a: 1}\nb: 2\n", r#"{"b": "2", "a": "1"}"#),
     ("a: 1\n<<: {a: 2, b: 3}\n", r#"{"a": "1", "b": "3"}"#),
@@ -18,6 +18,7 @@ static READ: [(&str, &str); 20] = [
         r#"{"c": "4", "a": "1", "b": "2"}"#,
     ),
     ("<<: []\na: 1\n", r#"{"a": "1"}"#),
+    ("<<:\n  &x\n- {a: 1}\nb: *x\n", r#"{"b": [{"a": "1"}], "a": "1"}"#),
     // Its value is mostly an alias
     (
         "a: &x {b: 1, c: [2]}\nd:\n  <<: *x\n  b: 3\n",
@@ -56,7 +57,7 @@ fn merges_are_read(rt: HostRuntime) -> Result<(), Fail> {
     check(&rt, rt.alloc(), &READ)
 }
 
-static REFUSED: [(&str, &str); 21] = [
+static REFUSED: [(&str, &str); 31] = [
     // Another value, at the key
     ("<<: 1\n", "BadMerge 1:1"),
     ("a: 1\n<<: b\n", "BadMerge 2:1"),
@@ -76,7 +77,17 @@ static REFUSED: [(&str, &str); 21] = [
     ("<<: 1\n\ta: 2\n", "BadMerge 1:1"),
     ("<<: 1\n \ta: 2\n", "TabIndent 2:2"),
     ("<<: 1\n---\n", "BadMerge 1:1"),
+    ("<<: 1\n- a\n", "BadMerge 1:1"),
+    ("<<:\n  1\n- a\n", "BadMerge 1:1"),
+    ("<<:\n  - 1\n- {a: 1}\n", "BadMerge 1:1"),
+    ("<<: {a: 1}\n- b\n", "BadIndent 2:1"),
+    ("<<:\n  a: 1\n- b\n", "BadIndent 3:1"),
     ("{<<: 1\n", "BadMerge 1:2"),
+    ("{<<: 1\n?\n", "BadMerge 1:2"),
+    ("{<<: 1\n? b}\n", "BadMerge 1:2"),
+    ("{<<: \"b\" c}\n", "BadMerge 1:2"),
+    ("{<<: {} c}\n", "BadFlow 1:1"),
+    ("{<<\nb}\n", "BadFlow 1:1"),
     // A second one
     ("<<: {a: 1}\n<<: {b: 2}\n", "RepeatedKey 2:1"),
     ("{<<: {a: 1}, <<: b}\n", "RepeatedKey 1:14"),
