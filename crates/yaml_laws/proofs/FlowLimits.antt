@@ -40,7 +40,7 @@ module _ (levels : ℕ) (read : FlowReader) (grows : FlowGrows levels read) (row
   flow_item_lists : (p : Progress) (piece : Piece) (done : List Tree × Progress) (at : ℕ) → Lists levels p done → Yields (Lists levels p) (flow_item levels read row piece done at)
   flow_item_lists p piece done at h =
       either (is_key_behind Flow (text_at row at)) _ _ (refused _)
-      (chained _ _ (flow_node_grows false piece at done.1 at) 
+      (chained _ _ (flow_node_grows false piece at done.1 at)
       (λ got k. unchanged got.1 _ _ (at_stop_same piece got.1 got.0.1) (given _ (push_lists levels p done.1 got.1 done.0 got.0.0 h k))))
 
   flow_value_grows : (piece : Piece) (key : ℕ) (p : Progress) (behind : ℕ) (has_colon : Bool) → Yields (GrowsInline levels p) (flow_value levels read row piece key p behind has_colon)
