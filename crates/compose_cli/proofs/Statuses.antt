@@ -4,8 +4,9 @@ use Rattle.std.specs.Prelude.{Option}
 use Rattle.engine_types.specs.declared.Outcome.{Outcome}
 use Rattle.engine_types.specs.declared.SeenFault.{SeenFault}
 use Rattle.engine_types.specs.declared.WireEnd.{WireEnd}
-use Rattle.refusals.specs.Statuses.{refusal_status, status_of, yaml_status}
+use Rattle.refusals.specs.Statuses.{project_status, refusal_status, status_of, yaml_status}
 use Rattle.refusals.specs.declared.LoadRefusal.{LoadRefusal}
+use Rattle.refusals.specs.declared.ProjectRefusal.{ProjectRefusal}
 use Rattle.refusals.specs.declared.Refusal.{Refusal}
 use Rattle.refusals.specs.declared.Unbuilt.{Unbuilt}
 use Rattle.run_model.specs.Ending.{lost_status, outcome_status, seen_status}
@@ -44,14 +45,19 @@ yaml_not_zero (YamlRefusal.TooManyNodes place) e = absurd (cc e)
 yaml_not_zero (YamlRefusal.TooMuchText place) e = absurd (cc e)
 yaml_not_zero YamlRefusal.Memory e = absurd (cc e)
 
+project_not_zero : (refusal : ProjectRefusal) → project_status refusal ≡ 0 → ⊥
+project_not_zero (ProjectRefusal.BadName name) e = absurd (cc e)
+project_not_zero (ProjectRefusal.TooManyServices count) e = absurd (cc e)
+
 refusal_not_zero : (refusal : Refusal) → refusal_status refusal ≡ 0 → ⊥
 refusal_not_zero (Refusal.NotBuilt Unbuilt.Words) e = absurd (cc e)
-refusal_not_zero (Refusal.NotBuilt (Unbuilt.Text path place)) e = absurd (cc e)
+refusal_not_zero (Refusal.NotBuilt (Unbuilt.Attribute path)) e = absurd (cc e)
 refusal_not_zero (Refusal.Load (LoadRefusal.NotFound path)) e = absurd (cc e)
 refusal_not_zero (Refusal.Load (LoadRefusal.ReadFault path)) e = absurd (cc e)
 refusal_not_zero (Refusal.Load (LoadRefusal.FileTooLarge path)) e = absurd (cc e)
 refusal_not_zero (Refusal.Load (LoadRefusal.Yaml path refusal)) e = yaml_not_zero refusal e
-refusal_not_zero (Refusal.Name refusal) e = absurd (cc e)
+refusal_not_zero (Refusal.Name refusal) e = project_not_zero refusal e
+refusal_not_zero (Refusal.Project refusal) e = project_not_zero refusal e
 refusal_not_zero (Refusal.Seen fault) e = seen_not_zero fault e
 refusal_not_zero (Refusal.Request request outcome) e = outcome_not_zero outcome e
 refusal_not_zero (Refusal.Condition slot condition report) e = absurd (cc e)

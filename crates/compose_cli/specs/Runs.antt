@@ -71,6 +71,7 @@ abbrev pub IsUnbegun : Option Refusal → Type 0
 IsUnbegun (Some (Refusal.NotBuilt unbuilt)) = Unit {0}
 IsUnbegun (Some (Refusal.Load refusal)) = Unit {0}
 IsUnbegun (Some (Refusal.Name refusal)) = Unit {0}
+IsUnbegun (Some (Refusal.Project refusal)) = Unit {0}
 IsUnbegun (Some (Refusal.Outside Part.Plug)) = Unit {0}
 IsUnbegun (Some Refusal.Memory) = Unit {0}
 IsUnbegun _ = ⊥

@@ -263,12 +263,59 @@ fn a_missing_file_is_refused(rt: HostRuntime) -> Result<(), Fail> {
 }
 
 #[test]
-fn an_empty_file_is_refused_at_its_first_line(rt: HostRuntime) -> Result<(), Fail> {
+fn a_project_without_services_is_observed_alone(rt: HostRuntime) -> Result<(), Fail> {
+    for text in ["", "services: {}", "services:\n"] {
+        let path = "/w/shop/compose.yaml";
+        let said = says(rt.alloc(), "--memory up", "/w/shop", path, text)?;
+        assert_eq!(rt; said.as_str(), "0 journal SL hand L out  err ");
+    }
+    Ok(())
+}
+
+/// Texts that are refused, each with what is said of it.
+static REFUSED: [(&str, &str); 6] = [
+    (
+        "services:\n  a:\n    command: [x, y",
+        "/w/shop/compose.yaml:3:14: BadFlow",
+    ),
+    ("services:\n\ta: 1\n", "/w/shop/compose.yaml:2:1: TabIndent"),
+    ("a: 1\na: 2\n", "/w/shop/compose.yaml:2:1: RepeatedKey"),
+    ("services: web\n", "services: not built"),
+    ("services:\n  web:\n", "services.web: not built"),
+    ("networks: {}\n", "networks: not built"),
+];
+
+#[test]
+fn a_refused_text_sends_nothing(rt: HostRuntime) -> Result<(), Fail> {
+    let alloc = rt.alloc();
     let path = "/w/shop/compose.yaml";
-    let said = says(rt.alloc(), "--memory up", "/w/shop", path, "")?;
+    for (text, words) in REFUSED.iter() {
+        let said = says(alloc, "--memory up", "/w/shop", path, text)?;
+        let expected = format!(in alloc; "2 journal  out  err compose: {words}\n")?;
+        assert_eq!(rt; said.as_str(), expected.as_str());
+    }
+    Ok(())
+}
+
+/// A file with so many services, of which nothing is said.
+fn many_services(alloc: Global, count: u32) -> Result<Text, Memory> {
+    let mut text = Text::from_str(alloc, "services:\n")?;
+    for number in 0..count {
+        let line = format!(in alloc; "  s{number}:\n")?;
+        text.push_str(line.as_str())?;
+    }
+    Ok(text)
+}
+
+#[test]
+fn services_past_the_limit_are_counted(rt: HostRuntime) -> Result<(), Fail> {
+    let alloc = rt.alloc();
+    let text = many_services(alloc, 1_001)?;
+    let path = "/w/shop/compose.yaml";
+    let said = says(alloc, "config", "/w/shop", path, text.as_str())?;
     assert_eq!(rt;
         said.as_str(),
-        "2 journal  out  err compose: /w/shop/compose.yaml:1:1: not built\n"
+        "8 journal  out  err compose: TooManyServices: 1001\n"
     );
     Ok(())
 }

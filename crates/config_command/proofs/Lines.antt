@@ -1,12 +1,11 @@
 -- The page of a project, line by line.
-use Rattle.std.proofs.Common.{◌≡◌, ◌<◌, ◌∙◌, ℕ, List, [], ◌∷◌, ◌++◌, true, codes, length, map, flat_map, refl, sym, ap, append_assoc, rules, arith}
+use Rattle.std.proofs.Common.{◌≡◌, ◌<◌, ◌∙◌, ℕ, List, [], ◌∷◌, ◌++◌, true, codes, length, map, flat_map, refl, ap, append_assoc, rules, arith}
 use Rattle.std.proofs.lemmas.Grind.{flat_map-append}
 use Rattle.std.proofs.lemmas.List.{append-nil, map-append}
-use Rattle.config_command.specs.Laws.{PagesHaveTheirLines, service_lines, text_word}
+use Rattle.config_command.specs.Laws.{EmptyProjectsHaveTwoLines, PagesHaveTheirLines, service_lines, text_word}
 use Rattle.config_command.specs.ProjectPages.{entry_of, node_of, project_page, service_node}
 use Rattle.plain_services.specs.declared.PlainService.{PlainService}
-use Rattle.plain_services.specs.declared.Project.{Project}
-use Rattle.project_print.specs.Pages.{Shown, block, deeper, ended, entry, lines_of, page_text, shown, word}
+use Rattle.project_print.specs.Pages.{Shown, block, deeper, ended, entry, lines_of, shown, word}
 use Rattle.project_print.specs.Scalars.{scalar}
 use Rattle.project_print.specs.declared.node.Node.{Node, the_lemmas}
 use Rattle.project_print.specs.declared.node.Node.TheVariants.{Map, Text}
@@ -74,6 +73,20 @@ page_lines name (service ∷ services) some =
 
     joined : (n rest : List ℕ) → ((codes "name: " ++ n) ++ codes "\n") ++ (codes "services:\n" ++ rest) ≡ codes "name: " ++ (n ++ (codes "\nservices:\n" ++ rest))
     joined n rest = simp append_assoc
+
+empty_lines : (name : List ℕ) → project_page (record { name = name; services = [] }) ≡ codes "name: " ++ (text_word name ++ codes "\nservices: {}\n")
+empty_lines name = ap (λ (s : Shown). flat_map ended (lines_of s)) project_shown ∙ joined (text_word name)
+  where
+    project_shown : shown (node_of (record { name = name; services = [] })) ≡ block (codes "{}") (entry (codes "name", word (text_word name)) ∷ entry (codes "services", word (codes "{}")) ∷ [])
+    project_shown =
+        at_map ((codes "name", Text name) ∷ (codes "services", Map []) ∷ [])
+        ∙ (λ i. block (codes "{}") (entry (codes "name", at_text name i) ∷ entry (codes "services", services_shown [] i) ∷ []))
+
+    joined : (n : List ℕ) → ((codes "name: " ++ n) ++ codes "\n") ++ codes "services: {}\n" ≡ codes "name: " ++ (n ++ codes "\nservices: {}\n")
+    joined n = simp append_assoc
+
+pub empty_pages : EmptyProjectsHaveTwoLines
+empty_pages project none = ap (λ (services : List PlainService). project_page (record { name = project.name; services = services })) none ∙ empty_lines project.name
 
 pub pages : PagesHaveTheirLines
 pages project some = page_lines project.name project.services some

@@ -22,6 +22,7 @@ module _ (project : Project) (old new : Option (List ℕ)) (faults_old faults_ne
   page_prefix (Some (Refusal.NotBuilt unbuilt)) prints = absurd prints
   page_prefix (Some (Refusal.Load load)) prints = absurd prints
   page_prefix (Some (Refusal.Name name)) prints = absurd prints
+  page_prefix (Some (Refusal.Project refusal)) prints = absurd prints
   page_prefix (Some (Refusal.Seen fault)) prints = absurd prints
   page_prefix (Some (Refusal.Request request outcome)) prints = absurd prints
   page_prefix (Some (Refusal.Condition slot condition report)) prints = absurd prints

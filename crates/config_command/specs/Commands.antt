@@ -1,5 +1,5 @@
 -- What the command `config` leaves.
-use Rattle.std.specs.Prelude.{◌≡◌, ◌⊎◌, ◌≤◌, ℕ, List, Option, Some, None, Ok, length, take}
+use Rattle.std.specs.Prelude.{◌≡◌, ◌≤◌, ℕ, List, Option, Some, None, Ok, length, take}
 use Rattle.config_command.specs.ProjectPages.{project_page}
 use Rattle.outside_api.specs.Counts.{Rose}
 use Rattle.outside_api.specs.Files.{Contents}
@@ -22,12 +22,14 @@ abbrev pub ForProject : List (List ℕ) → List ℕ → Option Contents → (Pr
 ForProject words cwd None Fact = (project : Project) × IsSpelled cwd project × Fact project
 ForProject words cwd (Some contents) Fact = (project : Project) × (loaded words cwd contents ≡ Ok project) × Fact project
 
--- what `config` may be refused with: the words, loading, the project's name, a fault of the output, or a want of memory
+-- what `config` may be refused with: the words, loading, the project's name, what it declares, a fault of the output, or a want
+-- of memory
 abbrev pub IsOfConfig : Option Refusal → Type 0
 IsOfConfig None = Unit {0}
 IsOfConfig (Some (Refusal.NotBuilt unbuilt)) = Unit {0}
 IsOfConfig (Some (Refusal.Load refusal)) = Unit {0}
 IsOfConfig (Some (Refusal.Name refusal)) = Unit {0}
+IsOfConfig (Some (Refusal.Project refusal)) = Unit {0}
 IsOfConfig (Some (Refusal.Outside Part.Out)) = Unit {0}
 IsOfConfig (Some Refusal.Memory) = Unit {0}
 IsOfConfig _ = ⊥

@@ -1,5 +1,5 @@
 -- Laws about the page of a project.
-use Rattle.std.specs.Prelude.{◌≡◌, ◌<◌, ℕ, true, List, ◌++◌, All, codes, flat_map, length}
+use Rattle.std.specs.Prelude.{◌≡◌, ◌<◌, ℕ, true, List, [], ◌++◌, All, codes, flat_map, length}
 use Rattle.config_command.specs.ProjectPages.{project_page}
 use Rattle.plain_services.specs.Laws.{prints_of}
 use Rattle.plain_services.specs.declared.PlainService.{PlainService}
@@ -20,6 +20,12 @@ abbrev pub PagesHaveTheirLines : Type 0
 PagesHaveTheirLines =
     (project : Project) → 0 < length project.services
     → project_page project ≡ codes "name: " ++ (text_word project.name ++ (codes "\nservices:\n" ++ flat_map service_lines project.services))
+
+-- the page of a project that has no service is the line of its name, and a line that says that there are none
+abbrev pub EmptyProjectsHaveTwoLines : Type 0
+EmptyProjectsHaveTwoLines =
+    (project : Project) → project.services ≡ []
+    → project_page project ≡ codes "name: " ++ (text_word project.name ++ codes "\nservices: {}\n")
 
 -- where no word needs quotes, the page is the line of the name above the text of a Compose file with these services
 abbrev pub PlainPagesAreFiles : Type 0

@@ -2,7 +2,9 @@ ghost use Rattle.std.specs.Prelude.{◌≡◌, ◌∷◌, [], IfOk};
 ghost use Rattle.config_command.specs.Commands.{IsConfigOrNone};
 ghost use Rattle.plain_services.specs.Commands.{command_of};
 
-use crate::{config_run, pages_have_their_lines, plain_pages_are_files};
+use crate::{
+    config_run, empty_projects_have_two_lines, pages_have_their_lines, plain_pages_are_files,
+};
 use outside_api::{MemoryFiles, MemorySink, Sink, SinkAnswer};
 use std::alloc::Global;
 use std::str;
@@ -72,7 +74,7 @@ fn printed(alloc: Global, text: &str, room: usize) -> Result<Text, Memory> {
 }
 
 /// Files, each with the room of the output, what is printed, and how the call ends.
-static CALLS: [(&str, usize, &str); 5] = [
+static CALLS: [(&str, usize, &str); 8] = [
     (
         ONE_SERVICE,
         256,
@@ -89,10 +91,21 @@ static CALLS: [(&str, usize, &str); 5] = [
         "name: shop\nservices:\n  db:\n    image: d:1\n    network_mode: none\n  web:\n    image: w:1\n    network_mode: none\nstatus 0 err ",
     ),
     (ONE_SERVICE, 5, "name:status 7 err compose: fault: Out\n"),
+    ("", 256, "name: shop\nservices: {}\nstatus 0 err "),
     (
-        "",
+        "services: [web]\n",
         256,
-        "status 2 err compose: /w/shop/compose.yaml:1:1: not built\n",
+        "status 2 err compose: services: not built\n",
+    ),
+    (
+        "services:\n  web:\n    image: w:1\n    ports: [80]\n    network_mode: none\n",
+        256,
+        "status 2 err compose: services.web.ports: not built\n",
+    ),
+    (
+        "services:\n  web:\n  web:\n",
+        256,
+        "status 2 err compose: /w/shop/compose.yaml:3:3: RepeatedKey\n",
     ),
 ];
 
@@ -173,5 +186,6 @@ fn other_words_are_refused(rt: HostRuntime) -> Result<(), Fail> {
 #[test]
 fn laws_run_nothing() {
     pages_have_their_lines();
+    empty_projects_have_two_lines();
     plain_pages_are_files();
 }

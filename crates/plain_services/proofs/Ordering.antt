@@ -1,4 +1,4 @@
--- Services in byte order of their names, which differ.
+-- Elements in byte order of their keys, which differ.
 use Rattle.std.proofs.Common.{◌≡◌, ℕ, zero, suc, ◌+◌, Bool, true, false, cond, List, [], ◌∷◌, Some, length, map, get_or, refl, ap, sym, ◌∙◌, subst, arith, IsPermutation}
 use Rattle.std.specs.Prelude.{All, slice_get, unwrap_or}
 use Rattle.std.proofs.lemmas.Cmp.{nat_list_cmp_total}
@@ -15,9 +15,14 @@ use Rattle.std.specs.Cmp.Lexicographic.{slice_cmp}
 use Rattle.std.specs.Str.{bytes_eq}
 use Rattle.run_model.specs.Plans.{IsAscending}
 use Rattle.run_model.specs.Tests.{by_key, is_before, placed}
-use Rattle.plain_services.specs.Projects.{IsInOrder}
-use Rattle.plain_services.specs.declared.project.PlainService.{PlainService}
 use Rattle.plain_services.proofs.Sorting.{same_place, sorted_is}
+
+other_way : (s t : List ℕ) → bytes_eq s t ≡ false → bytes_eq t s ≡ false
+other_way s t e = at (bytes_eq t s) refl
+  where
+    at : (b : Bool) → bytes_eq t s ≡ b → bytes_eq t s ≡ false
+    at true f = let bad : true ≡ false = sym ((bytes_eq-Decides s t).1 (sym ((bytes_eq-Decides t s).0 f))) ∙ e in absurd (cc bad)
+    at false f = f
 
 module _ {X : Type 0} (key : X → List ℕ) where
   -- to sort elements is to sort their keys
@@ -30,7 +35,7 @@ module _ {X : Type 0} (key : X → List ℕ) where
       at true e = ap (λ l. key y ∷ l) e
       at false e = refl
 
-  map-by_key : (xs : List X) → map key (by_key key xs) ≡ by_key (λ (t : List ℕ). t) (map key xs)
+  pub map-by_key : (xs : List X) → map key (by_key key xs) ≡ by_key (λ (t : List ℕ). t) (map key xs)
   map-by_key [] = refl
   map-by_key (x ∷ xs) = map-placed x (by_key key xs) ∙ ap (placed (λ (t : List ℕ). t) (key x)) (map-by_key xs)
 
@@ -122,55 +127,38 @@ module _ {X : Type 0} (key : X → List ℕ) where
   ascends (z ∷ zs) rise (suc i) zero x y l e f = absurd (omega (arith, l))
   ascends (z ∷ zs) rise (suc i) (suc j) x y l e f = ascends zs rise.1 i j x y (omega (arith, l)) e f
 
-abbrev names_of : List PlainService → List (List ℕ)
-names_of services = map (λ service. service.name) services
+  -- elements of different keys, sorted, ascend
+  pub by_key_ascends : (xs : List X) → IsDistinct bytes_eq (map key xs) → IsAscending (λ x y. is_before (key x) (key y)) (by_key key xs)
+  by_key_ascends xs d = ascends (by_key key xs) (rises-by_key xs d)
 
--- services of different names, sorted, are in order
-pub by_name_in_order : (services : List PlainService) → IsDistinct bytes_eq (names_of services) → IsInOrder (by_key (λ service. service.name) services)
-by_name_in_order services d = ascends (λ service. service.name) (by_key (λ service. service.name) services) (rises-by_key (λ service. service.name) services d)
+  -- the element that has a key
+  abbrev back : X → List X → List ℕ → X
+  back other xs name = unwrap_or (find (λ x. bytes_eq name (key x)) xs) other
 
-abbrev nobody : PlainService
-nobody = record { name = []; image = [] }
+  passed_by : (other x : X) (xs ys : List X) → AllByRecursion (λ t. bytes_eq (key x) t ≡ false) (map key ys) → All (λ y. back other xs (key y) ≡ y) ys → All (λ y. back other (x ∷ xs) (key y) ≡ y) ys
+  passed_by other x xs [] d all = All-nil (λ y. back other (x ∷ xs) (key y) ≡ y)
+  passed_by other x xs (y ∷ ys) d all =
+      All-cons (λ y. back other (x ∷ xs) (key y) ≡ y) y ys
+      (ap (λ (b : Bool). unwrap_or (cond b (Some x) (find (λ z. bytes_eq (key y) (key z)) xs)) other) (other_way (key x) (key y) d.0) ∙ All-head (λ y. back other xs (key y) ≡ y) y ys all)
+      (passed_by other x xs ys d.1 (All-tail (λ y. back other xs (key y) ≡ y) y ys all))
 
--- the service that has a name
-abbrev back : List PlainService → List ℕ → PlainService
-back services name = unwrap_or (find (λ service. bytes_eq name service.name) services) nobody
+  gives_back : (other : X) (xs : List X) → IsDistinct bytes_eq (map key xs) → All (λ x. back other xs (key x) ≡ x) xs
+  unfolding IsDistinct
+  gives_back other [] d = All-nil (λ x. back other [] (key x) ≡ x)
+  gives_back other (x ∷ xs) d =
+      All-cons (λ y. back other (x ∷ xs) (key y) ≡ y) x xs
+      (ap (λ (b : Bool). unwrap_or (cond b (Some x) (find (λ z. bytes_eq (key x) (key z)) xs)) other) ((bytes_eq-Decides (key x) (key x)).1 refl))
+      (passed_by other x xs xs d.0 (gives_back other xs d.1))
 
-other_way : (s t : List ℕ) → bytes_eq s t ≡ false → bytes_eq t s ≡ false
-other_way s t e = at (bytes_eq t s) refl
-  where
-    at : (b : Bool) → bytes_eq t s ≡ b → bytes_eq t s ≡ false
-    at true f = let bad : true ≡ false = sym ((bytes_eq-Decides s t).1 (sym ((bytes_eq-Decides t s).0 f))) ∙ e in absurd (cc bad)
-    at false f = f
+  -- elements that a sort has put in order have their keys in order
+  pub keys_sorted : (xs : List X) → IsSortedBy (λ x y. is_before (key x) (key y)) xs → IsSorted (slice_cmp nat_cmp) (map key xs)
+  keys_sorted [] s k d low high = absurd (omega arith)
+  keys_sorted (x ∷ xs) s k d low high =
+      let size : length (map key (x ∷ xs)) ≡ length (x ∷ xs) = length-map (x ∷ xs) key in
+      let one : get_or (map key (x ∷ xs)) k d ≡ key (get_or (x ∷ xs) k x) = get_or-map key (x ∷ xs) k x d (omega arith) in
+      let next : get_or (map key (x ∷ xs)) (k + 1) d ≡ key (get_or (x ∷ xs) (k + 1) x) = get_or-map key (x ∷ xs) (k + 1) x d (omega arith) in
+      rw (one, next) (s k x low (omega arith))
 
-passed_by : (x : PlainService) (xs ys : List PlainService) → AllByRecursion (λ t. bytes_eq x.name t ≡ false) (names_of ys) → All (λ y. back xs y.name ≡ y) ys → All (λ y. back (x ∷ xs) y.name ≡ y) ys
-passed_by x xs [] d all = All-nil (λ y. back (x ∷ xs) y.name ≡ y)
-passed_by x xs (y ∷ ys) d all =
-    All-cons (λ y. back (x ∷ xs) y.name ≡ y) y ys
-    (ap (λ (b : Bool). unwrap_or (cond b (Some x) (find (λ (service : PlainService). bytes_eq y.name service.name) xs)) nobody) (other_way x.name y.name d.0) ∙ All-head (λ y. back xs y.name ≡ y) y ys all)
-    (passed_by x xs ys d.1 (All-tail (λ y. back xs y.name ≡ y) y ys all))
-
-gives_back : (services : List PlainService) → IsDistinct bytes_eq (names_of services) → All (λ service. back services service.name ≡ service) services
-unfolding IsDistinct
-gives_back [] d = All-nil (λ service. back [] service.name ≡ service)
-gives_back (x ∷ xs) d =
-    All-cons (λ y. back (x ∷ xs) y.name ≡ y) x xs
-    (ap (λ (b : Bool). unwrap_or (cond b (Some x) (find (λ (service : PlainService). bytes_eq x.name service.name) xs)) nobody) ((bytes_eq-Decides x.name x.name).1 refl))
-    (passed_by x xs xs d.0 (gives_back xs d.1))
-
--- the test that a sort of services compares by
-abbrev pub before : PlainService → PlainService → Bool
-before service other = is_before service.name other.name
-
-names_sorted : (services : List PlainService) → IsSortedBy before services → IsSorted (slice_cmp nat_cmp) (names_of services)
-names_sorted services s k d low high =
-    let name : PlainService → List ℕ = λ service. service.name in
-    let size : length (names_of services) ≡ length services = length-map services name in
-    let one : get_or (names_of services) k d ≡ name (get_or services k (record { name = d; image = [] })) = get_or-map name services k (record { name = d; image = [] }) d (omega arith) in
-    let next : get_or (names_of services) (k + 1) d ≡ name (get_or services (k + 1) (record { name = d; image = [] })) = get_or-map name services (k + 1) (record { name = d; image = [] }) d (omega arith) in
-    rw (one, next) (s k (record { name = d; image = [] }) low (omega arith))
-
--- services that a sort has put in order are the services in byte order
-pub services_sorted : (services sorted : List PlainService) → IsDistinct bytes_eq (names_of services) → IsPermutation services sorted → IsSortedBy before sorted → sorted ≡ by_key (λ service. service.name) services
-services_sorted services sorted d moved s =
-    in_order_of (λ service. service.name) (back services) services sorted (gives_back services d) moved (names_sorted sorted s)
+  -- elements of different keys that a sort has put in order are the elements in byte order
+  pub sorted_by_key : (other : X) (xs sorted : List X) → IsDistinct bytes_eq (map key xs) → IsPermutation xs sorted → IsSorted (slice_cmp nat_cmp) (map key sorted) → sorted ≡ by_key key xs
+  sorted_by_key other xs sorted d moved s = in_order_of (back other xs) xs sorted (gives_back other xs d) moved s

@@ -1,9 +1,51 @@
--- A fold over the views of the items of a list, one item further.
-use Rattle.std.proofs.Common.{◌≡◌, ℕ, List, [], ◌∷◌, ◌+◌, ◌<◌, length, take, map, fold, get_or, refl}
+-- The views of the items of a list, one item further.
+use Rattle.std.proofs.Common.{◌≡◌, ℕ, zero, suc, List, [], ◌∷◌, Some, ◌++◌, ◌+◌, ◌<◌, ◌≤◌, length, take, drop, map, fold, get_or, slice_get, refl, ap, sym, ◌∙◌, add-one, arith}
+use Rattle.std.specs.List.{zip}
 use Rattle.std.proofs.lemmas.List.{take-map, take_more, map-append}
 use Rattle.std.proofs.lemmas.List.Sums.{fold-append}
+use Rattle.std.proofs.lemmas.Option.{get_or_from_slice_get, slice_get_within}
 
 pub fold_more_of : {X Y Z : Type 0} (f : Z → Y → Z) (z : Z) (view : X → Y) (xs : List X) (i : ℕ) (d : X) → i < length xs
     → fold f z (take (i + 1) (map view xs)) ≡ f (fold f z (take i (map view xs))) (view (get_or xs i d))
 fold_more_of f z view xs i d within =
     rw (take-map view (i + 1) xs, take_more xs i d within, map-append view (take i xs) (get_or xs i d ∷ []), ← take-map view i xs, fold-append f z (take i (map view xs)) (view (get_or xs i d) ∷ [])) refl
+
+next_of : {X Y : Type 0} (f : X → Y) (xs : List X) (i : ℕ) (x : X) → slice_get xs i ≡ Some x → drop i (map f xs) ≡ f x ∷ drop (suc i) (map f xs)
+next_of f [] i x e = absurd cc
+next_of {X} f (y ∷ xs) zero x e = let same : y ≡ x = cc in ap (λ (z : X). f z ∷ map f xs) same
+next_of f (y ∷ xs) (suc i) x e = next_of f xs i x e
+
+-- the views from a place on begin with that of the item there
+pub item_next : {X Y : Type 0} (f : X → Y) (xs : List X) (i : ℕ) (x : X) → slice_get xs i ≡ Some x → drop i (map f xs) ≡ f x ∷ drop (i + 1) (map f xs)
+item_next f xs i x e = rw add-one (next_of f xs i x e)
+
+-- a pair of two lists stands at the place of its parts
+pub pair_at : {X Y : Type 0} (xs : List X) (ys : List Y) (i : ℕ) (x : X) (y : Y) → slice_get xs i ≡ Some x → slice_get ys i ≡ Some y → slice_get (zip xs ys) i ≡ Some (x, y)
+pair_at [] ys i x y e f = absurd cc
+pair_at (z ∷ xs) [] i x y e f = absurd cc
+pair_at {X} {Y} (z ∷ xs) (w ∷ ys) zero x y e f =
+    let one : z ≡ x = cc in
+    let other : w ≡ y = cc in
+    (λ i. Some (one i, other i))
+pair_at (z ∷ xs) (w ∷ ys) (suc i) x y e f = pair_at xs ys i x y e f
+
+-- no view is left past the items
+pub none_past : {X Y : Type 0} (f : X → Y) (xs : List X) (i : ℕ) → length xs ≤ i → drop i (map f xs) ≡ []
+none_past f [] zero h = refl
+none_past f [] (suc i) h = refl
+none_past f (x ∷ xs) zero h = absurd (omega arith)
+none_past f (x ∷ xs) (suc i) h = none_past f xs i (omega arith)
+
+-- a view of a view
+pub map_seen : {X Y Z : Type 0} (f : Y → Z) (view : X → Y) (xs : List X) → map f (map view xs) ≡ map (λ x. f (view x)) xs
+map_seen f view [] = refl
+map_seen f view (x ∷ xs) = ap (λ l. f (view x) ∷ l) (map_seen f view xs)
+
+-- the first items of a list, and one more
+pub one_more : {X Y : Type 0} (view : Y → X) (list more : List Y) (y : Y) (xs : List X) (i : ℕ) → more ≡ list ++ y ∷ [] → map view list ≡ take i xs → slice_get xs i ≡ Some (view y) → map view more ≡ take (i + 1) xs
+one_more {X} {Y} view list more y xs i e so at =
+    ap (λ (l : List Y). map view l) e
+    ∙ map-append view list (y ∷ [])
+    ∙ ap (λ (l : List X). l ++ view y ∷ []) so
+    ∙ ap (λ (x : X). take i xs ++ x ∷ []) (sym (get_or_from_slice_get xs i (view y) (view y) at))
+    ∙ sym (take_more xs i (view y) (slice_get_within xs i (view y) at))

@@ -1,8 +1,10 @@
+pub mod Answers
 pub mod Commands
 pub mod Directories
-pub mod Groups
 pub mod Laws
 pub mod Loading
-pub mod PlainLines
+pub mod Marks
+pub mod Parts
 pub mod ProjectNames
 pub mod Projects
+pub mod Shape

@@ -1,17 +1,11 @@
-ghost use Rattle.plain_services.specs.Laws.{FaultsStandFirst, PrintedServicesReadBack, ReadTextsArePrints};
+ghost use Rattle.plain_services.specs.Laws.{NoServiceIsLost, ServicesReadBack};
 
-/// The law that the print of services reads back as them. Nothing runs.
-pub fn printed_services_read_back()
-    ensures { PrintedServicesReadBack }
+/// The law that services, as a file has them, are those services in byte order of their names. Nothing runs.
+pub fn services_read_back()
+    ensures { ServicesReadBack }
 {}
 
-/// The law that each text that is read is the print of its services. Nothing runs.
-pub fn read_texts_are_prints()
-    ensures { ReadTextsArePrints }
-{}
-
-/// The law that the fault of a text stands in its first line that is wrong: a text with the same lines up to that one has
-/// the same fault, and some text with the same lines before it is read. Nothing runs.
-pub fn faults_stand_first()
-    ensures { FaultsStandFirst }
+/// The law that each entry under the services of a file that is loaded is a service of its name. Nothing runs.
+pub fn no_service_is_lost()
+    ensures { NoServiceIsLost }
 {}

@@ -1,35 +1,32 @@
-ghost use Rattle.std.specs.Prelude.{◌≡◌, ◌≤◌, Ok, Err, IfSome, IfOk, IfErr, IsNone, map};
-ghost use Rattle.std.specs.Str.{bytes_eq};
-ghost use Rattle.std.specs.List.{IsDistinct};
+ghost use Rattle.std.specs.Prelude.{◌≡◌, Err, IfSome, IfOk, IfErr, IsNone};
 ghost use Rattle.refusals.specs.Origins.{IsBeforeDial};
 ghost use Rattle.outside_api.specs.Counts.{Rose};
 ghost use Rattle.plain_services.specs.Commands.{command_of};
 ghost use Rattle.plain_services.specs.Directories.{base_name};
-ghost use Rattle.plain_services.specs.Groups.{services_in};
-ghost use Rattle.plain_services.specs.Loading.{loaded, read, refused, spelled, named, compose_path, IsSpelled, LoadsAs};
+ghost use Rattle.plain_services.specs.Loading.{loaded, spelled, project_of, named, tree_in, compose_path, IsSpelled, LoadsAs};
 ghost use Rattle.plain_services.specs.Projects.{IsInOrder};
 ghost use Rattle.plain_services.specs.ProjectNames.{name_from};
+ghost use Rattle.yaml_lines.specs.Answers.{Gives};
 ghost use Rattle.refusals.specs.declared.Refusal.{Refusal};
 ghost use Rattle.refusals.specs.declared.LoadRefusal.{LoadRefusal};
 ghost use Rattle.refusals.specs.declared.Unbuilt.{Unbuilt};
 
-use crate::groups::{Unread, read_services};
-use crate::order::in_order;
-use crate::project::{PlainService, Project};
+use crate::project::Project;
+use crate::shape::services_in;
 use crate::{command, directory, project_name};
 use outside_api::{FileAnswer, Files};
 use refusals::{LoadRefusal, ProjectRefusal, Refusal, Unbuilt};
 use std::alloc::Global;
-use tree_base::{List, Memory, Place, Text};
-use yaml_lines::{YamlFault, YamlRefusal};
+use tree_base::{List, Memory, Text, Tree};
+use yaml_lines::{YamlRefusal, scan};
 
 /// The greatest number of bytes of a file.
 const FILE_LIMIT: u64 = 4_194_304;
 
 /// Loads the project of the Compose file in a directory, where the words are those of a command. The refusals, in their
-/// order: `NotBuilt(Words)` for other words; `Load(NotFound)` and `Load(FileTooLarge)` for the file; `NotBuilt(Text)` and
-/// `Load(Yaml)` for the first fault of its text; `Name(BadName)`. `Load(ReadFault)` comes where a read failed, and `Memory`
-/// where memory was wanted.
+/// order: `NotBuilt(Words)` for other words; `Load(NotFound)` and `Load(FileTooLarge)` for the file; `Load(Yaml)` for the
+/// first fault of its text; `Name(BadName)`; `NotBuilt(Attribute)` and `Project(TooManyServices)` for what the file's tree
+/// has beside such services. `Load(ReadFault)` comes where a read failed, and `Memory` where memory was wanted.
 pub fn load<F: Files>(
     alloc: Global,
     words: &List<Text>,
@@ -56,7 +53,7 @@ pub fn load<F: Files>(
         return Err(Refusal::Memory);
     };
     match files.read(alloc, &path, FILE_LIMIT) {
-        FileAnswer::Bytes(bytes) => project_of(alloc, path, base, bytes.as_slice()),
+        FileAnswer::Bytes(bytes) => spelled(alloc, path, base, bytes.as_slice()),
         FileAnswer::Missing => Err(Refusal::Load(LoadRefusal::NotFound { path })),
         FileAnswer::Longer => Err(Refusal::Load(LoadRefusal::FileTooLarge { path })),
         FileAnswer::Failed => Err(Refusal::Load(LoadRefusal::ReadFault { path })),
@@ -76,54 +73,42 @@ fn locate(alloc: Global, directory: &Text) -> Result<(Text, &str), Memory>
 }
 
 /// The project that a text spells, in a directory with this base name.
-fn project_of(alloc: Global, path: Text, base: &str, bytes: &[u8]) -> Result<Project, Refusal>
-    ensures told { LoadsAs (spelled path base.now (services_in bytes.now)) result }
+fn spelled(alloc: Global, path: Text, base: &str, bytes: &[u8]) -> Result<Project, Refusal>
+    ensures told { LoadsAs (spelled path base.now (tree_in bytes.now)) result }
     ensures order { IfOk result (λ project. IsInOrder project.services) }
     ensures read { (path : _) → result ≡ Err (Refusal.Load (LoadRefusal.ReadFault path)) → ⊥ }
     ensures kind { IfErr result IsBeforeDial }
 {
-    match read_services(alloc, bytes) {
-        Ok(services) => named(alloc, base, services),
-        Err(reason) => Err(refused(path, reason)),
+    match tree_in(alloc, bytes) {
+        Ok(tree) => project_of(alloc, base, &tree),
+        Err(YamlRefusal::Memory) => Err(Refusal::Memory),
+        Err(refusal) => Err(Refusal::Load(LoadRefusal::Yaml { path, refusal })),
     }
 }
 
-/// The refusal of a text that isn't read for this reason.
-fn refused(path: Text, reason: Unread) -> Refusal
-    ensures told { result ≡ refused path reason }
-    ensures read { (path : _) → result ≡ Refusal.Load (LoadRefusal.ReadFault path) → ⊥ }
-    ensures kind { IsBeforeDial result }
+/// The tree that the bytes of the only file spell.
+fn tree_in(alloc: Global, bytes: &[u8]) -> Result<Tree, YamlRefusal>
+    ensures { Gives result (tree_in bytes.now) }
 {
-    match reason {
-        Unread::NotSo { line } => {
-            let place = place(line, 1);
-            Refusal::NotBuilt(Unbuilt::Text { path, place })
-        }
-        Unread::Repeated { line } => {
-            let which = YamlFault::RepeatedKey;
-            let place = place(line, 3);
-            let refusal = YamlRefusal::Bad { which, place };
-            Refusal::Load(LoadRefusal::Yaml { path, refusal })
-        }
-        Unread::Memory => Refusal::Memory,
-    }
+    let lines = scan(alloc, bytes, 0)?;
+    yaml_tree::read(alloc, &lines)
 }
 
-/// A place in the only file.
-fn place(line: u32, column: u32) -> Place
-    ensures { result ≡ record { file = 0; line = line; column = column } }
-{
-    Place {
-        file: 0,
-        line,
-        column,
-    }
-}
-
-fn named(alloc: Global, base: &str, services: Vec<PlainService>) -> Result<Project, Refusal>
-    requires { IsDistinct bytes_eq (map (λ service. service.name) services.items) }
-    ensures told { LoadsAs (named (name_from base.now) services.items) result }
+/// The project of a tree in a directory with this base name: first its name, then its services.
+fn project_of(alloc: Global, base: &str, tree: &Tree) -> Result<Project, Refusal>
+    ensures told { LoadsAs (project_of base.now tree.now) result }
     ensures order { IfOk result (λ project. IsInOrder project.services) }
+    ensures read { (path : _) → result ≡ Err (Refusal.Load (LoadRefusal.ReadFault path)) → ⊥ }
+    ensures kind { IfErr result IsBeforeDial }
+{
+    let name = named(alloc, base)?;
+    let services = services_in(alloc, tree)?;
+    Ok(Project { name, services })
+}
+
+/// The name that a directory's base name gives.
+fn named(alloc: Global, base: &str) -> Result<Text, Refusal>
+    ensures told { LoadsAs (named (name_from base.now)) result }
     ensures read { (path : _) → result ≡ Err (Refusal.Load (LoadRefusal.ReadFault path)) → ⊥ }
     ensures kind { IfErr result IsBeforeDial }
 {
@@ -133,8 +118,5 @@ fn named(alloc: Global, base: &str, services: Vec<PlainService>) -> Result<Proje
     if name.is_empty() {
         return Err(Refusal::Name(ProjectRefusal::BadName { name }));
     }
-    match in_order(services) {
-        Ok(services) => Ok(Project { name, services }),
-        Err(_) => Err(Refusal::Memory),
-    }
+    Ok(name)
 }

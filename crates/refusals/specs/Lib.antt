@@ -1,3 +1,4 @@
 pub mod Lines
 pub mod Origins
+pub mod Paths
 pub mod Statuses

@@ -1,14 +1,15 @@
 -- Where in a call a refusal comes from: before a hand is made, or from the run.
-use Rattle.std.specs.Prelude.{Option, Some, None}
+use Rattle.std.specs.Prelude.{Option, Some}
 use Rattle.engine_types.specs.declared.RunFault.{RunFault}
 use Rattle.refusals.specs.declared.refusal.Refusal.{Refusal}
 use Rattle.refusals.specs.declared.refusal.Part.{Part}
 
--- a refusal of the words, of loading, or of the project's name
+-- a refusal of the words, of loading, of the project's name, or of what it declares
 abbrev pub IsOfLoading : Option Refusal → Type 0
 IsOfLoading (Some (Refusal.NotBuilt unbuilt)) = Unit {0}
 IsOfLoading (Some (Refusal.Load refusal)) = Unit {0}
 IsOfLoading (Some (Refusal.Name refusal)) = Unit {0}
+IsOfLoading (Some (Refusal.Project refusal)) = Unit {0}
 IsOfLoading _ = ⊥
 
 -- a refusal that comes before the dial
@@ -16,6 +17,7 @@ abbrev pub IsBeforeDial : Refusal → Type 0
 IsBeforeDial (Refusal.NotBuilt unbuilt) = Unit {0}
 IsBeforeDial (Refusal.Load refusal) = Unit {0}
 IsBeforeDial (Refusal.Name refusal) = Unit {0}
+IsBeforeDial (Refusal.Project refusal) = Unit {0}
 IsBeforeDial Refusal.Memory = Unit {0}
 IsBeforeDial _ = ⊥
 
@@ -24,6 +26,7 @@ abbrev pub IsOfRun : Option Refusal → Type 0
 IsOfRun (Some (Refusal.NotBuilt unbuilt)) = ⊥
 IsOfRun (Some (Refusal.Load refusal)) = ⊥
 IsOfRun (Some (Refusal.Name refusal)) = ⊥
+IsOfRun (Some (Refusal.Project refusal)) = ⊥
 IsOfRun (Some (Refusal.Outside Part.Plug)) = ⊥
 IsOfRun _ = Unit {0}
 

@@ -3,13 +3,14 @@ use Rattle.std.specs.Prelude.{ℕ, Option, Some, None}
 use Rattle.run_model.specs.Ending.{seen_status, outcome_status}
 use Rattle.refusals.specs.declared.refusal.Refusal.{Refusal}
 use Rattle.refusals.specs.declared.refusal.LoadRefusal.{LoadRefusal}
+use Rattle.refusals.specs.declared.refusal.ProjectRefusal.{ProjectRefusal}
 use Rattle.refusals.specs.declared.refusal.Unbuilt.{Unbuilt}
 use Rattle.yaml_lines.specs.declared.refusal.YamlRefusal.{YamlRefusal}
 
--- words that aren't built have status 1, and a text has 2
+-- words that aren't built have status 1, and an attribute has 2
 abbrev pub unbuilt_status : Unbuilt → ℕ
 unbuilt_status Unbuilt.Words = 1
-unbuilt_status (Unbuilt.Text path place) = 2
+unbuilt_status (Unbuilt.Attribute path) = 2
 
 -- a text that is no YAML has status 2, one past a limit of the reader 8, and a want of memory 9
 abbrev pub yaml_status : YamlRefusal → ℕ
@@ -26,12 +27,18 @@ load_status (LoadRefusal.ReadFault path) = 7
 load_status (LoadRefusal.FileTooLarge path) = 8
 load_status (LoadRefusal.Yaml path refusal) = yaml_status refusal
 
+-- a name that is none has status 2, and a number of services past the limit 8
+abbrev pub project_status : ProjectRefusal → ℕ
+project_status (ProjectRefusal.BadName name) = 2
+project_status (ProjectRefusal.TooManyServices count) = 8
+
 -- 1 for words, 2 for a project that isn't one, 3 where the Engine refused, 4 where a condition failed, 5 where the run was
 -- stopped, 6 where it was late, 7 for a fault outside, 8 for a limit, 9 for memory
 abbrev pub refusal_status : Refusal → ℕ
 refusal_status (Refusal.NotBuilt unbuilt) = unbuilt_status unbuilt
 refusal_status (Refusal.Load refusal) = load_status refusal
-refusal_status (Refusal.Name refusal) = 2
+refusal_status (Refusal.Name refusal) = project_status refusal
+refusal_status (Refusal.Project refusal) = project_status refusal
 refusal_status (Refusal.Seen fault) = seen_status fault
 refusal_status (Refusal.Request request outcome) = outcome_status outcome
 refusal_status (Refusal.Condition slot condition report) = 4

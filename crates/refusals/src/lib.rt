@@ -5,6 +5,7 @@
 
 mod condition;
 mod line;
+mod path;
 mod refusal;
 mod run_refusal;
 mod status;

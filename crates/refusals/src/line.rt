@@ -4,14 +4,15 @@ ghost use Rattle.engine_types.specs.declared.Outcome.{Outcome};
 ghost use Rattle.engine_types.specs.declared.SeenFault.{SeenFault};
 ghost use Rattle.refusals.specs.declared.refusal.LoadRefusal.{LoadRefusal};
 ghost use Rattle.refusals.specs.declared.refusal.Refusal.{Refusal};
-ghost use Rattle.refusals.specs.declared.refusal.Unbuilt.{Unbuilt};
-ghost use Rattle.refusals.specs.Lines.{refusal_line, refusal_words, unbuilt_words, load_words, name_words, part_words};
+ghost use Rattle.refusals.specs.declared.refusal.ProjectRefusal.{ProjectRefusal};
+ghost use Rattle.refusals.specs.Lines.{refusal_line, refusal_words, unbuilt_words, load_words, project_words, part_words};
 
 use crate::condition::failed_words;
+use crate::path::path_words;
 use crate::refusal::{LoadRefusal, Part, ProjectRefusal, Refusal, Unbuilt};
 use engine_types::{Kind, Outcome, Reply, Request, SeenFault, WireEnd};
 use std::alloc::Global;
-use tree_base::{Memory, Place, Text};
+use tree_base::{Memory, Text};
 use yaml_lines::YamlRefusal;
 
 /// The line that a refusal prints, with its line feed.
@@ -29,7 +30,8 @@ fn refusal_words(alloc: Global, refusal: &Refusal) -> Result<Text, Memory>
     match refusal {
         Refusal::NotBuilt(unbuilt) => unbuilt_words(alloc, unbuilt),
         Refusal::Load(refusal) => load_words(alloc, refusal),
-        Refusal::Name(refusal) => name_words(alloc, refusal),
+        Refusal::Name(refusal) => project_words(alloc, refusal),
+        Refusal::Project(refusal) => project_words(alloc, refusal),
         Refusal::Seen(fault) => seen_words(alloc, fault),
         Refusal::Request { request, outcome } => outcome_words(alloc, request, outcome),
         Refusal::Condition {
@@ -49,17 +51,8 @@ fn unbuilt_words(alloc: Global, unbuilt: &Unbuilt) -> Result<Text, Memory>
 {
     match unbuilt {
         Unbuilt::Words => Text::from_str(alloc, "not built: words"),
-        Unbuilt::Text { path, place } => place_words(alloc, path, place),
+        Unbuilt::Attribute { path } => after_text(alloc, &path_words(alloc, path)?, ": not built"),
     }
-}
-
-fn place_words(alloc: Global, path: &Text, place: &Place) -> Result<Text, Memory>
-    ensures { IfOk result (λ words. words ≡ unbuilt_words (Unbuilt.Text path.now place.now)) }
-{
-    let line = place.line;
-    let column = place.column;
-    let words = format!(in alloc; "{path}:{line}:{column}: not built")?;
-    Ok(Text::from_string(words))
 }
 
 fn load_words(alloc: Global, refusal: &LoadRefusal) -> Result<Text, Memory>
@@ -94,12 +87,20 @@ pub(crate) fn before_text(alloc: Global, words: &str, text: &Text) -> Result<Tex
     Ok(Text::from_string(all))
 }
 
-fn name_words(alloc: Global, refusal: &ProjectRefusal) -> Result<Text, Memory>
-    ensures { IfOk result (λ words. words ≡ name_words refusal.now) }
+fn project_words(alloc: Global, refusal: &ProjectRefusal) -> Result<Text, Memory>
+    ensures { IfOk result (λ words. words ≡ project_words refusal.now) }
 {
     match refusal {
         ProjectRefusal::BadName { name } => before_text(alloc, "bad project name: ", name),
+        ProjectRefusal::TooManyServices { count } => services_words(alloc, *count),
     }
+}
+
+fn services_words(alloc: Global, count: u32) -> Result<Text, Memory>
+    ensures { IfOk result (λ words. words ≡ project_words (ProjectRefusal.TooManyServices count)) }
+{
+    let words = format!(in alloc; "TooManyServices: {count}")?;
+    Ok(Text::from_string(words))
 }
 
 fn fault_words(alloc: Global, part: Part) -> Result<Text, Memory>

@@ -1,5 +1,5 @@
 use engine_types::{Condition, LateWhy, Outcome, Report, Request, SeenFault};
-use tree_base::{Place, Text};
+use tree_base::{Path, Text};
 use yaml_lines::YamlRefusal;
 
 /// Why a call ended otherwise than well. Each has its exit status and the line that it prints.
@@ -11,6 +11,8 @@ pub enum Refusal {
     Load(LoadRefusal),
     /// The project has no name.
     Name(ProjectRefusal),
+    /// What the project declares is refused.
+    Project(ProjectRefusal),
     /// The observation ended so.
     Seen(SeenFault),
     /// An exchange of the run didn't end well.
@@ -39,8 +41,8 @@ pub enum Refusal {
 pub enum Unbuilt {
     /// The words of the command line.
     Words,
-    /// The text of a file, from a place on.
-    Text { path: Text, place: Place },
+    /// What stands at a path of the project's tree.
+    Attribute { path: Path },
 }
 
 /// Why a project couldn't be loaded, with the path of the file.
@@ -59,6 +61,8 @@ pub enum LoadRefusal {
 pub enum ProjectRefusal {
     /// The project's name, or what is left of the directory's name, isn't one.
     BadName { name: Text },
+    /// The project has more services than the limit.
+    TooManyServices { count: u32 },
 }
 
 /// The parts of the outside whose faults end a call.

@@ -1,8 +1,8 @@
 ghost use Rattle.std.specs.Prelude.{◌≡◌};
 ghost use Rattle.run_model.specs.Ending.{lost_status, seen_status, outcome_status};
-ghost use Rattle.refusals.specs.Statuses.{unbuilt_status, yaml_status, load_status, refusal_status, status_of};
+ghost use Rattle.refusals.specs.Statuses.{unbuilt_status, yaml_status, load_status, project_status, refusal_status, status_of};
 
-use crate::refusal::{LoadRefusal, Refusal, Unbuilt};
+use crate::refusal::{LoadRefusal, ProjectRefusal, Refusal, Unbuilt};
 use engine_types::{Outcome, SeenFault, WireEnd};
 use yaml_lines::YamlRefusal;
 
@@ -23,7 +23,8 @@ pub fn refusal_status(refusal: &Refusal) -> u8
     match refusal {
         Refusal::NotBuilt(unbuilt) => unbuilt_status(unbuilt),
         Refusal::Load(refusal) => load_status(refusal),
-        Refusal::Name(_) => 2,
+        Refusal::Name(refusal) => project_status(refusal),
+        Refusal::Project(refusal) => project_status(refusal),
         Refusal::Seen(fault) => seen_status(fault),
         Refusal::Request { outcome, .. } => outcome_status(outcome),
         Refusal::Condition { .. } => 4,
@@ -39,7 +40,16 @@ fn unbuilt_status(unbuilt: &Unbuilt) -> u8
 {
     match unbuilt {
         Unbuilt::Words => 1,
-        Unbuilt::Text { .. } => 2,
+        Unbuilt::Attribute { .. } => 2,
+    }
+}
+
+fn project_status(refusal: &ProjectRefusal) -> u8
+    ensures { result ≡ project_status refusal.now }
+{
+    match refusal {
+        ProjectRefusal::BadName { .. } => 2,
+        ProjectRefusal::TooManyServices { .. } => 8,
     }
 }
 

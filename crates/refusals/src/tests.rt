@@ -9,7 +9,7 @@ use engine_types::{
 use std::alloc::Global;
 use std::process::Abort;
 use std::test::Fail;
-use tree_base::{Memory, Place, Text};
+use tree_base::{List, Memory, Place, Step, Text};
 use yaml_lines::{YamlFault, YamlRefusal};
 
 /// A refusal has this status and prints this line.
@@ -32,18 +32,35 @@ fn a_call_without_a_refusal_has_status_0(rt: HostRuntime) {
 }
 
 #[test]
-fn what_is_not_built_is_named_by_its_place(rt: HostRuntime) -> Result<(), Fail> {
+fn what_is_not_built_is_named_by_its_path(rt: HostRuntime) -> Result<(), Fail> {
     let alloc = rt.alloc();
     let words = Refusal::NotBuilt(Unbuilt::Words);
     says(&rt, alloc, words, 1, "compose: not built: words\n")?;
-    let path = Text::from_str(alloc, "/w/a.yaml")?;
-    let place = Place {
-        file: 0,
-        line: 12,
-        column: 1,
-    };
-    let text = Refusal::NotBuilt(Unbuilt::Text { path, place });
-    says(&rt, alloc, text, 2, "compose: /w/a.yaml:12:1: not built\n")?;
+    let root = List::new(alloc);
+    let tree = Refusal::NotBuilt(Unbuilt::Attribute { path: root });
+    says(&rt, alloc, tree, 2, "compose: : not built\n")?;
+    let mut path = List::new(alloc);
+    path.push(Step::Key(Text::from_str(alloc, "services")?))?;
+    path.push(Step::Key(Text::from_str(alloc, "web")?))?;
+    path.push(Step::Key(Text::from_str(alloc, "x-a")?))?;
+    path.push(Step::Index(12))?;
+    path.push(Step::Index(0))?;
+    let deep = Refusal::NotBuilt(Unbuilt::Attribute { path });
+    says(
+        &rt,
+        alloc,
+        deep,
+        2,
+        "compose: services.web.x-a[12][0]: not built\n",
+    )?;
+    Ok(())
+}
+
+#[test]
+fn too_many_services_are_counted(rt: HostRuntime) -> Result<(), Fail> {
+    let alloc = rt.alloc();
+    let many = Refusal::Project(ProjectRefusal::TooManyServices { count: 1_001 });
+    says(&rt, alloc, many, 8, "compose: TooManyServices: 1001\n")?;
     Ok(())
 }
 

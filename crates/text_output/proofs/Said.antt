@@ -11,6 +11,7 @@ said refusal (Some Refusal.Memory) h P memory is = memory
 said refusal (Some (Refusal.NotBuilt unbuilt)) h P memory is = subst P (sym h) is
 said refusal (Some (Refusal.Load load)) h P memory is = subst P (sym h) is
 said refusal (Some (Refusal.Name name)) h P memory is = subst P (sym h) is
+said refusal (Some (Refusal.Project project)) h P memory is = subst P (sym h) is
 said refusal (Some (Refusal.Seen fault)) h P memory is = subst P (sym h) is
 said refusal (Some (Refusal.Request request outcome)) h P memory is = subst P (sym h) is
 said refusal (Some (Refusal.Condition slot condition report)) h P memory is = subst P (sym h) is

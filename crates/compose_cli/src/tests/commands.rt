@@ -71,13 +71,28 @@ fn an_orphan_goes_where_that_is_asked_for(rt: HostRuntime) -> Result<(), Fail> {
     Ok(())
 }
 
+/// Files, each with the page of its project in `/w/shop`.
+static PAGES: [(&str, &str); 4] = [
+    (
+        ONE_SERVICE,
+        "name: shop\nservices:\n  web:\n    image: nginx:1.25\n    network_mode: none\n",
+    ),
+    ("services: {}\n", "name: shop\nservices: {}\n"),
+    ("", "name: shop\nservices: {}\n"),
+    (
+        "services: {a: {image: \"b\", network_mode: none,},}",
+        "name: shop\nservices:\n  a:\n    image: b\n    network_mode: none\n",
+    ),
+];
+
 #[test]
 fn config_prints_the_project_and_sends_nothing(rt: HostRuntime) -> Result<(), Fail> {
+    let alloc = rt.alloc();
     let path = "/w/shop/compose.yaml";
-    let said = says(rt.alloc(), "config", "/w/shop", path, ONE_SERVICE)?;
-    assert_eq!(rt;
-        said.as_str(),
-        "0 journal  out name: shop\nservices:\n  web:\n    image: nginx:1.25\n    network_mode: none\n err "
-    );
+    for (text, page) in PAGES.iter() {
+        let said = says(alloc, "config", "/w/shop", path, text)?;
+        let expected = format!(in alloc; "0 journal  out {page} err ")?;
+        assert_eq!(rt; said.as_str(), expected.as_str());
+    }
     Ok(())
 }

@@ -1,6 +1,6 @@
 use Rattle.std.proofs.Common.{[], ◌≡◌, true, false}
 use Rattle.plain_services.specs.Loading.{loaded}
-use Rattle.plain_services.proofs.Loads.{IfSome-map}
+use Rattle.config_command.proofs.Loads.{IfSome-map}
 use Rattle.compose_cli.proofs.Ending.{refused_with, no_fault_of_plug}
 use Rattle.compose_cli.proofs.Ran.{asked, for_task, has_begun, if_begun, said_not_zero, status_by}
 use Rattle.compose_cli.specs.Runs.{HoldsExactly, HoldsNone, IsRefusalOf, IsStatusOf, LeadsOn, Reports, task_for}

@@ -1,0 +1,22 @@
+-- Parts of the shape that have functions of their own.
+use Rattle.std.specs.Prelude.{ℕ, List, Option, Result}
+use Rattle.tree_base.specs.declared.Step.{Step}
+use Rattle.tree_base.specs.declared.Tree.{Tree}
+use Rattle.tree_base.specs.declared.Tree.TheOpen.{Tree-F}
+use Rattle.plain_services.specs.Shape.{◌>>=◌, Entries, few, in_byte_order, services_of, services_under, unbuilt_attribute, unbuilt_top}
+use Rattle.plain_services.specs.declared.project.PlainService.{PlainService}
+use Rattle.plain_services.specs.declared.unbuilt.Level.{Level}
+use Rattle.refusals.specs.declared.Refusal.{Refusal}
+
+-- what isn't built of an entry of the file, or of one of a service
+abbrev pub unbuilt_at : Level → List ℕ → Tree → Option (List Step)
+unbuilt_at Level.File = unbuilt_top
+unbuilt_at Level.Service = unbuilt_attribute
+
+-- the services of entries, of which there are at most 1,000
+abbrev pub services_of_few : Entries → Result (List PlainService) Refusal
+services_of_few entries = few entries >>= λ services. services_of (in_byte_order services)
+
+-- the services of what stands under their key
+abbrev pub services_found : Option (Tree-F Tree) → Result (List PlainService) Refusal
+services_found found = services_under found >>= few >>= λ services. services_of (in_byte_order services)

@@ -1,0 +1,132 @@
+ghost use Rattle.std.specs.Prelude.{◌≡◌, ◌∷◌, IfOk, MatchResult};
+ghost use Rattle.tree_base.specs.declared.Step.TheVariants.{Key};
+ghost use Rattle.tree_base.specs.declared.Tree.{out-Tree};
+ghost use Rattle.plain_services.specs.Parts.{unbuilt_at};
+ghost use Rattle.plain_services.specs.Marks.{below};
+ghost use Rattle.plain_services.specs.Shape.{first_entry, is_built, is_extension, is_none_scalar, is_scalar, unbuilt_attribute, unbuilt_top};
+ghost use Rattle.refusals.specs.declared.Refusal.{Refusal};
+ghost use Rattle.refusals.specs.declared.Unbuilt.{Unbuilt};
+
+use crate::entries::{Entry, in_byte_order};
+use crate::marks::mark_in;
+use refusals::{Refusal, Unbuilt};
+use std::alloc::Global;
+use tree_base::{List, Map, Memory, Path, Step, Text, Tree};
+
+/// Which mapping entries stand in.
+#[derive(Clone, Copy)]
+pub(crate) enum Level {
+    File,
+    Service,
+}
+
+/// The path to what isn't built in the first entry, in byte order, that has such; None where all is built.
+pub(crate) fn first_unbuilt(
+    alloc: Global,
+    entries: &Map,
+    level: Level,
+) -> Result<Option<Path>, Memory>
+    ensures { IfOk result (λ path. path ≡ first_entry (unbuilt_at level) entries.now) }
+{
+    let sorted = in_byte_order(alloc, entries)?;
+    for entry in sorted.as_slice() {
+        if let Some(path) = unbuilt_entry(alloc, entry, level)? {
+            return Ok(Some(path));
+        }
+    }
+    Ok(None)
+}
+
+fn unbuilt_entry(alloc: Global, entry: &Entry, level: Level) -> Result<Option<Path>, Memory>
+    ensures { IfOk result (λ path. path ≡ below (Key entry.now.key.now) (unbuilt_at level entry.now.key.now entry.now.value.now)) }
+{
+    match unbuilt_at(alloc, entry.key, entry.value, level)? {
+        Some(path) => Ok(Some(below_key(alloc, entry.key.as_str(), path)?)),
+        None => Ok(None),
+    }
+}
+
+fn unbuilt_at(alloc: Global, key: &Text, value: &Tree, level: Level) -> Result<Option<Path>, Memory>
+    ensures { IfOk result (λ path. path ≡ unbuilt_at level key.now value.now) }
+{
+    match level {
+        Level::File => unbuilt_top(alloc, key, value),
+        Level::Service => unbuilt_attribute(alloc, key, value),
+    }
+}
+
+/// What isn't built of a top-level key, the services aside: a mark in what is passed over, or the key itself.
+fn unbuilt_top(alloc: Global, key: &Text, value: &Tree) -> Result<Option<Path>, Memory>
+    ensures { IfOk result (λ path. path ≡ unbuilt_top key.now value.now) }
+{
+    if key.as_str() == "services" {
+        Ok(None)
+    } else if key.as_str() == "version" || is_extension(key) {
+        mark_in(alloc, value)
+    } else {
+        Ok(Some(List::new(alloc)))
+    }
+}
+
+/// What isn't built of a service's attribute: a mark in what is passed over, or the attribute itself.
+fn unbuilt_attribute(alloc: Global, key: &Text, value: &Tree) -> Result<Option<Path>, Memory>
+    ensures { IfOk result (λ path. path ≡ unbuilt_attribute key.now value.now) }
+{
+    if is_extension(key) {
+        mark_in(alloc, value)
+    } else if is_built(key, value) {
+        Ok(None)
+    } else {
+        Ok(Some(List::new(alloc)))
+    }
+}
+
+/// Whether a key extends a file, and is passed over (the Compose Specification, extensions).
+fn is_extension(key: &Text) -> bool
+    ensures { result ≡ is_extension key.now }
+{
+    matches!(key.as_str().as_bytes(), [b'x', b'-', ..])
+}
+
+/// An image, and no network.
+fn is_built(key: &Text, value: &Tree) -> bool
+    ensures { result ≡ is_built key.now value.now }
+{
+    (key.as_str() == "image" && is_scalar(value))
+        || (key.as_str() == "network_mode" && is_none_scalar(value))
+}
+
+fn is_scalar(tree: &Tree) -> bool
+    ensures { result ≡ is_scalar (out-Tree tree.now) }
+{
+    matches!(tree, Tree::Scalar(_))
+}
+
+fn is_none_scalar(tree: &Tree) -> bool
+    ensures { result ≡ is_none_scalar (out-Tree tree.now) }
+{
+    match tree {
+        Tree::Scalar(text) => text.as_str() == "none",
+        _ => false,
+    }
+}
+
+/// A path from a key's value, with the key before it.
+pub(crate) fn below_key(alloc: Global, key: &str, path: Path) -> Result<Path, Memory>
+    ensures { IfOk result (λ longer. longer ≡ Key key.now ∷ path) }
+{
+    let key = Text::from_str(alloc, key)?;
+    let mut steps = path.into_vec();
+    steps.insert(0, Step::Key(key))?;
+    Ok(List::from_vec(steps))
+}
+
+/// The refusal of what stands at a path, which memory may be wanted for.
+pub(crate) fn refusal_at(path: Result<Path, Memory>) -> Refusal
+    ensures { MatchResult path (λ path. result ≡ Refusal.NotBuilt (Unbuilt.Attribute path)) (λ memory. result ≡ Refusal.Memory) }
+{
+    match path {
+        Ok(path) => Refusal::NotBuilt(Unbuilt::Attribute { path }),
+        Err(Memory) => Refusal::Memory,
+    }
+}
