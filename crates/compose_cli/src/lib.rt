@@ -16,6 +16,3 @@ pub use config_command::{ConfigEnd, config_run};
 pub use ended::Ended;
 pub use main_plug::MainPlug;
 pub use top::serial_main;
-
-#[cfg(test)]
-mod tests;

@@ -15,8 +15,6 @@ mod options;
 mod read;
 mod refusal;
 mod table;
-#[cfg(test)]
-mod tests;
 mod usage;
 
 pub use law::items_tile_words;

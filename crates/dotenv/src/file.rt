@@ -227,6 +227,3 @@ fn see(alloc: Global, seen: &mut Env, outer: &Env, key: &Text, value: &Text) -> 
         }
     }
 }
-
-#[cfg(test)]
-mod tests;

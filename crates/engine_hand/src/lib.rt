@@ -11,6 +11,3 @@ mod memory_plug;
 pub use hand_clock::HandClock;
 pub use memory_hand::MemoryHand;
 pub use memory_plug::MemoryPlug;
-
-#[cfg(test)]
-mod tests;

@@ -15,8 +15,6 @@ mod reply;
 mod request;
 mod resource;
 mod seen;
-#[cfg(test)]
-mod tests;
 
 pub use container::{
     ContainerSpec, Device, Endpoint, Healthcheck, LogConfig, PortBinding, PortBindings,

@@ -8,6 +8,3 @@ mod hash;
 mod spec;
 
 pub use declaring::declare;
-
-#[cfg(test)]
-mod tests;

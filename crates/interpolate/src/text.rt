@@ -32,6 +32,3 @@ fn subst_within(alloc: Global, text: &str, levels: u32, env: &Env) -> Result<Tex
     join(alloc, &mut value, text, 0, levels, env)?;
     Ok(value)
 }
-
-#[cfg(test)]
-mod tests;

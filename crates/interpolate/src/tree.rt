@@ -214,6 +214,3 @@ fn entry_value(
         Err(refusal) => Err(with_step(refusal, Step::Key(key.copy(alloc)?))?),
     }
 }
-
-#[cfg(test)]
-mod tests;

@@ -11,8 +11,6 @@ mod group;
 mod head;
 mod line;
 mod queue;
-#[cfg(test)]
-mod tests;
 mod token;
 
 pub use cut::cut_len;

@@ -10,6 +10,3 @@ pub use agreeing::agrees;
 pub use labelled::{
     has_label, has_slot_service, is_of_project, is_of_slot, names_service, names_slot,
 };
-
-#[cfg(test)]
-mod tests;

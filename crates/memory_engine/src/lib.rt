@@ -27,8 +27,3 @@ pub use catalogue::Catalogue;
 pub use faults::{FaultPlan, LostAt};
 pub use script::{Change, Tick};
 pub use state::MemoryEngine;
-
-#[cfg(test)]
-mod request_tests;
-#[cfg(test)]
-mod tests;

@@ -28,6 +28,3 @@ pub use pipe::{Pipe, PipeAnswer};
 pub use plug::{Plug, Target};
 pub use sink::{Sink, SinkAnswer};
 pub use wire::{DialAnswer, Wire};
-
-#[cfg(test)]
-mod tests;

@@ -21,6 +21,3 @@ pub use command::{Command, command_of};
 pub use laws::{no_service_is_lost, services_read_back};
 pub use loading::load;
 pub use project::{PlainService, Project};
-
-#[cfg(test)]
-mod tests;

@@ -21,6 +21,3 @@ pub use keeping::kept_of;
 pub use laws::plans_are_orderly;
 pub use plans::{plan_down, plan_up};
 pub use refusal::PlanRefusal;
-
-#[cfg(test)]
-mod tests;

@@ -10,8 +10,6 @@ mod compact_json;
 mod laws;
 mod node;
 mod scalar;
-#[cfg(test)]
-mod tests;
 
 pub use block_layout::page;
 pub use compact_json::{Dollars, json_text, page_json};

@@ -17,6 +17,3 @@ pub use laws::runs_spare_kept;
 pub use ran::Ran;
 pub use serial_run::Aim;
 pub use whole_run::run_project;
-
-#[cfg(test)]
-mod tests;

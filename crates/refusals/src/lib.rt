@@ -14,6 +14,3 @@ pub use line::refusal_line;
 pub use refusal::{LoadRefusal, Part, ProjectRefusal, Refusal, Unbuilt};
 pub use run_refusal::refusal_of;
 pub use status::{refusal_status, status_of};
-
-#[cfg(test)]
-mod tests;

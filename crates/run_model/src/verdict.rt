@@ -5,17 +5,3 @@ pub enum Verdict {
     Failed,
     NotYet,
 }
-
-#[cfg(test)]
-mod tests {
-    use super::*;
-
-    #[test]
-    fn verdicts_are_told_apart(rt: HostRuntime) {
-        assert_eq!(rt; Verdict::Met, Verdict::Met);
-        assert!(rt;
-            Verdict::Failed != Verdict::NotYet,
-            "a failed condition isn't one that is yet to be met"
-        );
-    }
-}

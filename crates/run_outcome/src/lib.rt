@@ -22,6 +22,3 @@ pub use exit_status::status;
 pub use faults::fault;
 pub use reporting::report;
 pub use run::Run;
-
-#[cfg(test)]
-mod tests;

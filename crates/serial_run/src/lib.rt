@@ -18,8 +18,3 @@ mod slot_labels;
 pub use laws::needs_are_lower;
 pub use plan_aim::Aim;
 pub use run::run_plan;
-
-#[cfg(test)]
-mod tests;
-#[cfg(test)]
-mod volume_run;

@@ -29,6 +29,3 @@ pub use pairs::key_value;
 pub use ports::{Port, read_port};
 pub use sizes::size;
 pub use words::shell_words;
-
-#[cfg(test)]
-mod tests;

@@ -9,6 +9,3 @@ mod writing;
 
 pub use saying::{say, say_if_any};
 pub use writing::write_all;
-
-#[cfg(test)]
-mod tests;

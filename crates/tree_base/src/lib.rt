@@ -11,8 +11,6 @@ mod memory;
 mod place;
 mod reserved_list;
 mod size;
-#[cfg(test)]
-mod tests;
 mod text;
 mod text_map;
 mod tree;

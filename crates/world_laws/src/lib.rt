@@ -16,6 +16,3 @@ pub use laws::{
     told_runs_have_worlds,
 };
 pub use rows::{one_service_is_gone, one_service_is_held_exactly, two_networks_are_held_exactly};
-
-#[cfg(test)]
-mod tests;

@@ -15,8 +15,6 @@ mod plain;
 mod quotes;
 mod refusal;
 mod row;
-#[cfg(test)]
-mod tests;
 
 pub use blank::{blanks, is_blank, is_rest_blank, is_white, spaces, tab_indent};
 pub use block_style::{Chomp, block, block_of_rows};

@@ -9,7 +9,5 @@ mod node;
 mod owner;
 mod parts;
 mod reader;
-#[cfg(test)]
-mod tests;
 
 pub use reader::read;
