@@ -1,5 +1,6 @@
 ghost use Rattle.std.specs.Prelude.{◌≡◌, IfOk};
 
+use crate::copier::Copier;
 use crate::resource::Pairs;
 use std::alloc::Global;
 use tree_base::{List, Memory, Text, TryCopy};
@@ -72,207 +73,59 @@ pub struct ContainerSpec {
 
 impl TryCopy for ContainerSpec {
     fn copy(&self, alloc: Global) -> Result<ContainerSpec, Memory> {
-        let labels = self.labels.copy(alloc)?;
-        let process = self.copy_process(alloc)?;
-        let limits = self.copy_limits(alloc)?;
-        let links = self.copy_links(alloc)?;
-        Ok(ContainerSpec {
-            labels,
-            platform: process.platform,
-            image: process.image,
-            cmd: process.cmd,
-            entrypoint: process.entrypoint,
-            env: process.env,
-            hostname: process.hostname,
-            domainname: process.domainname,
-            user: process.user,
-            working_dir: process.working_dir,
-            stop_signal: process.stop_signal,
+        let mut copier = Copier::new(alloc);
+        let copy = ContainerSpec {
+            labels: copier.list(&self.labels),
+            platform: copier.option(&self.platform),
+            image: copier.option(&self.image),
+            cmd: copier.option(&self.cmd),
+            entrypoint: copier.option(&self.entrypoint),
+            env: copier.option(&self.env),
+            hostname: copier.option(&self.hostname),
+            domainname: copier.option(&self.domainname),
+            user: copier.option(&self.user),
+            working_dir: copier.option(&self.working_dir),
+            stop_signal: copier.option(&self.stop_signal),
             open_stdin: self.open_stdin,
             tty: self.tty,
             privileged: self.privileged,
             readonly_rootfs: self.readonly_rootfs,
             init: self.init,
-            cap_add: limits.cap_add,
-            cap_drop: limits.cap_drop,
-            security_opt: limits.security_opt,
-            group_add: limits.group_add,
-            dns: links.dns,
-            dns_search: links.dns_search,
-            dns_options: links.dns_options,
-            extra_hosts: links.extra_hosts,
-            sysctls: limits.sysctls,
-            ipc_mode: limits.ipc_mode,
-            pid_mode: limits.pid_mode,
-            userns_mode: limits.userns_mode,
-            cpuset_cpus: limits.cpuset_cpus,
+            cap_add: copier.option(&self.cap_add),
+            cap_drop: copier.option(&self.cap_drop),
+            security_opt: copier.option(&self.security_opt),
+            group_add: copier.option(&self.group_add),
+            dns: copier.option(&self.dns),
+            dns_search: copier.option(&self.dns_search),
+            dns_options: copier.option(&self.dns_options),
+            extra_hosts: copier.option(&self.extra_hosts),
+            sysctls: copier.option(&self.sysctls),
+            ipc_mode: copier.option(&self.ipc_mode),
+            pid_mode: copier.option(&self.pid_mode),
+            userns_mode: copier.option(&self.userns_mode),
+            cpuset_cpus: copier.option(&self.cpuset_cpus),
             shm_size: self.shm_size,
             memory: self.memory,
             memory_reservation: self.memory_reservation,
             nano_cpus: self.nano_cpus,
             cpu_shares: self.cpu_shares,
             pids_limit: self.pids_limit,
-            ulimits: limits.ulimits,
-            devices: limits.devices,
-            log_config: limits.log_config,
-            restart_policy: limits.restart_policy,
-            exposed_ports: links.exposed_ports,
-            port_bindings: links.port_bindings,
-            binds: links.binds,
-            volumes: links.volumes,
-            tmpfs: links.tmpfs,
-            network_mode: links.network_mode,
-            endpoints_config: links.endpoints_config,
-            healthcheck: process.healthcheck,
+            ulimits: copier.option(&self.ulimits),
+            devices: copier.option(&self.devices),
+            log_config: copier.option(&self.log_config),
+            restart_policy: copier.option(&self.restart_policy),
+            exposed_ports: copier.option(&self.exposed_ports),
+            port_bindings: copier.option(&self.port_bindings),
+            binds: copier.option(&self.binds),
+            volumes: copier.option(&self.volumes),
+            tmpfs: copier.option(&self.tmpfs),
+            network_mode: copier.option(&self.network_mode),
+            endpoints_config: copier.option(&self.endpoints_config),
+            healthcheck: copier.option(&self.healthcheck),
             stop_timeout: self.stop_timeout,
-        })
+        };
+        copier.whole(copy)
     }
-}
-
-impl ContainerSpec {
-    fn copy_process(&self, alloc: Global) -> Result<Process, Memory>
-        ensures { IfOk result (λ p. p ≡ record {
-          platform = self.now.platform;
-          image = self.now.image;
-          cmd = self.now.cmd;
-          entrypoint = self.now.entrypoint;
-          env = self.now.env;
-          hostname = self.now.hostname;
-          domainname = self.now.domainname;
-          user = self.now.user;
-          working_dir = self.now.working_dir;
-          stop_signal = self.now.stop_signal;
-          healthcheck = self.now.healthcheck;
-        }) }
-    {
-        Ok(Process {
-            platform: self.platform.copy(alloc)?,
-            image: self.image.copy(alloc)?,
-            cmd: self.cmd.copy(alloc)?,
-            entrypoint: self.entrypoint.copy(alloc)?,
-            env: self.env.copy(alloc)?,
-            hostname: self.hostname.copy(alloc)?,
-            domainname: self.domainname.copy(alloc)?,
-            user: self.user.copy(alloc)?,
-            working_dir: self.working_dir.copy(alloc)?,
-            stop_signal: self.stop_signal.copy(alloc)?,
-            healthcheck: self.healthcheck.copy(alloc)?,
-        })
-    }
-
-    fn copy_limits(&self, alloc: Global) -> Result<Limits, Memory>
-        ensures { IfOk result (λ l. l ≡ record {
-          cap_add = self.now.cap_add;
-          cap_drop = self.now.cap_drop;
-          security_opt = self.now.security_opt;
-          group_add = self.now.group_add;
-          sysctls = self.now.sysctls;
-          ipc_mode = self.now.ipc_mode;
-          pid_mode = self.now.pid_mode;
-          userns_mode = self.now.userns_mode;
-          cpuset_cpus = self.now.cpuset_cpus;
-          ulimits = self.now.ulimits;
-          devices = self.now.devices;
-          log_config = self.now.log_config;
-          restart_policy = self.now.restart_policy;
-        }) }
-    {
-        Ok(Limits {
-            cap_add: self.cap_add.copy(alloc)?,
-            cap_drop: self.cap_drop.copy(alloc)?,
-            security_opt: self.security_opt.copy(alloc)?,
-            group_add: self.group_add.copy(alloc)?,
-            sysctls: self.sysctls.copy(alloc)?,
-            ipc_mode: self.ipc_mode.copy(alloc)?,
-            pid_mode: self.pid_mode.copy(alloc)?,
-            userns_mode: self.userns_mode.copy(alloc)?,
-            cpuset_cpus: self.cpuset_cpus.copy(alloc)?,
-            ulimits: self.ulimits.copy(alloc)?,
-            devices: self.devices.copy(alloc)?,
-            log_config: self.log_config.copy(alloc)?,
-            restart_policy: self.restart_policy.copy(alloc)?,
-        })
-    }
-
-    fn copy_links(&self, alloc: Global) -> Result<Links, Memory>
-        ensures { IfOk result (λ l. l ≡ record {
-          dns = self.now.dns;
-          dns_search = self.now.dns_search;
-          dns_options = self.now.dns_options;
-          extra_hosts = self.now.extra_hosts;
-          exposed_ports = self.now.exposed_ports;
-          port_bindings = self.now.port_bindings;
-          binds = self.now.binds;
-          volumes = self.now.volumes;
-          tmpfs = self.now.tmpfs;
-          network_mode = self.now.network_mode;
-          endpoints_config = self.now.endpoints_config;
-        }) }
-    {
-        Ok(Links {
-            dns: self.dns.copy(alloc)?,
-            dns_search: self.dns_search.copy(alloc)?,
-            dns_options: self.dns_options.copy(alloc)?,
-            extra_hosts: self.extra_hosts.copy(alloc)?,
-            exposed_ports: self.exposed_ports.copy(alloc)?,
-            port_bindings: self.port_bindings.copy(alloc)?,
-            binds: self.binds.copy(alloc)?,
-            volumes: self.volumes.copy(alloc)?,
-            tmpfs: self.tmpfs.copy(alloc)?,
-            network_mode: self.network_mode.copy(alloc)?,
-            endpoints_config: self.endpoints_config.copy(alloc)?,
-        })
-    }
-}
-
-/// What runs in a container.
-#[derive(Drop)]
-struct Process {
-    platform: Option<Text>,
-    image: Option<Text>,
-    cmd: Option<List<Text>>,
-    entrypoint: Option<List<Text>>,
-    env: Option<List<Text>>,
-    hostname: Option<Text>,
-    domainname: Option<Text>,
-    user: Option<Text>,
-    working_dir: Option<Text>,
-    stop_signal: Option<Text>,
-    healthcheck: Option<Healthcheck>,
-}
-
-/// What a container may do and use.
-#[derive(Drop)]
-struct Limits {
-    cap_add: Option<List<Text>>,
-    cap_drop: Option<List<Text>>,
-    security_opt: Option<List<Text>>,
-    group_add: Option<List<Text>>,
-    sysctls: Option<Pairs>,
-    ipc_mode: Option<Text>,
-    pid_mode: Option<Text>,
-    userns_mode: Option<Text>,
-    cpuset_cpus: Option<Text>,
-    ulimits: Option<List<Ulimit>>,
-    devices: Option<List<Device>>,
-    log_config: Option<LogConfig>,
-    restart_policy: Option<RestartPolicy>,
-}
-
-/// What a container is joined to: names, ports, networks and mounts.
-#[derive(Drop)]
-struct Links {
-    dns: Option<List<Text>>,
-    dns_search: Option<List<Text>>,
-    dns_options: Option<List<Text>>,
-    extra_hosts: Option<List<Text>>,
-    exposed_ports: Option<List<Text>>,
-    port_bindings: Option<List<PortBindings>>,
-    binds: Option<List<Text>>,
-    volumes: Option<List<Text>>,
-    tmpfs: Option<Pairs>,
-    network_mode: Option<Text>,
-    endpoints_config: Option<List<Endpoint>>,
 }
 
 /// A row of `Ulimits`.
@@ -303,11 +156,13 @@ pub struct Device {
 
 impl TryCopy for Device {
     fn copy(&self, alloc: Global) -> Result<Device, Memory> {
-        Ok(Device {
-            path_on_host: self.path_on_host.copy(alloc)?,
-            path_in_container: self.path_in_container.copy(alloc)?,
-            cgroup_permissions: self.cgroup_permissions.copy(alloc)?,
-        })
+        let mut copier = Copier::new(alloc);
+        let copy = Device {
+            path_on_host: copier.text(&self.path_on_host),
+            path_in_container: copier.text(&self.path_in_container),
+            cgroup_permissions: copier.text(&self.cgroup_permissions),
+        };
+        copier.whole(copy)
     }
 }
 

@@ -1,10 +1,7 @@
-ghost use Rattle.std.specs.Prelude.{◌≡◌, IfOk};
-
 use crate::container::ContainerSpec;
 use crate::reply::{ImageRow, NetRow, Report};
 use crate::resource::Pairs;
-use std::alloc::Global;
-use tree_base::{List, Memory, Text, TryCopy};
+use tree_base::{List, Text};
 
 /// What an Engine holds.
 #[derive(Debug, Drop)]
@@ -18,18 +15,6 @@ pub struct Engine {
     pub next: u64,
 }
 
-impl TryCopy for Engine {
-    fn copy(&self, alloc: Global) -> Result<Engine, Memory> {
-        Ok(Engine {
-            containers: self.containers.copy(alloc)?,
-            networks: self.networks.copy(alloc)?,
-            volumes: self.volumes.copy(alloc)?,
-            images: self.images.copy(alloc)?,
-            next: self.next,
-        })
-    }
-}
-
 /// A container of an Engine.
 #[derive(Debug, Drop)]
 pub struct ContainerRow {
@@ -41,18 +26,4 @@ pub struct ContainerRow {
     /// The ids of its networks.
     pub networks: List<Text>,
     pub report: Report,
-}
-
-impl TryCopy for ContainerRow {
-    fn copy(&self, alloc: Global) -> Result<ContainerRow, Memory> {
-        Ok(ContainerRow {
-            id: self.id.copy(alloc)?,
-            name: self.name.copy(alloc)?,
-            spec: self.spec.copy(alloc)?,
-            labels: self.labels.copy(alloc)?,
-            image_id: self.image_id.copy(alloc)?,
-            networks: self.networks.copy(alloc)?,
-            report: self.report,
-        })
-    }
 }

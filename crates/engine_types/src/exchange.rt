@@ -12,15 +12,6 @@ pub struct Exchange {
     pub outcome: Outcome,
 }
 
-impl TryCopy for Exchange {
-    fn copy(&self, alloc: Global) -> Result<Exchange, Memory> {
-        Ok(Exchange {
-            request: self.request.copy(alloc)?,
-            outcome: self.outcome.copy(alloc)?,
-        })
-    }
-}
-
 /// What came of a request. After Lost or Memory it may have taken effect.
 #[derive(Debug, Drop)]
 pub enum Outcome {
@@ -51,10 +42,4 @@ pub enum WireEnd {
     Encoded,
     TooLarge,
     BadBody,
-}
-
-impl TryCopy for WireEnd {
-    fn copy(&self, _: Global) -> Result<WireEnd, Memory> {
-        Ok(*self)
-    }
 }

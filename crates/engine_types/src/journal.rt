@@ -1,12 +1,9 @@
-ghost use Rattle.std.specs.Prelude.{◌≡◌, IfOk};
-
 use crate::declared::Condition;
 use crate::exchange::Outcome;
 use crate::reply::Report;
 use crate::request::Request;
 use crate::seen::{Observed, SeenFault};
-use std::alloc::Global;
-use tree_base::{Memory, Text, TryCopy};
+use tree_base::Text;
 
 /// An entry of a run's journal. Workers, actions and slots are named by their numbers.
 #[derive(Debug, Drop)]
@@ -31,45 +28,11 @@ pub enum Entry {
     Short { worker: u32 },
 }
 
-impl TryCopy for Entry {
-    fn copy(&self, alloc: Global) -> Result<Entry, Memory> {
-        match self {
-            Entry::Seen(observed) => Ok(Entry::Seen(observed.copy(alloc)?)),
-            Entry::Claim { worker, action } => Ok(Entry::Claim {
-                worker: *worker,
-                action: *action,
-            }),
-            Entry::Poll { worker, slot } => Ok(Entry::Poll {
-                worker: *worker,
-                slot: *slot,
-            }),
-            Entry::Ended { worker, outcome } => Ok(Entry::Ended {
-                worker: *worker,
-                outcome: outcome.copy(alloc)?,
-            }),
-            Entry::Idle { worker } => Ok(Entry::Idle { worker: *worker }),
-            Entry::Leave { worker } => Ok(Entry::Leave { worker: *worker }),
-            Entry::Stop { worker } => Ok(Entry::Stop { worker: *worker }),
-            Entry::Late { worker, why } => Ok(Entry::Late {
-                worker: *worker,
-                why: *why,
-            }),
-            Entry::Short { worker } => Ok(Entry::Short { worker: *worker }),
-        }
-    }
-}
-
 /// What was passed: the deadline, with the reading of the clock in milliseconds, or the number of entries.
 #[derive(Debug, Clone, Copy, PartialEq, Eq)]
 pub enum LateWhy {
     Deadline(u64),
     Entries,
-}
-
-impl TryCopy for LateWhy {
-    fn copy(&self, _: Global) -> Result<LateWhy, Memory> {
-        Ok(*self)
-    }
 }
 
 /// What bounds a run. The deadline is in milliseconds of the hands' clock; `wait` gives each slot its goal;
@@ -80,12 +43,6 @@ pub struct RunLimits {
     pub deadline: Option<u64>,
     pub wait: bool,
     pub stop_seconds: Option<u32>,
-}
-
-impl TryCopy for RunLimits {
-    fn copy(&self, _: Global) -> Result<RunLimits, Memory> {
-        Ok(*self)
-    }
 }
 
 /// The fault that a run ends with: that of its first failing entry.
@@ -104,28 +61,4 @@ pub enum RunFault {
     Stopped,
     Late(LateWhy),
     Memory,
-}
-
-impl TryCopy for RunFault {
-    fn copy(&self, alloc: Global) -> Result<RunFault, Memory> {
-        match self {
-            RunFault::Seen(fault) => Ok(RunFault::Seen(fault.copy(alloc)?)),
-            RunFault::Request { request, outcome } => Ok(RunFault::Request {
-                request: request.copy(alloc)?,
-                outcome: outcome.copy(alloc)?,
-            }),
-            RunFault::Condition {
-                slot,
-                condition,
-                report,
-            } => Ok(RunFault::Condition {
-                slot: slot.copy(alloc)?,
-                condition: *condition,
-                report: *report,
-            }),
-            RunFault::Stopped => Ok(RunFault::Stopped),
-            RunFault::Late(why) => Ok(RunFault::Late(*why)),
-            RunFault::Memory => Ok(RunFault::Memory),
-        }
-    }
 }

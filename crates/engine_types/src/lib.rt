@@ -1,10 +1,12 @@
 //! The values that the crates of a run speak of: the Engine's messages, the Engine itself, what a project
 //! declares, what an observation saw, and the journal of a run.
 //!
-//! They are plain data. Each can be copied where there is memory, and its copy equals it.
+//! They are plain data. What is asked, answered and seen can be copied where there is memory, and its copy
+//! equals it.
 #![tactic(auto)]
 
 mod container;
+mod copier;
 mod declared;
 mod engine;
 mod exchange;

@@ -1,7 +1,4 @@
-ghost use Rattle.std.specs.Prelude.{◌≡◌, IfOk};
-
-use std::alloc::Global;
-use tree_base::{List, Memory, TryCopy};
+use tree_base::List;
 
 /// What a run has to do: its actions, numbered by their places.
 #[derive(Debug, Drop)]
@@ -9,28 +6,11 @@ pub struct Plan {
     pub actions: List<Action>,
 }
 
-impl TryCopy for Plan {
-    fn copy(&self, alloc: Global) -> Result<Plan, Memory> {
-        Ok(Plan {
-            actions: self.actions.copy(alloc)?,
-        })
-    }
-}
-
 /// An action with the numbers of those that it needs.
 #[derive(Debug, Drop)]
 pub struct Action {
     pub kind: ActionKind,
     pub needs: List<u32>,
-}
-
-impl TryCopy for Action {
-    fn copy(&self, alloc: Global) -> Result<Action, Memory> {
-        Ok(Action {
-            kind: self.kind,
-            needs: self.needs.copy(alloc)?,
-        })
-    }
 }
 
 /// What an action does. Slots, networks and volumes are places in the declared set, containers places
@@ -47,10 +27,4 @@ pub enum ActionKind {
     StartSlot { slot: u32 },
     RemoveNetwork { network: u32 },
     RemoveVolume { volume: u32 },
-}
-
-impl TryCopy for ActionKind {
-    fn copy(&self, _: Global) -> Result<ActionKind, Memory> {
-        Ok(*self)
-    }
 }

@@ -1,5 +1,6 @@
 ghost use Rattle.std.specs.Prelude.{◌≡◌, IfOk};
 
+use crate::copier::Copier;
 use crate::resource::Pairs;
 use std::alloc::Global;
 use tree_base::{List, Memory, Text, TryCopy};
@@ -59,14 +60,16 @@ pub struct Listed {
 
 impl TryCopy for Listed {
     fn copy(&self, alloc: Global) -> Result<Listed, Memory> {
-        Ok(Listed {
-            id: self.id.copy(alloc)?,
-            name: self.name.copy(alloc)?,
-            image_id: self.image_id.copy(alloc)?,
-            labels: self.labels.copy(alloc)?,
+        let mut copier = Copier::new(alloc);
+        let copy = Listed {
+            id: copier.text(&self.id),
+            name: copier.text(&self.name),
+            image_id: copier.text(&self.image_id),
+            labels: copier.list(&self.labels),
             state: self.state,
-            networks: self.networks.copy(alloc)?,
-        })
+            networks: copier.list(&self.networks),
+        };
+        copier.whole(copy)
     }
 }
 
@@ -82,12 +85,6 @@ pub enum ContainerState {
     Dead,
 }
 
-impl TryCopy for ContainerState {
-    fn copy(&self, _: Global) -> Result<ContainerState, Memory> {
-        Ok(*self)
-    }
-}
-
 /// The health of a container: the Engine API's words for `State.Health.Status`, `Absent` for `none` or
 /// no health.
 #[derive(Debug, Clone, Copy, PartialEq, Eq)]
@@ -98,24 +95,12 @@ pub enum Health {
     Unhealthy,
 }
 
-impl TryCopy for Health {
-    fn copy(&self, _: Global) -> Result<Health, Memory> {
-        Ok(*self)
-    }
-}
-
 /// What an inspection reports of a container.
 #[derive(Debug, Clone, Copy, PartialEq, Eq)]
 pub struct Report {
     pub state: ContainerState,
     pub exit_code: i64,
     pub health: Health,
-}
-
-impl TryCopy for Report {
-    fn copy(&self, _: Global) -> Result<Report, Memory> {
-        Ok(*self)
-    }
 }
 
 /// A network as a listing shows it.
@@ -128,11 +113,13 @@ pub struct NetRow {
 
 impl TryCopy for NetRow {
     fn copy(&self, alloc: Global) -> Result<NetRow, Memory> {
-        Ok(NetRow {
-            id: self.id.copy(alloc)?,
-            name: self.name.copy(alloc)?,
-            labels: self.labels.copy(alloc)?,
-        })
+        let mut copier = Copier::new(alloc);
+        let copy = NetRow {
+            id: copier.text(&self.id),
+            name: copier.text(&self.name),
+            labels: copier.list(&self.labels),
+        };
+        copier.whole(copy)
     }
 }
 

@@ -2,6 +2,7 @@ ghost use Rattle.std.specs.Prelude.{◌≡◌, IfOk};
 ghost use Rattle.std.specs.Option.{option_copied};
 ghost use Rattle.engine_types.specs.Labels.{label};
 
+use crate::copier::Copier;
 use std::alloc::Global;
 use tree_base::{List, Memory, Text, TryCopy, Var};
 
@@ -24,16 +25,18 @@ pub struct NetworkSpec {
 
 impl TryCopy for NetworkSpec {
     fn copy(&self, alloc: Global) -> Result<NetworkSpec, Memory> {
-        Ok(NetworkSpec {
-            name: self.name.copy(alloc)?,
-            labels: self.labels.copy(alloc)?,
-            driver: self.driver.copy(alloc)?,
+        let mut copier = Copier::new(alloc);
+        let copy = NetworkSpec {
+            name: copier.text(&self.name),
+            labels: copier.list(&self.labels),
+            driver: copier.option(&self.driver),
             internal: self.internal,
             attachable: self.attachable,
             enable_ipv6: self.enable_ipv6,
-            options: self.options.copy(alloc)?,
+            options: copier.option(&self.options),
             external: self.external,
-        })
+        };
+        copier.whole(copy)
     }
 }
 
@@ -50,13 +53,15 @@ pub struct VolumeSpec {
 
 impl TryCopy for VolumeSpec {
     fn copy(&self, alloc: Global) -> Result<VolumeSpec, Memory> {
-        Ok(VolumeSpec {
-            name: self.name.copy(alloc)?,
-            labels: self.labels.copy(alloc)?,
-            driver: self.driver.copy(alloc)?,
-            driver_opts: self.driver_opts.copy(alloc)?,
+        let mut copier = Copier::new(alloc);
+        let copy = VolumeSpec {
+            name: copier.text(&self.name),
+            labels: copier.list(&self.labels),
+            driver: copier.option(&self.driver),
+            driver_opts: copier.option(&self.driver_opts),
             external: self.external,
-        })
+        };
+        copier.whole(copy)
     }
 }
 

@@ -1,5 +1,6 @@
 ghost use Rattle.std.specs.Prelude.{◌≡◌, IfOk};
 
+use crate::copier::Copier;
 use crate::declared::Kind;
 use crate::exchange::{Exchange, WireEnd};
 use crate::reply::{ImageRow, Listed, NetRow};
@@ -19,12 +20,14 @@ pub struct Seen {
 
 impl TryCopy for Seen {
     fn copy(&self, alloc: Global) -> Result<Seen, Memory> {
-        Ok(Seen {
-            containers: self.containers.copy(alloc)?,
-            networks: self.networks.copy(alloc)?,
-            volumes: self.volumes.copy(alloc)?,
-            images: self.images.copy(alloc)?,
-        })
+        let mut copier = Copier::new(alloc);
+        let copy = Seen {
+            containers: copier.list(&self.containers),
+            networks: copier.list(&self.networks),
+            volumes: copier.list(&self.volumes),
+            images: copier.list(&self.images),
+        };
+        copier.whole(copy)
     }
 }
 
@@ -35,12 +38,6 @@ pub enum Purpose {
     Down,
 }
 
-impl TryCopy for Purpose {
-    fn copy(&self, _: Global) -> Result<Purpose, Memory> {
-        Ok(*self)
-    }
-}
-
 /// An observation: its exchanges in order, and how it ended.
 #[derive(Debug, Drop)]
 pub struct Observed {
@@ -48,29 +45,11 @@ pub struct Observed {
     pub end: SeenEnd,
 }
 
-impl TryCopy for Observed {
-    fn copy(&self, alloc: Global) -> Result<Observed, Memory> {
-        Ok(Observed {
-            exchanges: self.exchanges.copy(alloc)?,
-            end: self.end.copy(alloc)?,
-        })
-    }
-}
-
 /// How an observation ended.
 #[derive(Debug, Drop)]
 pub enum SeenEnd {
     Good(Seen),
     Bad(SeenFault),
-}
-
-impl TryCopy for SeenEnd {
-    fn copy(&self, alloc: Global) -> Result<SeenEnd, Memory> {
-        match self {
-            SeenEnd::Good(seen) => Ok(SeenEnd::Good(seen.copy(alloc)?)),
-            SeenEnd::Bad(fault) => Ok(SeenEnd::Bad(fault.copy(alloc)?)),
-        }
-    }
 }
 
 /// Why nothing can be planned.
@@ -122,9 +101,9 @@ impl TryCopy for SeenFault {
                 status,
                 message,
             } => Ok(SeenFault::RequestFailed {
-                request: request.copy(alloc)?,
-                status: *status,
                 message: message.copy(alloc)?,
+                status: *status,
+                request: request.copy(alloc)?,
             }),
             SeenFault::PullFailed { image, message } => Ok(SeenFault::PullFailed {
                 image: image.copy(alloc)?,
