@@ -4,7 +4,7 @@ use tree_base::List;
 
 /// What came of a call: the exit status, the journal of the run, the hands that were made, and what the call
 /// is refused with, None exactly at status 0.
-#[derive(Debug, Drop)]
+#[derive(Drop)]
 pub struct Ended<H> {
     pub status: u8,
     pub journal: List<Entry>,

@@ -24,7 +24,7 @@ use text_output::{say_if_any, write_all};
 use tree_base::{Env, List, Text};
 
 /// What came of a call of `config`: the exit status, and what the call is refused with, None exactly at status 0.
-#[derive(Debug, Drop)]
+#[derive(Drop)]
 pub struct ConfigEnd {
     pub status: u8,
     pub refusal: Option<Refusal>,

@@ -8,7 +8,7 @@ use tree_base::{List, Memory, Text, TryCopy};
 /// A container as the Engine API's `POST /containers/create` takes it: one field for each member of the
 /// body, named as the member with `_` between its words. A member under `HostConfig` or `NetworkingConfig`
 /// stands here itself. A field is None where no attribute gives it. `platform` is a word of the query.
-#[derive(Debug, Drop)]
+#[derive(Drop)]
 pub struct ContainerSpec {
     pub labels: Pairs,
     pub platform: Option<Text>,
@@ -129,7 +129,7 @@ impl TryCopy for ContainerSpec {
 }
 
 /// A row of `Ulimits`.
-#[derive(Debug, Drop)]
+#[derive(Drop)]
 pub struct Ulimit {
     pub name: Text,
     pub soft: i64,
@@ -147,7 +147,7 @@ impl TryCopy for Ulimit {
 }
 
 /// A row of `Devices`.
-#[derive(Debug, Drop)]
+#[derive(Drop)]
 pub struct Device {
     pub path_on_host: Text,
     pub path_in_container: Text,
@@ -167,7 +167,7 @@ impl TryCopy for Device {
 }
 
 /// `LogConfig`, whose member `Type` is `kind`.
-#[derive(Debug, Drop)]
+#[derive(Drop)]
 pub struct LogConfig {
     pub kind: Option<Text>,
     pub config: Option<Pairs>,
@@ -183,7 +183,7 @@ impl TryCopy for LogConfig {
 }
 
 /// `RestartPolicy`.
-#[derive(Debug, Drop)]
+#[derive(Drop)]
 pub struct RestartPolicy {
     pub name: Text,
     pub maximum_retry_count: Option<i64>,
@@ -199,7 +199,7 @@ impl TryCopy for RestartPolicy {
 }
 
 /// A key of `PortBindings`, `PORT/PROTOCOL`, with its rows.
-#[derive(Debug, Drop)]
+#[derive(Drop)]
 pub struct PortBindings {
     pub key: Text,
     pub bindings: List<PortBinding>,
@@ -215,7 +215,7 @@ impl TryCopy for PortBindings {
 }
 
 /// A row of `PortBindings`.
-#[derive(Debug, Drop)]
+#[derive(Drop)]
 pub struct PortBinding {
     pub host_ip: Option<Text>,
     pub host_port: Option<Text>,
@@ -231,7 +231,7 @@ impl TryCopy for PortBinding {
 }
 
 /// A key of `EndpointsConfig`, the name of a network, with its aliases.
-#[derive(Debug, Drop)]
+#[derive(Drop)]
 pub struct Endpoint {
     pub key: Text,
     pub aliases: List<Text>,
@@ -247,7 +247,7 @@ impl TryCopy for Endpoint {
 }
 
 /// `Healthcheck`, with its durations in nanoseconds.
-#[derive(Debug, Drop)]
+#[derive(Drop)]
 pub struct Healthcheck {
     pub test: Option<List<Text>>,
     pub interval: Option<i64>,

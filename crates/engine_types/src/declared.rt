@@ -1,10 +1,10 @@
 use crate::container::ContainerSpec;
 use crate::resource::{NetworkSpec, VolumeSpec};
-use tree_base::{List, Text};
+use tree_base::{Boxed, List, Text};
 
 /// What a project declares: its slots in byte order of service, then by number, its networks and volumes
 /// in byte order of name.
-#[derive(Debug, Drop)]
+#[derive(Drop)]
 pub struct Declared {
     pub project: Text,
     pub slots: List<Slot>,
@@ -13,7 +13,7 @@ pub struct Declared {
 }
 
 /// A place for one container of a service.
-#[derive(Debug, Drop)]
+#[derive(Drop)]
 pub struct Slot {
     pub service: Text,
     /// From 1.
@@ -25,7 +25,7 @@ pub struct Slot {
     pub has_build: bool,
     /// The configuration's hash, in lower hexadecimal.
     pub hash: Text,
-    pub spec: ContainerSpec,
+    pub spec: Boxed<ContainerSpec>,
     /// In order of the network's name.
     pub attach: List<Attach>,
     /// In order of the needed slot.
@@ -36,7 +36,7 @@ pub struct Slot {
 }
 
 /// A network that a slot's container is on: its place among the declared networks.
-#[derive(Debug, Drop)]
+#[derive(Drop)]
 pub struct Attach {
     pub network: u32,
     pub aliases: List<Text>,

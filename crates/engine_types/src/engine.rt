@@ -1,10 +1,10 @@
 use crate::container::ContainerSpec;
 use crate::reply::{ImageRow, NetRow, Report};
 use crate::resource::Pairs;
-use tree_base::{List, Text};
+use tree_base::{Boxed, List, Text};
 
 /// What an Engine holds.
-#[derive(Debug, Drop)]
+#[derive(Drop)]
 pub struct Engine {
     pub containers: List<ContainerRow>,
     pub networks: List<NetRow>,
@@ -16,11 +16,11 @@ pub struct Engine {
 }
 
 /// A container of an Engine.
-#[derive(Debug, Drop)]
+#[derive(Drop)]
 pub struct ContainerRow {
     pub id: Text,
     pub name: Text,
-    pub spec: ContainerSpec,
+    pub spec: Boxed<ContainerSpec>,
     pub labels: Pairs,
     pub image_id: Text,
     /// The ids of its networks.

@@ -6,14 +6,14 @@ use std::alloc::Global;
 use tree_base::{Memory, TryCopy};
 
 /// A request with what came of it.
-#[derive(Debug, Drop)]
+#[derive(Drop)]
 pub struct Exchange {
     pub request: Request,
     pub outcome: Outcome,
 }
 
 /// What came of a request. After Lost or Memory it may have taken effect.
-#[derive(Debug, Drop)]
+#[derive(Drop)]
 pub enum Outcome {
     Answered(Reply),
     Lost(WireEnd),

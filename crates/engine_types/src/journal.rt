@@ -6,7 +6,7 @@ use crate::seen::{Observed, SeenFault};
 use tree_base::Text;
 
 /// An entry of a run's journal. Workers, actions and slots are named by their numbers.
-#[derive(Debug, Drop)]
+#[derive(Drop)]
 pub enum Entry {
     /// The observation that the run stands on.
     Seen(Observed),
@@ -46,7 +46,7 @@ pub struct RunLimits {
 }
 
 /// The fault that a run ends with: that of its first failing entry.
-#[derive(Debug, Drop)]
+#[derive(Drop)]
 pub enum RunFault {
     Seen(SeenFault),
     Request {

@@ -1,13 +1,13 @@
 use tree_base::List;
 
 /// What a run has to do: its actions, numbered by their places.
-#[derive(Debug, Drop)]
+#[derive(Drop)]
 pub struct Plan {
     pub actions: List<Action>,
 }
 
 /// An action with the numbers of those that it needs.
-#[derive(Debug, Drop)]
+#[derive(Drop)]
 pub struct Action {
     pub kind: ActionKind,
     pub needs: List<u32>,

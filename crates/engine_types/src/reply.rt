@@ -6,7 +6,7 @@ use std::alloc::Global;
 use tree_base::{List, Memory, Text, TryCopy};
 
 /// What the Engine answers.
-#[derive(Debug, Drop)]
+#[derive(Drop)]
 pub enum Reply {
     Containers(List<Listed>),
     State(Report),
@@ -47,7 +47,7 @@ impl TryCopy for Reply {
 }
 
 /// A container as a listing shows it.
-#[derive(Debug, Drop)]
+#[derive(Drop)]
 pub struct Listed {
     pub id: Text,
     pub name: Text,
@@ -104,7 +104,7 @@ pub struct Report {
 }
 
 /// A network as a listing shows it.
-#[derive(Debug, Drop)]
+#[derive(Drop)]
 pub struct NetRow {
     pub id: Text,
     pub name: Text,
@@ -124,7 +124,7 @@ impl TryCopy for NetRow {
 }
 
 /// An image with its id.
-#[derive(Debug, Drop)]
+#[derive(Drop)]
 pub struct ImageRow {
     pub name: Text,
     pub id: Text,

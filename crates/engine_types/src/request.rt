@@ -3,10 +3,10 @@ ghost use Rattle.std.specs.Prelude.{◌≡◌, IfOk};
 use crate::container::ContainerSpec;
 use crate::resource::{NetworkSpec, VolumeSpec};
 use std::alloc::Global;
-use tree_base::{List, Memory, Text, TryCopy};
+use tree_base::{Boxed, List, Memory, Text, TryCopy};
 
 /// What is asked of the Engine: one call of the Docker Engine API v1.43 each.
-#[derive(Debug, Drop)]
+#[derive(Drop)]
 pub enum Request {
     /// `GET /containers/json`, the containers of a project in every state.
     ListContainers {
@@ -19,7 +19,7 @@ pub enum Request {
     /// `POST /containers/create`.
     Create {
         name: Text,
-        spec: ContainerSpec,
+        spec: Boxed<ContainerSpec>,
     },
     /// `POST /containers/{id}/start`.
     Start {

@@ -11,7 +11,7 @@ pub type Pairs = List<Var>;
 
 /// A network as the Engine API's `POST /networks/create` takes it. `external` stands for a network that
 /// the project uses and doesn't make.
-#[derive(Debug, Drop)]
+#[derive(Drop)]
 pub struct NetworkSpec {
     pub name: Text,
     pub labels: Pairs,
@@ -42,7 +42,7 @@ impl TryCopy for NetworkSpec {
 
 /// A volume as the Engine API's `POST /volumes/create` takes it. `external` stands for a volume that the
 /// project uses and doesn't make.
-#[derive(Debug, Drop)]
+#[derive(Drop)]
 pub struct VolumeSpec {
     pub name: Text,
     pub labels: Pairs,

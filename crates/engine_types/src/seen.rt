@@ -9,7 +9,7 @@ use std::alloc::Global;
 use tree_base::{List, Memory, Text, TryCopy};
 
 /// What an observation saw of the Engine.
-#[derive(Debug, Drop)]
+#[derive(Drop)]
 pub struct Seen {
     pub containers: List<Listed>,
     pub networks: List<NetRow>,
@@ -39,21 +39,21 @@ pub enum Purpose {
 }
 
 /// An observation: its exchanges in order, and how it ended.
-#[derive(Debug, Drop)]
+#[derive(Drop)]
 pub struct Observed {
     pub exchanges: List<Exchange>,
     pub end: SeenEnd,
 }
 
 /// How an observation ended.
-#[derive(Debug, Drop)]
+#[derive(Drop)]
 pub enum SeenEnd {
     Good(Seen),
     Bad(SeenFault),
 }
 
 /// Why nothing can be planned.
-#[derive(Debug, Drop)]
+#[derive(Drop)]
 pub enum SeenFault {
     RequestFailed {
         request: Request,

@@ -6,7 +6,7 @@ use crate::spec::container_spec;
 use engine_types::{Condition, Declared, Pairs, Policy, Slot, labels};
 use plain_services::{PlainService, Project};
 use std::alloc::Global;
-use tree_base::{List, Memory, Text, Var};
+use tree_base::{Boxed, List, Memory, Text, Var};
 
 /// The seconds that a stop waits before it kills, where no attribute says so.
 const STOP_SECONDS: u64 = 10;
@@ -48,7 +48,7 @@ fn slot_of(alloc: Global, project: &Text, service: &PlainService) -> Result<Slot
         policy: Policy::Missing,
         has_build: false,
         hash,
-        spec: container_spec(alloc, labels, &service.image)?,
+        spec: Boxed::new(alloc, container_spec(alloc, labels, &service.image)?)?,
         attach: List::new(alloc),
         needs: List::new(alloc),
         goal: Condition::Running,

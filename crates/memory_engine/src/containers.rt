@@ -78,7 +78,7 @@ fn started_report(row: &ContainerRow) -> Report
     ensures { result ≡ (started_row row.now).report }
 {
     let exit_code = row.report.exit_code;
-    let health = if has_test(&row.spec) {
+    let health = if has_test(row.spec.get()) {
         Health::Starting
     } else {
         row.report.health

@@ -11,7 +11,7 @@ use engine_types::{
     ContainerRow, ContainerSpec, ContainerState, Endpoint, Engine, Health, Reply, Report,
 };
 use std::alloc::Global;
-use tree_base::{List, Memory, Text, TryCopy};
+use tree_base::{Boxed, List, Memory, Text, TryCopy};
 
 /// Makes a container.
 pub fn create(
@@ -54,7 +54,7 @@ fn add(
     let row = ContainerRow {
         id,
         name: name.copy(alloc)?,
-        spec: spec.copy(alloc)?,
+        spec: Boxed::new(alloc, spec.copy(alloc)?)?,
         labels: spec.labels.copy(alloc)?,
         image_id: image,
         networks: networks_of(alloc, engine, spec)?,

@@ -9,7 +9,7 @@ use std::alloc::Global;
 use tree_base::{List, Memory};
 
 /// A Docker Engine in memory.
-#[derive(Debug, Drop)]
+#[derive(Drop)]
 pub struct MemoryEngine {
     pub engine: Engine,
     /// How its containers change, one tick for each pause of a hand.

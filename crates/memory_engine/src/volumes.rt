@@ -59,7 +59,7 @@ fn is_used(engine: &Engine, name: &Text) -> bool
 fn is_bound(row: &ContainerRow, name: &Text) -> bool
     ensures { result ≡ binds_volume name.now row.now }
 {
-    match &row.spec.binds {
+    match &row.spec.get().binds {
         Some(binds) => binds.as_slice().iter().any(|bind| is_source(bind, name)),
         None => false,
     }

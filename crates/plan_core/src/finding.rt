@@ -226,7 +226,7 @@ fn push_network_names<'a>(
 fn push_bind_sources<'a>(texts: &mut Vec<&'a str>, slot: &'a Slot) -> Result<(), Memory>
     ensures { OnOk result (seen_texts texts.new.items ≡ seen_texts texts.old.items ++ bind_sources slot.now) }
 {
-    match &slot.spec.binds {
+    match &slot.spec.get().binds {
         Some(binds) => push_sources(texts, binds.as_slice()),
         None => Ok(()),
     }

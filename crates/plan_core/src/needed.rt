@@ -147,7 +147,7 @@ impl Planner<'_> {
             ActionKind::MakeNetwork { network } => Ok(attaches_to(slot, network)),
             ActionKind::MakeVolume { volume } => {
                 Ok(match self.declared.volumes.get(volume as usize) {
-                    Some(volume) => is_bound_by(&slot.spec, &volume.name),
+                    Some(volume) => is_bound_by(slot.spec.get(), &volume.name),
                     None => false,
                 })
             }

@@ -3,7 +3,7 @@ use tree_base::{List, Text};
 
 /// What came of a run: its journal, oldest entry first; its report, a line for each action that ended well; and the
 /// fault of its first failing entry, None where the run went well.
-#[derive(Debug, Drop)]
+#[derive(Drop)]
 pub struct Ran {
     pub journal: List<Entry>,
     pub report: Text,

@@ -3,7 +3,7 @@ use tree_base::{Path, Text};
 use yaml_lines::YamlRefusal;
 
 /// Why a call ended otherwise than well. Each has its exit status and the line that it prints.
-#[derive(Debug, Drop)]
+#[derive(Drop)]
 pub enum Refusal {
     /// What was asked for is not built yet.
     NotBuilt(Unbuilt),

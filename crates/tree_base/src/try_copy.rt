@@ -1,5 +1,6 @@
 ghost use Rattle.std.specs.Prelude.{◌≡◌, IfOk};
 
+use crate::boxed::Boxed;
 use crate::list::List;
 use crate::memory::Memory;
 use crate::text::Text;
@@ -77,6 +78,13 @@ impl<T: TryCopy + Drop> TryCopy for Option<T> {
             None => Ok(None),
             Some(value) => Ok(Some(value.copy(alloc)?)),
         }
+    }
+}
+
+impl<T: TryCopy + Drop> TryCopy for Boxed<T> {
+    fn copy(&self, alloc: Global) -> Result<Boxed<T>, Memory> {
+        let copy = self.get().copy(alloc)?;
+        Boxed::new(alloc, copy)
     }
 }
 
