@@ -1,4 +1,5 @@
 pub mod formers
+pub mod Answers
 pub mod Entries
 pub mod Paths
 pub mod Reserved
