@@ -1,6 +1,7 @@
 pub mod formers
 pub mod Answers
 pub mod Entries
+pub mod Lending
 pub mod Paths
 pub mod Reserved
 pub mod Trees

@@ -1,5 +1,8 @@
 ghost use Rattle.std.specs.Prelude.{◌≡◌, [], ◌∷◌, ◌++◌, ◌<◌, length, Some, slice_get, slice_set, ◌↔◌, IsTrue, OnOk, OnErr, OnSome, MatchOption};
-ghost use Rattle.std.specs.Option.{option_copied};
+ghost use Rattle.std.specs.Option.{option_copied, option_copied_mut};
+ghost use Rattle.std.specs.Borrow.{sem};
+ghost use Rattle.tree_base.specs.Lending.{LendsItem};
+ghost use Rattle.std.specs.List.{remove};
 
 use crate::memory::Memory;
 use std::alloc::Global;
@@ -77,11 +80,28 @@ impl<T> List<T> {
         self.items.get(at)
     }
 
+    /// The item at a place, from 0, to write: the list ends with what was last written there. No memory.
+    pub fn get_mut(&mut self, at: usize) -> Option<&mut T>
+        ensures value { option_copied_mut result ≡ slice_get self.old at }
+        ensures* writes_back { sem 𝓛 (LendsItem T.row self.entry at result) }
+    {
+        self.items.get_mut(at)
+    }
+
     /// Takes the last item out. No memory.
     pub fn pop(&mut self) -> Option<T>
         ensures { MatchOption result ((self.old ≡ []) × (self.new ≡ [])) (λ last. self.old ≡ self.new ++ last ∷ []) }
     {
         self.items.pop()
+    }
+
+    /// Takes the item at a place out, from 0. No memory.
+    pub fn remove(&mut self, at: usize) -> T
+        requires { at < length self.old }
+        ensures item { slice_get self.old at ≡ Some result }
+        ensures rest { self.new ≡ remove self.old at }
+    {
+        self.items.remove(at)
     }
 
     /// Takes room for `more` pushes.

@@ -1,9 +1,11 @@
-ghost use Rattle.std.specs.Prelude.{◌≡◌, [], ◌<◌, length, slice_get, ◌↔◌, IsTrue, OnOk, OnErr, IfOk};
-ghost use Rattle.std.specs.Option.{option_copied, option_map};
+ghost use Rattle.std.specs.Prelude.{◌≡◌, [], ◌<◌, length, slice_get, position, ◌↔◌, IsTrue, OnOk, OnErr, IfOk};
+ghost use Rattle.std.specs.Option.{option_copied, option_copied_mut, option_map};
+ghost use Rattle.std.specs.Borrow.{sem};
 ghost use Rattle.std.specs.List.{zip, IsDistinct};
 ghost use Rattle.std.specs.Str.{bytes_eq};
 ghost use Rattle.std.specs.Map.{keys_of, values_of};
-ghost use Rattle.tree_base.specs.Entries.{value_at, with_entry, HasDistinctKeys};
+ghost use Rattle.tree_base.specs.Entries.{value_at, with_entry, without_entry, HasDistinctKeys};
+ghost use Rattle.tree_base.specs.Lending.{LendsValue};
 
 use crate::list::{List, item_at};
 use crate::memory::Memory;
@@ -70,6 +72,15 @@ impl<V> TextMap<V> {
         item_at(self.values.as_slice(), at)
     }
 
+    /// The value under a key that the program names; None exactly where the key isn't there. It goes through the
+    /// keys, so a key that comes from outside is looked up by `get`. No memory.
+    pub fn find(&self, key: &str) -> Option<&V>
+        ensures { option_copied result ≡ value_at self.now key.now }
+    {
+        let at = place_of(self.keys.as_slice(), key)?;
+        item_at(self.values.as_slice(), at)
+    }
+
     /// The keys, in order. No memory.
     pub fn keys(&self) -> &[Text]
         ensures { result.now ≡ keys_of self.now }
@@ -123,6 +134,44 @@ impl<V: Drop> TextMap<V> {
     }
 }
 
+impl<V> TextMap<V> {
+    /// Takes a key and its value out; None exactly where the key isn't there. No memory.
+    pub fn remove(&mut self, key: &Text) -> Option<V>
+        ensures value { result ≡ value_at self.old key.now }
+        ensures rest { self.new ≡ without_entry self.old key.now }
+    {
+        match self.keys.shift_remove_full(key) {
+            None => None,
+            Some((at, found)) => {
+                drop(found);
+                Some(self.values.remove(at))
+            }
+        }
+    }
+}
+
+impl<V> TextMap<V> {
+    /// The value under a key, to write; None exactly where the key isn't there. The map ends with what was last
+    /// written under the key. No memory.
+    pub fn get_mut(&mut self, key: &Text) -> Option<&mut V>
+        ensures value { option_copied_mut result ≡ value_at self.old key.now }
+        ensures* writes_back { sem 𝓛 (LendsValue V.row self.entry key.now result) }
+    {
+        let at = self.keys.get_index_of(key)?;
+        self.values.get_mut(at)
+    }
+
+    /// The keys and the values, in order. No memory.
+    pub fn into_parts(self) -> (IndexSet<Text>, List<V>)
+        ensures keys { result.0.keys ≡ keys_of self }
+        ensures values { result.1 ≡ values_of self }
+        ensures length { length result.0.keys ≡ length result.1 }
+    {
+        let TextMap { keys, values } = self;
+        (keys, values)
+    }
+}
+
 impl TextMap<Text> {
     /// The value of the variable with this name; None where it is unset. No memory.
     pub fn value(&self, name: &Text) -> Option<&Text>
@@ -130,6 +179,13 @@ impl TextMap<Text> {
     {
         self.get(name)
     }
+}
+
+/// The place of the first key with these bytes.
+fn place_of(keys: &[Text], key: &str) -> Option<usize>
+    ensures { result ≡ position (bytes_eq key.now) keys.now }
+{
+    keys.iter().position(|other| key == other.as_str())
 }
 
 fn copy_keys(keys: &[Text], alloc: Global) -> Result<IndexSet<Text>, Memory>
