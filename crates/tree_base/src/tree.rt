@@ -35,7 +35,7 @@ pub enum Tree {
 }
 
 impl Tree {
-    ghost use Rattle.tree_base.specs.Paths.{child_at, tree_at};
+    ghost use Rattle.tree_base.specs.Paths.{child_at, tree_at, unmarked};
 
     /// A copy, which equals the tree.
     #[cycle(copy)]
@@ -73,23 +73,35 @@ impl Tree {
         entries.with_values(alloc, values)
     }
 
-    /// The tree that one step leads to; None exactly where it leads nowhere. No memory.
+    /// The tree below the marks `!override` at its root. No memory.
+    fn unmarked(&self) -> &Tree
+        ensures { result.now ≡ unmarked self.now }
+    {
+        match self {
+            Tree::Override(inner) => inner.get().unmarked(),
+            _ => self,
+        }
+    }
+
+    /// The tree that one step leads to, where a mark `!override` is no step; None exactly where it leads nowhere.
+    /// No memory.
     pub fn child(&self, step: &Step) -> Option<&Tree>
         ensures { option_copied result ≡ child_at self.now step.now }
     {
         match step {
-            Step::Key(key) => match self {
+            Step::Key(key) => match self.unmarked() {
                 Tree::Map(entries) => entries.get(key),
                 _ => None,
             },
-            Step::Index(at) => match self {
+            Step::Index(at) => match self.unmarked() {
                 Tree::Seq(items) => item_at(items.as_slice(), *at as usize),
                 _ => None,
             },
         }
     }
 
-    /// The tree that a path leads to; None exactly where it leads nowhere. No memory.
+    /// The tree that a path leads to, as the paths of refusals are told: a mark `!override` is no step. None exactly
+    /// where it leads nowhere. No memory.
     pub fn at(&self, path: &Path) -> Option<&Tree>
         ensures { option_copied result ≡ tree_at self.now path.now }
     {
