@@ -6,6 +6,7 @@
 #![tactic(auto)]
 
 mod boxed;
+mod comparison;
 mod list;
 mod memory;
 mod place;
