@@ -1,4 +1,5 @@
 use crate::case_fault::CaseFault;
+use crate::fields::Fields;
 use std::alloc::Global;
 use std::fmt::Write;
 use std::str;
@@ -20,9 +21,9 @@ impl Answers {
         }
     }
 
-    /// The answers under their names. No memory.
-    pub fn values(&self) -> &Map {
-        &self.values
+    /// What came under a name; None where nothing did. No memory.
+    pub fn find(&self, name: &str) -> Option<&Tree> {
+        Fields::new(self.alloc, &self.values).find(name)
     }
 
     /// Puts an answer under its name.

@@ -3,8 +3,7 @@ use crate::case_fault::CaseFault;
 use crate::fields::Fields;
 use crate::one_line::line_of;
 use std::alloc::Global;
-use std::fmt::Write;
-use tree_base::{List, Text, Tree};
+use tree_base::{List, Memory, Text, Tree};
 use yaml_lines::{YamlRefusal, scan};
 use yaml_tree::read;
 
@@ -50,11 +49,6 @@ impl<'c> Case<'c> {
         &self.fields
     }
 
-    /// The sentence of the case, where it has one. No memory.
-    pub fn sentence(&self) -> Option<&'c Tree> {
-        self.fields.find("case")
-    }
-
     /// The name of the call: the first key but `case`. NoCase where there is none.
     pub fn call(&self) -> Result<&'c Text, CaseFault> {
         let keys = self.fields.entries().keys();
@@ -64,49 +58,131 @@ impl<'c> Case<'c> {
         }
     }
 
-    /// How the answers differ from those that are wanted, two lines each; no text where they don't. Wanted is each field
-    /// but the sentence, the call and its further inputs. NoCase where none is wanted.
+    /// What the case is told by on one line: its sentence, or else its call with the beginning of its main input.
+    pub fn title(&self) -> Result<Text, CaseFault> {
+        match self.fields.find("case") {
+            Some(Tree::Scalar(sentence)) => Ok(sentence.copy(self.alloc)?),
+            Some(_) => Err(CaseFault::wants(self.alloc, "case", "a text")),
+            None => self.input_line(),
+        }
+    }
+
+    fn input_line(&self) -> Result<Text, CaseFault> {
+        let call = self.call()?.as_str();
+        let mut title = Text::from_str(self.alloc, call)?;
+        title.push_str(": ")?;
+        let input = line_of(self.alloc, self.fields.tree(call)?)?;
+        add_beginning(input.as_str(), &mut title)?;
+        Ok(title)
+    }
+
+    /// NoCase where no answer of the call with these further inputs is wanted.
+    pub fn has_wanted(&self, call: &Text, inputs: &[&str]) -> Result<(), CaseFault> {
+        let keys = self.fields.entries().keys();
+        let call = call.as_str();
+        if keys.iter().any(|key| is_wanted(key.as_str(), call, inputs)) {
+            Ok(())
+        } else {
+            Err(CaseFault::no_case(self.alloc, "it wants no answer"))
+        }
+    }
+
+    /// The title of the case and the lines of its differences; None where its answers are as wanted.
+    pub fn told_differences(
+        &self,
+        call: &Text,
+        inputs: &[&str],
+        answers: &Answers,
+    ) -> Result<Option<Text>, CaseFault> {
+        let lines = self.differences(call, inputs, answers)?;
+        if lines.is_empty() {
+            return Ok(None);
+        }
+        let mut told = self.title()?;
+        told.push_str("\n")?;
+        told.push_str(lines.as_str())?;
+        Ok(Some(told))
+    }
+
+    /// How the answers differ from those that are wanted, two lines each; the empty text where they don't. Wanted
+    /// is each field but the sentence, the call and its further inputs; and that `refused` doesn't come, where it isn't among these.
     pub fn differences(
         &self,
         call: &Text,
         inputs: &[&str],
         answers: &Answers,
     ) -> Result<Text, CaseFault> {
-        let mut lines = String::new(self.alloc);
-        let mut wanted = 0u64;
+        let mut lines = Text::new(self.alloc);
         let entries = self.fields.entries();
-        for (key, tree) in entries.keys().iter().zip(entries.values()) {
+        for (key, wanted) in entries.keys().iter().zip(entries.values()) {
             if is_wanted(key.as_str(), call.as_str(), inputs) {
-                wanted = wanted.saturating_add(1);
-                self.compare(key, Some(tree), answers.values().get(key), &mut lines)?;
+                let came = answers.find(key.as_str());
+                compare(self.alloc, key.as_str(), Some(wanted), came, &mut lines)?;
             }
         }
-        Ok(Text::from_string(lines))
-    }
-
-    fn compare(
-        &self,
-        name: &Text,
-        wanted: Option<&Tree>,
-        came: Option<&Tree>,
-        lines: &mut String,
-    ) -> Result<(), CaseFault> {
-        let wanted = told(self.alloc, wanted)?;
-        let came = told(self.alloc, came)?;
-        if wanted != came {
-            write!(lines, "{name}: {wanted} {came}")?;
+        if !self.fields.has(REFUSED) {
+            compare(self.alloc, REFUSED, None, answers.find(REFUSED), &mut lines)?;
         }
-        Ok(())
+        Ok(lines)
     }
 }
 
+/// Whether a field is an answer that is wanted: all are but the sentence, the call and its further inputs. No memory.
 fn is_wanted(key: &str, call: &str, inputs: &[&str]) -> bool {
     key != "case" && key != call && !inputs.iter().any(|input| *input == key)
 }
 
-fn told(alloc: Global, tree: Option<&Tree>) -> Result<Text, CaseFault> {
+/// The name of the answer that tells why a call was refused.
+const REFUSED: &str = "refused";
+
+/// Puts two lines where what came isn't what was wanted.
+fn compare(
+    alloc: Global,
+    name: &str,
+    wanted: Option<&Tree>,
+    came: Option<&Tree>,
+    lines: &mut Text,
+) -> Result<(), CaseFault> {
+    let wanted = line_or_nothing(alloc, wanted)?;
+    let came = line_or_nothing(alloc, came)?;
+    if wanted != came {
+        add_difference(name, &wanted, &came, lines)?;
+    }
+    Ok(())
+}
+
+fn line_or_nothing(alloc: Global, tree: Option<&Tree>) -> Result<Text, CaseFault> {
     match tree {
         Some(tree) => line_of(alloc, tree),
         None => Ok(Text::from_str(alloc, "nothing")?),
     }
+}
+
+/// Puts the first 60 characters of a line, and two points where there are more.
+fn add_beginning(line: &str, to: &mut Text) -> Result<(), Memory> {
+    for (at, c) in line.chars().enumerate() {
+        if at == 60 {
+            return to.push_str("..");
+        }
+        to.push(c)?;
+    }
+    Ok(())
+}
+
+/// Two lines, one below the other, as
+///
+///     text: wanted "a"
+///           came   "b"
+fn add_difference(name: &str, wanted: &Text, came: &Text, lines: &mut Text) -> Result<(), Memory> {
+    lines.push_str("  ")?;
+    lines.push_str(name)?;
+    lines.push_str(": wanted ")?;
+    lines.push_str(wanted.as_str())?;
+    lines.push_str("\n    ")?;
+    for _ in name.chars() {
+        lines.push_str(" ")?;
+    }
+    lines.push_str("came   ")?;
+    lines.push_str(came.as_str())?;
+    lines.push_str("\n")
 }

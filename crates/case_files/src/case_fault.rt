@@ -44,6 +44,14 @@ impl CaseFault {
         }
     }
 
+    /// The case is none, since there is no such call.
+    pub fn no_call(alloc: Global, call: &str) -> CaseFault {
+        match format!(in alloc; "`{call}` is no call") {
+            Ok(message) => CaseFault::NoCase(Text::from_string(message)),
+            Err(_) => CaseFault::Memory,
+        }
+    }
+
     /// The case is none, since an input is missing.
     pub fn missing(alloc: Global, what: &str) -> CaseFault {
         match format!(in alloc; "`{what}` is missing") {

@@ -1,0 +1,85 @@
+use crate::calls::{answer, inputs_of};
+use crate::counts::Counts;
+use crate::stop::Stop;
+use case_files::{Answers, Case, CaseFault, cases_in};
+use outside_api::{DiskFiles, FileAnswer, Files};
+use std::alloc::Global;
+use tree_base::{List, Text, Tree};
+
+/// The greatest size of a file, in bytes.
+const GREATEST: u64 = 4194304;
+
+/// Runs the cases of a file, and counts them.
+pub fn run_file(rt: &HostRuntime, file: &Text, counts: &mut Counts) -> Result<(), Stop> {
+    counts.files = counts.files.saturating_add(1);
+    match cases_of(rt, file) {
+        Ok(cases) => run_cases(rt, file, cases.as_slice(), counts),
+        Err(CaseFault::Memory) => Err(Stop::Memory),
+        Err(CaseFault::NoCase(words)) => {
+            counts.unread = counts.unread.saturating_add(1);
+            Ok(println!(rt; "{file}: {words}")?)
+        }
+    }
+}
+
+/// The cases of a file. NoCase where it can't be read, or has no cases.
+fn cases_of(rt: &HostRuntime, file: &Text) -> Result<List<Tree>, CaseFault> {
+    let alloc = rt.alloc();
+    let mut files = DiskFiles::new(rt);
+    match files.read(alloc, file, GREATEST) {
+        FileAnswer::Bytes(bytes) => cases_in(alloc, bytes.as_slice()),
+        FileAnswer::Memory => Err(CaseFault::Memory),
+        FileAnswer::Missing => Err(CaseFault::no_case(alloc, "there is no such file")),
+        FileAnswer::Longer => Err(CaseFault::no_case(alloc, "it has more than 4194304 bytes")),
+        FileAnswer::Failed => Err(CaseFault::no_case(alloc, "it can't be read")),
+    }
+}
+
+fn run_cases(
+    rt: &HostRuntime,
+    file: &Text,
+    cases: &[Tree],
+    counts: &mut Counts,
+) -> Result<(), Stop> {
+    for (at, tree) in cases.iter().enumerate() {
+        counts.cases = counts.cases.saturating_add(1);
+        run_case(rt, file, at, tree, counts)?;
+    }
+    Ok(())
+}
+
+/// Runs a case, and says how it differs or why it is none.
+fn run_case(
+    rt: &HostRuntime,
+    file: &Text,
+    at: usize,
+    tree: &Tree,
+    counts: &mut Counts,
+) -> Result<(), Stop> {
+    let number = (at as u64).saturating_add(1);
+    match differences(rt.alloc(), tree) {
+        Ok(None) => Ok(()),
+        Ok(Some(words)) => {
+            counts.differ = counts.differ.saturating_add(1);
+            Ok(print!(rt; "{file}, case {number}: {words}")?)
+        }
+        Err(CaseFault::NoCase(words)) => {
+            counts.no_cases = counts.no_cases.saturating_add(1);
+            Ok(println!(rt; "{file}, case {number}: no case: {words}")?)
+        }
+        Err(CaseFault::Memory) => Err(Stop::Memory),
+    }
+}
+
+/// The title of a case and the lines of its differences; None where its answers are as wanted.
+fn differences(alloc: Global, tree: &Tree) -> Result<Option<Text>, CaseFault> {
+    let case = Case::of_tree(alloc, tree)?;
+    let call = case.call()?;
+    let Some(inputs) = inputs_of(call.as_str()) else {
+        return Err(CaseFault::no_call(alloc, call.as_str()));
+    };
+    case.has_wanted(call, inputs)?;
+    let mut answers = Answers::new(alloc);
+    answer(alloc, call.as_str(), case.fields(), &mut answers)?;
+    case.told_differences(call, inputs, &answers)
+}

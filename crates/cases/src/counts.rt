@@ -1,0 +1,76 @@
+ghost use Rattle.std.specs.Prelude.{◌≡◌, ◌<◌, ℕ};
+
+use std::fmt;
+
+/// How many cases ran, and how they came out.
+#[derive(Debug, Clone, Copy, PartialEq, Eq)]
+pub struct Counts {
+    pub files: u64,
+    pub cases: u64,
+    /// Cases whose answers differ from those that are wanted.
+    pub differ: u64,
+    /// Cases that are none.
+    pub no_cases: u64,
+    /// Files that aren't read.
+    pub unread: u64,
+}
+
+impl Counts {
+    /// Nothing ran yet.
+    pub fn new() -> Counts {
+        Counts {
+            files: 0,
+            cases: 0,
+            differ: 0,
+            no_cases: 0,
+            unread: 0,
+        }
+    }
+
+    /// The exit status: 2 where a case is none or a file isn't read, else 1 where a case differs, else 0.
+    pub fn status(&self) -> u8
+        ensures no_case { 0 < self.now.no_cases → result ≡ 2 }
+        ensures unread { 0 < self.now.unread → result ≡ 2 }
+        ensures differ { self.now.no_cases ≡ 0 → self.now.unread ≡ 0 → 0 < self.now.differ → result ≡ 1 }
+        ensures as_wanted { self.now.no_cases ≡ 0 → self.now.unread ≡ 0 → self.now.differ ≡ 0 → result ≡ 0 }
+    {
+        if self.no_cases > 0 || self.unread > 0 {
+            2
+        } else if self.differ > 0 {
+            1
+        } else {
+            0
+        }
+    }
+}
+
+impl fmt::Display for Counts {
+    /// As `1043 cases in 31 files: all as wanted`, or `1043 cases in 31 files: 2 differ, 1 is no case, 1 file isn't read`.
+    fn fmt<W: fmt::Write>(&self, f: &mut fmt::Formatter<W>) -> fmt::Result {
+        let cases = self.cases;
+        let files = self.files;
+        write!(f, "{cases} cases in {files} files: ")?;
+        if self.status() == 0 {
+            return f.write_str("all as wanted");
+        }
+        let differ = self.differ;
+        write!(f, "{differ} ")?;
+        f.write_str(if differ == 1 { "differs" } else { "differ" })?;
+        write_faults(self.no_cases, " is no case", " are no cases", f)?;
+        write_faults(self.unread, " file isn't read", " files aren't read", f)
+    }
+}
+
+/// Writes how many there are, where there are any.
+fn write_faults<W: fmt::Write>(
+    count: u64,
+    one: &str,
+    many: &str,
+    f: &mut fmt::Formatter<W>,
+) -> fmt::Result {
+    match count {
+        0 => Ok(()),
+        1 => write!(f, ", 1{one}"),
+        _ => write!(f, ", {count}{many}"),
+    }
+}

@@ -1,0 +1,32 @@
+use case_files::CaseFault;
+use std::io;
+use tree_base::Memory;
+
+/// Why a run of cases is broken off.
+#[derive(Debug, Clone, Copy, PartialEq, Eq)]
+pub enum Stop {
+    Memory,
+    Output,
+}
+
+impl Stop {
+    /// The exit status: 9 for want of memory, 7 where the output failed.
+    pub fn status(self) -> u8 {
+        match self {
+            Stop::Memory => 9,
+            Stop::Output => 7,
+        }
+    }
+}
+
+impl From<Memory> for Stop {
+    fn from(_: Memory) -> Stop {
+        Stop::Memory
+    }
+}
+
+impl From<io::Error> for Stop {
+    fn from(_: io::Error) -> Stop {
+        Stop::Output
+    }
+}
