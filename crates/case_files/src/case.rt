@@ -3,27 +3,7 @@ use crate::case_fault::CaseFault;
 use crate::fields::Fields;
 use crate::one_line::line_of;
 use std::alloc::Global;
-use tree_base::{List, Memory, Text, Tree};
-use yaml_lines::{YamlRefusal, scan};
-use yaml_tree::read;
-
-/// The cases of a file's bytes. NoCase where the bytes are no YAML, with the place, and where they have no sequence.
-pub fn cases_in(alloc: Global, bytes: &[u8]) -> Result<List<Tree>, CaseFault> {
-    match tree_in(alloc, bytes) {
-        Ok(Tree::Seq(cases)) => Ok(cases),
-        Ok(_) => Err(CaseFault::no_case(alloc, "the file wants a sequence")),
-        Err(YamlRefusal::Memory) => Err(CaseFault::Memory),
-        Err(refusal) => {
-            let words = format!(in alloc; "{refusal}")?;
-            Err(CaseFault::NoCase(Text::from_string(words)))
-        }
-    }
-}
-
-fn tree_in(alloc: Global, bytes: &[u8]) -> Result<Tree, YamlRefusal> {
-    let lines = scan(alloc, bytes, 0)?;
-    read(alloc, &lines)
-}
+use tree_base::{Memory, Text, Tree};
 
 /// A case: a call with its inputs and the answers that are wanted.
 #[derive(Clone, Copy)]

@@ -1,8 +1,7 @@
-//! Cases as data: a YAML file holds a sequence of cases, each a mapping that names a call, its inputs and the
-//! answers that are wanted.
+//! Cases as data: a case is a mapping that names a call, its inputs and the answers that are wanted.
 //!
-//! `cases_in` reads the cases of a file, `Case` gives the call of one and compares what it answered with what is
-//! wanted, `Fields` gives its inputs (texts may be built of parts), and `Answers` holds what came.
+//! `Case` gives the call of a case and compares what it answered with what is wanted, `Fields` gives its inputs (texts
+//! may be built of parts), and `Answers` holds what came.
 #![tactic(auto)]
 
 mod answers;
@@ -14,7 +13,7 @@ mod one_line;
 
 pub use answers::Answers;
 pub use built::{bytes_of, text_of};
-pub use case::{Case, cases_in};
+pub use case::Case;
 pub use case_fault::CaseFault;
 pub use fields::Fields;
 pub use one_line::line_of;

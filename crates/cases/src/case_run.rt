@@ -1,13 +1,10 @@
 use crate::calls::{answer, inputs_of};
+use crate::case_file::cases_of;
 use crate::counts::Counts;
 use crate::stop::Stop;
-use case_files::{Answers, Case, CaseFault, cases_in};
-use outside_api::{DiskFiles, FileAnswer, Files};
+use case_files::{Answers, Case, CaseFault};
 use std::alloc::Global;
-use tree_base::{List, Text, Tree};
-
-/// The greatest size of a file, in bytes.
-const GREATEST: u64 = 4194304;
+use tree_base::{Text, Tree};
 
 /// Runs the cases of a file, and counts them.
 pub fn run_file(rt: &HostRuntime, file: &Text, counts: &mut Counts) -> Result<(), Stop> {
@@ -19,19 +16,6 @@ pub fn run_file(rt: &HostRuntime, file: &Text, counts: &mut Counts) -> Result<()
             counts.unread = counts.unread.saturating_add(1);
             Ok(println!(rt; "{file}: {words}")?)
         }
-    }
-}
-
-/// The cases of a file. NoCase where it can't be read, or has no cases.
-fn cases_of(rt: &HostRuntime, file: &Text) -> Result<List<Tree>, CaseFault> {
-    let alloc = rt.alloc();
-    let mut files = DiskFiles::new(rt);
-    match files.read(alloc, file, GREATEST) {
-        FileAnswer::Bytes(bytes) => cases_in(alloc, bytes.as_slice()),
-        FileAnswer::Memory => Err(CaseFault::Memory),
-        FileAnswer::Missing => Err(CaseFault::no_case(alloc, "there is no such file")),
-        FileAnswer::Longer => Err(CaseFault::no_case(alloc, "it has more than 4194304 bytes")),
-        FileAnswer::Failed => Err(CaseFault::no_case(alloc, "it can't be read")),
     }
 }
 

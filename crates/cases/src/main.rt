@@ -6,6 +6,7 @@
 #![tactic(auto)]
 
 mod calls;
+mod case_file;
 mod case_run;
 mod counts;
 mod stop;
