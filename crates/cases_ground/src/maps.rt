@@ -1,0 +1,111 @@
+use crate::case_step::CaseStep;
+use crate::entries::{add_tree, number_tree, variables_tree};
+use crate::gave::Gave;
+use case_files::{Answers, CaseFault, Fields};
+use std::alloc::Global;
+use tree_base::{Env, List, Map, Text, TextMap, Tree, TryCopy};
+
+/// `map: VARIABLES` with `steps`: what the steps `gave`, and what the map `becomes`.
+pub(crate) fn map(alloc: Global, fields: &Fields, answers: &mut Answers) -> Result<(), CaseFault> {
+    let mut map = map_of(alloc, fields)?;
+    let mut gave = Gave::new(alloc);
+    take_steps(alloc, fields.items("steps")?, &mut map, &mut gave)?;
+    gave.put(answers)?;
+    answers.put("becomes", variables_tree(alloc, &map)?)
+}
+
+/// A copy of the map of a case.
+fn map_of(alloc: Global, fields: &Fields) -> Result<Env, CaseFault> {
+    let map = fields.variables("map")?;
+    Ok(map.copy(alloc)?)
+}
+
+fn take_steps(
+    alloc: Global,
+    steps: &[Tree],
+    map: &mut Env,
+    gave: &mut Gave,
+) -> Result<(), CaseFault> {
+    for step in steps {
+        take_step(alloc, CaseStep::of_tree(alloc, step)?, map, gave)?;
+    }
+    Ok(())
+}
+
+fn take_step(
+    alloc: Global,
+    step: CaseStep,
+    map: &mut Env,
+    gave: &mut Gave,
+) -> Result<(), CaseFault> {
+    match step.name() {
+        "put" => put(alloc, step, map, gave),
+        "pair" => give_pair(alloc, map.pair(step.count()?), gave),
+        "get" => gave.text_or_null(map.get(step.text()?)),
+        "value" => gave.text_or_null(map.value(step.text()?)),
+        "is_empty" => gave.flag(map.is_empty()),
+        "length" => gave.number(map.len() as u64),
+        "with_values" => give_with_values(alloc, map, step.numbers()?, gave),
+        _ => Err(step.unknown()),
+    }
+}
+
+fn put(alloc: Global, step: CaseStep, map: &mut Env, gave: &mut Gave) -> Result<(), CaseFault> {
+    let key = scalar_of(alloc, step.item(0)?)?;
+    let value = scalar_of(alloc, step.item(1)?)?;
+    let old = map.put(key, value)?;
+    gave.text_or_null(old.as_ref())
+}
+
+fn scalar_of(alloc: Global, tree: &Tree) -> Result<Text, CaseFault> {
+    match tree {
+        Tree::Scalar(text) => Ok(text.copy(alloc)?),
+        _ => Err(CaseFault::no_case(alloc, "the step wants a text")),
+    }
+}
+
+fn give_pair(
+    alloc: Global,
+    pair: Option<(&Text, &Text)>,
+    gave: &mut Gave,
+) -> Result<(), CaseFault> {
+    match pair {
+        Some((key, value)) => gave.tree(pair_tree(alloc, key, value)?),
+        None => gave.tree(Tree::Null),
+    }
+}
+
+fn pair_tree(alloc: Global, key: &Text, value: &Text) -> Result<Tree, CaseFault> {
+    let mut items = List::new(alloc);
+    items.push(Tree::Scalar(key.copy(alloc)?))?;
+    items.push(Tree::Scalar(value.copy(alloc)?))?;
+    Ok(Tree::Seq(items))
+}
+
+/// Gives the same keys with numbers.
+fn give_with_values(
+    alloc: Global,
+    map: &Env,
+    numbers: List<u64>,
+    gave: &mut Gave,
+) -> Result<(), CaseFault> {
+    if numbers.len() == map.len() {
+        let numbers = map.with_values(alloc, numbers)?;
+        gave.tree(counts_tree(alloc, &numbers)?)
+    } else {
+        Err(CaseFault::no_case(alloc, "there is one number for each key"))
+    }
+}
+
+fn counts_tree(alloc: Global, counts: &TextMap<u64>) -> Result<Tree, CaseFault> {
+    let mut entries = Map::new(alloc);
+    for (key, count) in counts.keys().iter().zip(counts.values()) {
+        add_tree(
+            alloc,
+            key.as_str(),
+            number_tree(alloc, *count)?,
+            &mut entries,
+        )?;
+    }
+    Ok(Tree::Map(entries))
+}
