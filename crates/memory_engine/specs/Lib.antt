@@ -1,3 +1,4 @@
+pub mod Holding
 pub mod Ids
 pub mod Keeping
 pub mod Listing

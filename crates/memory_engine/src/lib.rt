@@ -10,6 +10,7 @@ mod catalogue;
 mod containers;
 mod creation;
 mod faults;
+mod holding;
 mod ids;
 mod images;
 mod listing;

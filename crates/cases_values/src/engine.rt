@@ -1,0 +1,59 @@
+use crate::ids::id_of;
+use crate::labels::container_labels;
+use crate::names::report_of;
+use crate::reading::Reading;
+use crate::seen::{images_of, networks_of};
+use crate::spec::spec_of;
+use case_files::{CaseFault, Fields};
+use engine_types::{ContainerRow, Engine};
+use std::alloc::Global;
+use tree_base::{List, Text, TryCopy};
+
+/// An Engine, by `containers`, `networks`, `volumes`, `images` (ids under names) and `next` (1).
+///
+/// A container has what one has that was seen, but for the ids of its `networks`, its `exit_code` (0) and
+/// `health` (absent), and what it was made with: `binds` and `healthcheck`. NoCase where something isn't so.
+pub fn engine_of(alloc: Global, fields: &Fields, project: &Text) -> Result<Engine, CaseFault> {
+    let mut reading = Reading::new(alloc);
+    let engine = engine(&mut reading, fields, project);
+    reading.end()?;
+    Ok(engine)
+}
+
+/// The same in a reading.
+pub(crate) fn engine(reading: &mut Reading, fields: &Fields, project: &Text) -> Engine {
+    Engine {
+        containers: containers_of(reading, fields, project),
+        networks: networks_of(reading, fields, project),
+        volumes: reading.texts(fields, "volumes"),
+        images: images_of(reading, fields),
+        next: reading.number_or(fields, "next", 1),
+    }
+}
+
+fn containers_of(reading: &mut Reading, fields: &Fields, project: &Text) -> List<ContainerRow> {
+    let mut rows = List::new(reading.alloc);
+    for tree in reading.items(fields, "containers") {
+        if let Some(fields) = reading.fields_of(tree, "a container") {
+            let row = row_of(reading, &fields, project);
+            reading.push(&mut rows, row);
+        }
+    }
+    rows
+}
+
+fn row_of(reading: &mut Reading, fields: &Fields, project: &Text) -> ContainerRow {
+    let id = reading.text_or(fields, "id", "");
+    let labels = container_labels(reading, fields, project);
+    let alloc = reading.alloc;
+    let sent = reading.given(labels.copy(alloc), List::new(alloc));
+    ContainerRow {
+        id: id_of(reading, id.as_str()),
+        name: reading.text_or(fields, "name", ""),
+        spec: spec_of(reading, fields, sent, None, None),
+        labels,
+        image_id: reading.text_or(fields, "image", ""),
+        networks: reading.texts(fields, "networks"),
+        report: report_of(reading, fields),
+    }
+}

@@ -1,0 +1,109 @@
+use crate::reading::Reading;
+use case_files::Fields;
+use engine_types::{ContainerSpec, Endpoint, Healthcheck, Pairs};
+use tree_base::{List, Text};
+
+/// What the Engine is sent of a container with these labels, image and networks: the further members that cases use
+/// stand under their names, `binds`, `network_mode` and `healthcheck` (the items of its test).
+pub(crate) fn spec_of(
+    reading: &mut Reading,
+    fields: &Fields,
+    labels: Pairs,
+    image: Option<Text>,
+    endpoints: Option<List<Endpoint>>,
+) -> ContainerSpec {
+    let binds = texts_where(reading, fields, "binds");
+    let test = texts_where(reading, fields, "healthcheck");
+    let network_mode = if fields.has("network_mode") {
+        Some(reading.text_at(fields, "network_mode"))
+    } else {
+        None
+    };
+    spec_with(
+        labels,
+        image,
+        endpoints,
+        binds,
+        network_mode,
+        test,
+    )
+}
+
+fn texts_where(reading: &mut Reading, fields: &Fields, key: &str) -> Option<List<Text>> {
+    if fields.has(key) {
+        Some(reading.texts(fields, key))
+    } else {
+        None
+    }
+}
+
+fn healthcheck_of(test: List<Text>) -> Healthcheck {
+    Healthcheck {
+        test: Some(test),
+        interval: None,
+        timeout: None,
+        start_period: None,
+        retries: None,
+    }
+}
+
+/// A spec of these members alone. No memory.
+pub(crate) fn spec_with(
+    labels: Pairs,
+    image: Option<Text>,
+    endpoints_config: Option<List<Endpoint>>,
+    binds: Option<List<Text>>,
+    network_mode: Option<Text>,
+    test: Option<List<Text>>,
+) -> ContainerSpec {
+    ContainerSpec {
+        labels,
+        platform: None,
+        image,
+        cmd: None,
+        entrypoint: None,
+        env: None,
+        hostname: None,
+        domainname: None,
+        user: None,
+        working_dir: None,
+        stop_signal: None,
+        open_stdin: None,
+        tty: None,
+        privileged: None,
+        readonly_rootfs: None,
+        init: None,
+        cap_add: None,
+        cap_drop: None,
+        security_opt: None,
+        group_add: None,
+        dns: None,
+        dns_search: None,
+        dns_options: None,
+        extra_hosts: None,
+        sysctls: None,
+        ipc_mode: None,
+        pid_mode: None,
+        userns_mode: None,
+        cpuset_cpus: None,
+        shm_size: None,
+        memory: None,
+        memory_reservation: None,
+        nano_cpus: None,
+        cpu_shares: None,
+        pids_limit: None,
+        ulimits: None,
+        devices: None,
+        log_config: None,
+        restart_policy: None,
+        exposed_ports: None,
+        port_bindings: None,
+        binds,
+        volumes: None,
+        tmpfs: None,
+        network_mode,
+        endpoints_config,
+        healthcheck: test.map(healthcheck_of),
+        stop_timeout: None,
+    }
+}

@@ -1,0 +1,144 @@
+ghost use Rattle.std.specs.Prelude.{◌≡◌, ◌↔◌, IfSome, IsSome, true};
+ghost use Rattle.std.specs.List.{list_all};
+ghost use Rattle.memory_engine.specs.Holding.{are_apart, are_attached, are_foreign, are_networks, are_told_apart, can_be_held, is_foreign};
+
+use crate::catalogue::Catalogue;
+use crate::faults::FaultPlan;
+use crate::look_ups;
+use crate::script::Tick;
+use crate::state::MemoryEngine;
+use engine_types::{ContainerRow, Engine, ImageRow, NetRow};
+use tree_base::{List, Text};
+
+impl MemoryEngine {
+    /// An Engine that holds this, with which no exchange was made yet. None exactly where ids or names come twice, a
+    /// container is on a network that isn't there, or an id has 64 characters, as those have that the Engine gives. No
+    /// memory.
+    pub fn holding(
+        engine: Engine,
+        script: List<Tick>,
+        faults: FaultPlan,
+        catalogue: Catalogue,
+    ) -> Option<MemoryEngine>
+        ensures held { IsSome result ↔ (can_be_held engine ≡ true) }
+        ensures engine { IfSome result (λ m. m.engine ≡ engine) }
+        ensures script { IfSome result (λ m. m.script ≡ script) }
+        ensures faults { IfSome result (λ m. m.faults ≡ faults) }
+        ensures made { IfSome result (λ m. m.made ≡ 0) }
+        ensures catalogue { IfSome result (λ m. m.catalogue ≡ catalogue) }
+    {
+        if !can_be_held(&engine) {
+            return None;
+        }
+        Some(MemoryEngine {
+            engine,
+            script,
+            faults,
+            made: 0,
+            catalogue,
+        })
+    }
+}
+
+/// Whether an Engine in memory can hold this.
+fn can_be_held(engine: &Engine) -> bool
+    ensures { result ≡ can_be_held engine.now }
+{
+    are_told_apart(engine) && are_attached(engine) && are_foreign(engine)
+}
+
+/// Whether ids and names tell all things apart.
+fn are_told_apart(engine: &Engine) -> bool
+    ensures { result ≡ are_told_apart engine.now }
+{
+    have_own_ids(engine.containers.as_slice())
+        && have_own_names(engine.containers.as_slice())
+        && are_own_networks(engine.networks.as_slice())
+        && are_own_volumes(engine.volumes.as_slice())
+        && are_own_images(engine.images.as_slice())
+}
+
+fn have_own_ids(rows: &[ContainerRow]) -> bool
+    ensures { result ≡ are_apart (λ row. row.id) rows.now }
+{
+    match rows {
+        [] => true,
+        [first, later @ ..] => {
+            !later.iter().any(|other| first.id == other.id) && have_own_ids(later)
+        }
+    }
+}
+
+fn have_own_names(rows: &[ContainerRow]) -> bool
+    ensures { result ≡ are_apart (λ row. row.name) rows.now }
+{
+    match rows {
+        [] => true,
+        [first, later @ ..] => {
+            !later.iter().any(|other| first.name == other.name) && have_own_names(later)
+        }
+    }
+}
+
+fn are_own_networks(rows: &[NetRow]) -> bool
+    ensures { result ≡ are_apart (λ row. row.id) rows.now }
+{
+    match rows {
+        [] => true,
+        [first, later @ ..] => {
+            !later.iter().any(|other| first.id == other.id) && are_own_networks(later)
+        }
+    }
+}
+
+fn are_own_volumes(names: &[Text]) -> bool
+    ensures { result ≡ are_apart (λ name. name) names.now }
+{
+    match names {
+        [] => true,
+        [first, later @ ..] => !look_ups::is_among(later, first) && are_own_volumes(later),
+    }
+}
+
+fn are_own_images(rows: &[ImageRow]) -> bool
+    ensures { result ≡ are_apart (λ row. row.name) rows.now }
+{
+    match rows {
+        [] => true,
+        [first, later @ ..] => {
+            !later.iter().any(|other| first.name == other.name) && are_own_images(later)
+        }
+    }
+}
+
+/// Whether the networks of each container are there.
+fn are_attached(engine: &Engine) -> bool
+    ensures { result ≡ are_attached engine.now }
+{
+    engine
+        .containers
+        .as_slice()
+        .iter()
+        .all(|row| are_networks(engine, row.networks.as_slice()))
+}
+
+fn are_networks(engine: &Engine, ids: &[Text]) -> bool
+    ensures { result ≡ are_networks engine.now ids.now }
+{
+    ids.iter().all(|id| look_ups::network(engine, id).is_some())
+}
+
+/// Whether no id looks like one that the Engine gives.
+fn are_foreign(engine: &Engine) -> bool
+    ensures { result ≡ are_foreign engine.now }
+{
+    engine.containers.as_slice().iter().all(|row| is_foreign(&row.id))
+        && engine.networks.as_slice().iter().all(|row| is_foreign(&row.id))
+}
+
+/// Whether an id hasn't the length of those that the Engine gives.
+fn is_foreign(id: &Text) -> bool
+    ensures { result ≡ is_foreign id.now }
+{
+    id.len() != 64
+}
