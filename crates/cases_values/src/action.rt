@@ -37,10 +37,17 @@ fn kind_of(reading: &mut Reading, verb: &str, word: &str) -> ActionKind {
     match verb {
         "volume" => ActionKind::MakeVolume { volume: number },
         "network" => ActionKind::MakeNetwork { network: number },
-        "stop" => ActionKind::StopContainer { container: u64::from(number) },
-        "remove" => ActionKind::RemoveContainer { container: u64::from(number) },
+        "stop" => ActionKind::StopContainer {
+            container: u64::from(number),
+        },
+        "remove" => ActionKind::RemoveContainer {
+            container: u64::from(number),
+        },
         "create" => ActionKind::CreateSlot { slot: number },
-        "connect" => ActionKind::ConnectSlot { slot: number, attach },
+        "connect" => ActionKind::ConnectSlot {
+            slot: number,
+            attach,
+        },
         "start" => ActionKind::StartSlot { slot: number },
         "no-network" => ActionKind::RemoveNetwork { network: number },
         "no-volume" => ActionKind::RemoveVolume { volume: number },

@@ -1,9 +1,11 @@
-use crate::labels::{container_labels, pairs_at, resource_labels};
+use crate::labels::{container_labels, resource_labels};
 use crate::names::{condition_of, policy_of};
 use crate::reading::Reading;
 use crate::spec::spec_of;
 use case_files::{CaseFault, Fields};
-use engine_types::{Attach, Declared, Endpoint, Need, NetworkSpec, Pairs, Slot, VolumeSpec, labels};
+use engine_types::{
+    Attach, Declared, Endpoint, Need, NetworkSpec, Pairs, Slot, VolumeSpec, labels,
+};
 use std::alloc::Global;
 use tree_base::{List, Text, Tree, TryCopy};
 
@@ -13,7 +15,8 @@ use tree_base::{List, Text, Tree, TryCopy};
 /// `hash`, `attach` (names of declared networks, or each as `{network: .., aliases: [..]}`), `needs` (each as
 /// `0 healthy` or `0 healthy optional`), `goal` (running), `stop_seconds` (10), and what its container is made with:
 /// `labels` (those by which it is known), `binds`, `network_mode`, `healthcheck`. A network or a volume is a name, or has
-/// `name`, `key` or `labels`, and `external`. NoCase where something isn't so.
+/// `name`, `key` or `labels`, and `external`; of a network `times` says how many there are. NoCase where something isn't
+/// so.
 pub fn declared_of(alloc: Global, fields: &Fields) -> Result<Declared, CaseFault> {
     let mut reading = Reading::new(alloc);
     let declared = declared(&mut reading, fields);
@@ -37,10 +40,32 @@ fn declared(reading: &mut Reading, fields: &Fields) -> Declared {
 fn networks_of(reading: &mut Reading, fields: &Fields, project: &Text) -> List<NetworkSpec> {
     let mut networks = List::new(reading.alloc);
     for tree in reading.items(fields, "networks") {
-        let network = network_of(reading, tree, project);
-        reading.push(&mut networks, network);
+        push_networks(reading, tree, project, &mut networks);
     }
     networks
+}
+
+/// Puts a network last, or so many as its `times` says.
+fn push_networks(
+    reading: &mut Reading,
+    tree: &Tree,
+    project: &Text,
+    networks: &mut List<NetworkSpec>,
+) {
+    for _ in 0..times_of(reading, tree) {
+        let network = network_of(reading, tree, project);
+        reading.push(networks, network);
+    }
+}
+
+fn times_of(reading: &mut Reading, tree: &Tree) -> u64 {
+    match tree {
+        Tree::Map(entries) => {
+            let fields = Fields::new(reading.alloc, entries);
+            reading.number_or(&fields, "times", 1)
+        }
+        _ => 1,
+    }
 }
 
 fn network_of(reading: &mut Reading, tree: &Tree, project: &Text) -> NetworkSpec {
@@ -114,15 +139,24 @@ fn slots_of(
     let mut slots = List::new(reading.alloc);
     for tree in reading.items(fields, "slots") {
         if let Some(fields) = reading.fields_of(tree, "a slot") {
-            let slot = slot_of(reading, &fields, project, networks);
+            let slot = slot_with(reading, &fields, project, networks);
             reading.push(&mut slots, slot);
         }
     }
     slots
 }
 
+/// A slot of a project, which attaches to no network, by the fields that `declared_of` names. NoCase where something
+/// isn't so.
+pub fn slot_of(alloc: Global, fields: &Fields, project: &Text) -> Result<Slot, CaseFault> {
+    let mut reading = Reading::new(alloc);
+    let slot = slot_with(&mut reading, fields, project, &[]);
+    reading.end()?;
+    Ok(slot)
+}
+
 /// The slot of a mapping, for a project with these networks.
-pub(crate) fn slot_of(
+fn slot_with(
     reading: &mut Reading,
     fields: &Fields,
     project: &Text,
@@ -213,7 +247,9 @@ fn attach_to(
 
 /// The place of the network with a name.
 fn place_of(reading: &mut Reading, name: &str, networks: &[NetworkSpec]) -> u32 {
-    let place = networks.iter().position(|network| network.name.as_str() == name);
+    let place = networks
+        .iter()
+        .position(|network| network.name.as_str() == name);
     match place.map(u32::try_from) {
         Some(Ok(place)) => place,
         _ => {

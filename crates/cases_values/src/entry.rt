@@ -37,13 +37,25 @@ fn entry(reading: &mut Reading, worker: u32, line: &str) -> Entry {
     let (verb, rest) = line.split_once(' ').unwrap_or((line, ""));
     match verb {
         "seen" => Entry::Seen(nothing_observed(reading.alloc)),
-        "claim" => Entry::Claim { worker, action: small(reading, rest) },
-        "poll" => Entry::Poll { worker, slot: small(reading, rest) },
-        "ended" => Entry::Ended { worker, outcome: outcome(reading, rest) },
+        "claim" => Entry::Claim {
+            worker,
+            action: small(reading, rest),
+        },
+        "poll" => Entry::Poll {
+            worker,
+            slot: small(reading, rest),
+        },
+        "ended" => Entry::Ended {
+            worker,
+            outcome: outcome(reading, rest),
+        },
         "idle" => Entry::Idle { worker },
         "leave" => Entry::Leave { worker },
         "stop" => Entry::Stop { worker },
-        "late" => Entry::Late { worker, why: late_why(reading, rest) },
+        "late" => Entry::Late {
+            worker,
+            why: late_why(reading, rest),
+        },
         "short" => Entry::Short { worker },
         _ => {
             reading.refuse_word("an entry", verb);

@@ -31,7 +31,9 @@ pub(crate) fn outcome(reading: &mut Reading, line: &str) -> Outcome {
 /// The cause of words.
 pub(crate) fn cause_of(reading: &mut Reading, words: &str) -> WireEnd {
     if let Some(place) = words.strip_prefix("Malformed ") {
-        return WireEnd::Malformed { at: number_of(reading, place) };
+        return WireEnd::Malformed {
+            at: number_of(reading, place),
+        };
     }
     match words {
         "Fault" => WireEnd::Fault,

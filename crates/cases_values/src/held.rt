@@ -70,14 +70,39 @@ fn image_line(alloc: Global, row: &ImageRow) -> Result<Text, Memory> {
 /// What an Engine holds: `container` and the words of each container, then `network`, `volume` and `image`.
 pub fn engine_lines(alloc: Global, engine: &Engine) -> Result<List<Text>, Memory> {
     let mut lines = List::new(alloc);
-    push_lines(alloc, &mut lines, "container", container_lines(alloc, engine)?.as_slice())?;
-    push_lines(alloc, &mut lines, "network", network_lines(alloc, engine)?.as_slice())?;
-    push_lines(alloc, &mut lines, "volume", volume_lines(alloc, engine)?.as_slice())?;
-    push_lines(alloc, &mut lines, "image", image_lines(alloc, engine)?.as_slice())?;
+    push_lines(
+        alloc,
+        &mut lines,
+        "container",
+        container_lines(alloc, engine)?.as_slice(),
+    )?;
+    push_lines(
+        alloc,
+        &mut lines,
+        "network",
+        network_lines(alloc, engine)?.as_slice(),
+    )?;
+    push_lines(
+        alloc,
+        &mut lines,
+        "volume",
+        volume_lines(alloc, engine)?.as_slice(),
+    )?;
+    push_lines(
+        alloc,
+        &mut lines,
+        "image",
+        image_lines(alloc, engine)?.as_slice(),
+    )?;
     Ok(lines)
 }
 
-fn push_lines(alloc: Global, lines: &mut List<Text>, what: &str, rows: &[Text]) -> Result<(), Memory> {
+fn push_lines(
+    alloc: Global,
+    lines: &mut List<Text>,
+    what: &str,
+    rows: &[Text],
+) -> Result<(), Memory> {
     for row in rows {
         let line = format!(in alloc; "{what} {row}")?;
         lines.push(Text::from_string(line))?;

@@ -124,14 +124,11 @@ pub(crate) fn kind_of(reading: &mut Reading, word: &str) -> Kind {
     }
 }
 
-/// The purpose of a word.
-pub(crate) fn purpose_of(reading: &mut Reading, word: &str) -> Purpose {
+/// The purpose of a word, `up` or `down`; None of another one. No memory.
+pub fn purpose_of(word: &str) -> Option<Purpose> {
     match word {
-        "up" => Purpose::Up,
-        "down" => Purpose::Down,
-        _ => {
-            reading.refuse_word("a purpose", word);
-            Purpose::Up
-        }
+        "up" => Some(Purpose::Up),
+        "down" => Some(Purpose::Down),
+        _ => None,
     }
 }

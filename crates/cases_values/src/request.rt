@@ -27,11 +27,17 @@ pub(crate) fn request(reading: &mut Reading, line: &str) -> Request {
     let verb = words.next().unwrap_or("");
     let name = words.next().unwrap_or("");
     match verb {
-        "inspect" => Request::Inspect { id: id_of(reading, name) },
+        "inspect" => Request::Inspect {
+            id: id_of(reading, name),
+        },
         "create" => create(reading, name, words),
-        "start" => Request::Start { id: id_of(reading, name) },
+        "start" => Request::Start {
+            id: id_of(reading, name),
+        },
         "stop" => stop(reading, name, words.next()),
-        "remove" => Request::Remove { id: id_of(reading, name) },
+        "remove" => Request::Remove {
+            id: id_of(reading, name),
+        },
         "connect" => connect(reading, name, words),
         _ => other_request(reading, verb, name),
     }
@@ -40,7 +46,9 @@ pub(crate) fn request(reading: &mut Reading, line: &str) -> Request {
 /// A request for listings, networks, volumes or images.
 fn other_request(reading: &mut Reading, verb: &str, name: &str) -> Request {
     match verb {
-        "containers" => Request::ListContainers { project: reading.text(name) },
+        "containers" => Request::ListContainers {
+            project: reading.text(name),
+        },
         "networks" => Request::ListNetworks,
         "volumes" => Request::ListVolumes,
         "network" => Request::MakeNetwork {
@@ -49,10 +57,18 @@ fn other_request(reading: &mut Reading, verb: &str, name: &str) -> Request {
         "volume" => Request::MakeVolume {
             spec: volume_named(reading.text(name), List::new(reading.alloc), false),
         },
-        "remove-network" => Request::RemoveNetwork { id: id_of(reading, name) },
-        "remove-volume" => Request::RemoveVolume { name: reading.text(name) },
-        "image" => Request::Image { name: reading.text(name) },
-        "pull" => Request::Pull { name: reading.text(name) },
+        "remove-network" => Request::RemoveNetwork {
+            id: id_of(reading, name),
+        },
+        "remove-volume" => Request::RemoveVolume {
+            name: reading.text(name),
+        },
+        "image" => Request::Image {
+            name: reading.text(name),
+        },
+        "pull" => Request::Pull {
+            name: reading.text(name),
+        },
         _ => {
             reading.refuse_word("a request", verb);
             Request::ListNetworks
@@ -65,7 +81,10 @@ fn stop(reading: &mut Reading, name: &str, seconds: Option<&str>) -> Request {
         Some(seconds) => number_of(reading, seconds),
         None => 10,
     };
-    Request::Stop { id: id_of(reading, name), seconds }
+    Request::Stop {
+        id: id_of(reading, name),
+        seconds,
+    }
 }
 
 fn connect(reading: &mut Reading, network: &str, mut words: SplitWhitespace<'_>) -> Request {

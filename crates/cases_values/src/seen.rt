@@ -15,7 +15,7 @@ use tree_base::{List, Text, Tree};
 pub fn seen_of(alloc: Global, fields: &Fields, project: &Text) -> Result<Seen, CaseFault> {
     let mut reading = Reading::new(alloc);
     let seen = Seen {
-        containers: listed_of(&mut reading, fields, project),
+        containers: containers_of(&mut reading, fields, project),
         networks: networks_of(&mut reading, fields, project),
         volumes: reading.texts(fields, "volumes"),
         images: images_of(&mut reading, fields),
@@ -24,7 +24,15 @@ pub fn seen_of(alloc: Global, fields: &Fields, project: &Text) -> Result<Seen, C
     Ok(seen)
 }
 
-fn listed_of(reading: &mut Reading, fields: &Fields, project: &Text) -> List<Listed> {
+/// A container that was seen, by the fields that `seen_of` names. NoCase where something isn't so.
+pub fn listed_of(alloc: Global, fields: &Fields, project: &Text) -> Result<Listed, CaseFault> {
+    let mut reading = Reading::new(alloc);
+    let row = row_of(&mut reading, fields, project);
+    reading.end()?;
+    Ok(row)
+}
+
+fn containers_of(reading: &mut Reading, fields: &Fields, project: &Text) -> List<Listed> {
     let mut rows = List::new(reading.alloc);
     for tree in reading.items(fields, "containers") {
         if let Some(fields) = reading.fields_of(tree, "a container") {

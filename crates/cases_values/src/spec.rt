@@ -19,14 +19,7 @@ pub(crate) fn spec_of(
     } else {
         None
     };
-    spec_with(
-        labels,
-        image,
-        endpoints,
-        binds,
-        network_mode,
-        test,
-    )
+    spec_with(labels, image, endpoints, binds, network_mode, test)
 }
 
 fn texts_where(reading: &mut Reading, fields: &Fields, key: &str) -> Option<List<Text>> {

@@ -132,8 +132,16 @@ fn are_networks(engine: &Engine, ids: &[Text]) -> bool
 fn are_foreign(engine: &Engine) -> bool
     ensures { result ≡ are_foreign engine.now }
 {
-    engine.containers.as_slice().iter().all(|row| is_foreign(&row.id))
-        && engine.networks.as_slice().iter().all(|row| is_foreign(&row.id))
+    engine
+        .containers
+        .as_slice()
+        .iter()
+        .all(|row| is_foreign(&row.id))
+        && engine
+            .networks
+            .as_slice()
+            .iter()
+            .all(|row| is_foreign(&row.id))
 }
 
 /// Whether an id hasn't the length of those that the Engine gives.

@@ -1,0 +1,81 @@
+use case_files::{Answers, CaseFault, Fields};
+use cases_values::{outcome_line, outcome_of, pairs_of, request_line, request_of};
+use engine_types::label;
+use run_model::Verdict;
+use std::alloc::Global;
+use tree_base::{Text, TryCopy};
+
+/// The inputs of a call on single values.
+pub(crate) fn inputs_of(call: &str) -> Option<&'static [&'static str]> {
+    match call {
+        "label" => Some(&["pairs"]),
+        "copy_request" => Some(&[]),
+        "copy_outcome" => Some(&[]),
+        "verdict" => Some(&["other"]),
+        _ => None,
+    }
+}
+
+/// Makes a call on single values.
+pub(crate) fn answer(
+    alloc: Global,
+    call: &str,
+    fields: &Fields,
+    answers: &mut Answers,
+) -> Result<(), CaseFault> {
+    match call {
+        "label" => label_value(alloc, fields, answers),
+        "copy_request" => copy_request(alloc, fields, answers),
+        "copy_outcome" => copy_outcome(alloc, fields, answers),
+        "verdict" => verdict(alloc, fields, answers),
+        _ => Err(CaseFault::no_case(alloc, "no such call")),
+    }
+}
+
+/// The `value` of a label, null where the pairs have none.
+fn label_value(alloc: Global, fields: &Fields, answers: &mut Answers) -> Result<(), CaseFault> {
+    let pairs = pairs_of(alloc, fields, "pairs")?;
+    let name = fields.text("label")?;
+    match label(&pairs, name.as_str()) {
+        Some(value) => answers.put_text("value", value.as_str()),
+        None => answers.put_null("value"),
+    }
+}
+
+/// The copy of a request: its line, and whether it is shown as the request, `same`.
+fn copy_request(alloc: Global, fields: &Fields, answers: &mut Answers) -> Result<(), CaseFault> {
+    let request = request_of(alloc, fields.text("copy_request")?.as_str())?;
+    let copy = request.copy(alloc)?;
+    let line = request_line(alloc, &copy)?;
+    answers.put_text("copied", line.as_str())?;
+    let shown = format!(in alloc; "{request:?}")?;
+    let again = format!(in alloc; "{copy:?}")?;
+    answers.put_flag("same", shown.as_str() == again.as_str())
+}
+
+/// The copy of what came of a request: its line, and whether it is shown as what it copies, `same`.
+fn copy_outcome(alloc: Global, fields: &Fields, answers: &mut Answers) -> Result<(), CaseFault> {
+    let outcome = outcome_of(alloc, fields.text("copy_outcome")?.as_str())?;
+    let copy = outcome.copy(alloc)?;
+    let line = outcome_line(alloc, &copy)?;
+    answers.put_text("copied", line.as_str())?;
+    let shown = format!(in alloc; "{outcome:?}")?;
+    let again = format!(in alloc; "{copy:?}")?;
+    answers.put_flag("same", shown.as_str() == again.as_str())
+}
+
+/// Whether two verdicts are the `same`.
+fn verdict(alloc: Global, fields: &Fields, answers: &mut Answers) -> Result<(), CaseFault> {
+    let verdict = verdict_of(alloc, &fields.text("verdict")?)?;
+    let other = verdict_of(alloc, &fields.text("other")?)?;
+    answers.put_flag("same", verdict == other)
+}
+
+fn verdict_of(alloc: Global, word: &Text) -> Result<Verdict, CaseFault> {
+    match word.as_str() {
+        "met" => Ok(Verdict::Met),
+        "failed" => Ok(Verdict::Failed),
+        "not yet" => Ok(Verdict::NotYet),
+        _ => Err(CaseFault::wants(alloc, "verdict", "met, failed or not yet")),
+    }
+}

@@ -1,0 +1,86 @@
+ghost use Rattle.std.specs.Prelude.{◌≡◌, true, IsTrue};
+ghost use Rattle.run_model.specs.Plans.{IsWhole, is_slot_before};
+ghost use Rattle.serial_run.specs.Serial.{NeedsNoSlot};
+ghost use Rattle.run_model.specs.Tests.{is_before};
+ghost use Rattle.cases_runs.specs.Whole.{are_attached, is_ascending, is_attached, is_serial, need_nothing};
+
+use engine_types::{Declared, NetworkSpec, Slot, VolumeSpec};
+
+/// Whether a declared set is whole and none of its slots needs another one, so that one worker can carry it out. No
+/// memory.
+pub(crate) fn is_serial(declared: &Declared) -> bool
+    ensures serial { result ≡ is_serial declared.now }
+    ensures whole { result ≡ true → IsWhole declared.now }
+    ensures unconditional { result ≡ true → NeedsNoSlot declared.now }
+{
+    let slots = declared.slots.as_slice();
+    let networks = declared.networks.as_slice();
+    slots_ascend(slots)
+        && networks_ascend(networks)
+        && volumes_ascend(declared.volumes.as_slice())
+        && are_attached(networks, slots)
+        && need_nothing(slots)
+}
+
+fn slots_ascend(slots: &[Slot]) -> bool
+    ensures { result ≡ is_ascending is_slot_before slots.now }
+{
+    match slots {
+        [] => true,
+        [first, later @ ..] => {
+            later.iter().all(|other| is_slot_before(first, other)) && slots_ascend(later)
+        }
+    }
+}
+
+/// Whether a slot stands before another one: by service, then by number.
+fn is_slot_before(slot: &Slot, other: &Slot) -> bool
+    ensures { result ≡ is_slot_before slot.now other.now }
+{
+    slot.service < other.service || (slot.service == other.service && slot.number < other.number)
+}
+
+fn networks_ascend(networks: &[NetworkSpec]) -> bool
+    ensures { result ≡ is_ascending (λ network other. is_before network.name other.name) networks.now }
+{
+    match networks {
+        [] => true,
+        [first, later @ ..] => {
+            later.iter().all(|other| first.name < other.name) && networks_ascend(later)
+        }
+    }
+}
+
+fn volumes_ascend(volumes: &[VolumeSpec]) -> bool
+    ensures { result ≡ is_ascending (λ volume other. is_before volume.name other.name) volumes.now }
+{
+    match volumes {
+        [] => true,
+        [first, later @ ..] => {
+            later.iter().all(|other| first.name < other.name) && volumes_ascend(later)
+        }
+    }
+}
+
+/// Whether slots attach to networks that are there.
+fn are_attached(networks: &[NetworkSpec], slots: &[Slot]) -> bool
+    ensures { result ≡ are_attached networks.now slots.now }
+{
+    slots.iter().all(|slot| is_attached(networks, slot))
+}
+
+fn is_attached(networks: &[NetworkSpec], slot: &Slot) -> bool
+    ensures { result ≡ is_attached networks.now slot.now }
+{
+    slot.attach
+        .as_slice()
+        .iter()
+        .all(|attach| (attach.network as usize) < networks.len())
+}
+
+/// Whether no slot needs another one.
+fn need_nothing(slots: &[Slot]) -> bool
+    ensures { result ≡ need_nothing slots.now }
+{
+    slots.iter().all(|slot| slot.needs.is_empty())
+}
