@@ -1,0 +1,92 @@
+ghost use Rattle.std.specs.Prelude.{◌≡◌, ◌<◌, ◌^◌, IfOk};
+ghost use Rattle.std.specs.Option.{ForSome};
+
+use case_files::{CaseFault, Fields, text_of};
+use cases_values::{memory_engine_of, request_of};
+use engine_hand::{MemoryHand, MemoryPlug};
+use memory_engine::MemoryEngine;
+use outside_api::{DialAnswer, Plug, Target};
+use std::alloc::Global;
+use tree_base::{List, Text, Tree};
+
+/// The Engine of the field `engine`, whose containers are those of the project `shop` where they name no other; a
+/// fresh one where the field isn't there.
+pub fn engine_at(alloc: Global, fields: &Fields) -> Result<MemoryEngine, CaseFault> {
+    match fields.fields("engine")? {
+        Some(engine) => {
+            let project = Text::from_str(alloc, "shop")?;
+            memory_engine_of(alloc, &engine, &project)
+        }
+        None => Ok(MemoryEngine::fresh(alloc)?),
+    }
+}
+
+/// The plug of a call, for the Engine of the field `engine`, else the one that an earlier call left, else a fresh one.
+/// The Engine has served the requests of `served` before; and where `no_hand_left` says so, the plug made its one
+/// hand before.
+pub fn plug_of(
+    alloc: Global,
+    fields: &Fields,
+    engines: &mut List<MemoryEngine>,
+) -> Result<MemoryPlug, CaseFault>
+    ensures { IfOk result (λ plug. ForSome (⟦<MemoryPlug as Plug>⟧.dialled plug) (λ n. n < 2 ^ 61)) }
+{
+    let used = fields.is_set("no_hand_left")?;
+    let engine = engine_for(alloc, fields, engines)?;
+    let mut plug = MemoryPlug::new(engine, 1);
+    if used {
+        let _ = is_dialled(alloc, &mut plug);
+    }
+    Ok(plug)
+}
+
+/// Dials, and whether that made a hand.
+pub fn is_dialled(alloc: Global, plug: &mut MemoryPlug) -> bool
+    requires { ForSome (⟦<MemoryPlug as Plug>⟧.dialled plug.old) (λ n. n < 2 ^ 60) }
+    ensures { ForSome (⟦<MemoryPlug as Plug>⟧.dialled plug.new) (λ n. n < 2 ^ 61) }
+{
+    matches!(
+        plug.dial(alloc, &Target::InMemory, None, 0),
+        DialAnswer::Dialled(_)
+    )
+}
+
+fn engine_for(
+    alloc: Global,
+    fields: &Fields,
+    engines: &mut List<MemoryEngine>,
+) -> Result<MemoryEngine, CaseFault> {
+    if fields.has("engine") {
+        return served(alloc, fields, engine_at(alloc, fields)?);
+    }
+    match engines.pop() {
+        Some(engine) => served(alloc, fields, engine),
+        None => served(alloc, fields, MemoryEngine::fresh(alloc)?),
+    }
+}
+
+/// The Engine after the requests of the field `served`.
+fn served(
+    alloc: Global,
+    fields: &Fields,
+    mut engine: MemoryEngine,
+) -> Result<MemoryEngine, CaseFault> {
+    match serve_each(alloc, fields, &mut engine) {
+        Ok(()) => Ok(engine),
+        Err(fault) => Err(fault),
+    }
+}
+
+fn serve_each(alloc: Global, fields: &Fields, engine: &mut MemoryEngine) -> Result<(), CaseFault> {
+    for tree in fields.items("served")? {
+        serve(alloc, tree, engine)?;
+    }
+    Ok(())
+}
+
+fn serve(alloc: Global, tree: &Tree, engine: &mut MemoryEngine) -> Result<(), CaseFault> {
+    let line = text_of(alloc, tree, "served")?;
+    let request = request_of(alloc, line.as_str())?;
+    let _ = engine.serve(alloc, &request)?;
+    Ok(())
+}

@@ -1,0 +1,21 @@
+//! Cases of whole calls: the top call of `compose_cli` on files, sinks and an Engine in memory, alone or one call after
+//! another, the command `config`, and what stands outside of a call: files, sinks, lines of refusals, hands, clocks
+//! and plugs.
+//!
+//! `inputs_of` knows the calls and their inputs, and `answer` makes the call of a case.
+#![tactic(auto)]
+
+mod call_answers;
+mod config_call;
+mod engines;
+mod files;
+mod hands;
+mod kinds;
+mod lines;
+mod piece_sink;
+mod scene;
+mod sinks;
+mod whole_call;
+mod whole_calls;
+
+pub use kinds::{answer, inputs_of};

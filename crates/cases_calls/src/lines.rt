@@ -1,0 +1,84 @@
+use crate::piece_sink::PieceSink;
+use crate::sinks::sink_of;
+use case_files::{Answers, CaseFault, Fields};
+use refusals::{Part, Refusal, Unbuilt};
+use std::alloc::Global;
+use tree_base::Tree;
+
+/// Writes a text to a sink: `whole` says whether it was written whole, and `written` has what the sink took.
+pub fn write(alloc: Global, fields: &Fields, answers: &mut Answers) -> Result<(), CaseFault> {
+    let bytes = fields.bytes("write")?;
+    write_bytes(alloc, fields, bytes.as_slice(), answers)
+}
+
+fn write_bytes(
+    alloc: Global,
+    fields: &Fields,
+    bytes: &[u8],
+    answers: &mut Answers,
+) -> Result<(), CaseFault> {
+    let mut sink = sink_of(alloc, fields)?;
+    let whole = text_output::write_all(&mut sink, bytes);
+    put_written(whole, &sink, answers)
+}
+
+fn put_written(whole: bool, sink: &PieceSink, answers: &mut Answers) -> Result<(), CaseFault> {
+    answers.put_flag("whole", whole)?;
+    answers.put_bytes("written", sink.written())
+}
+
+/// Writes the line of a refusal: `refusal` has the one that was said, and `written` what the sink took.
+pub fn say(alloc: Global, fields: &Fields, answers: &mut Answers) -> Result<(), CaseFault> {
+    let mut sink = sink_of(alloc, fields)?;
+    match refusal_in(fields.find("say")) {
+        Some(refusal) => {
+            let said = Some(text_output::say(alloc, refusal, &mut sink));
+            put_said(alloc, &said, &sink, answers)
+        }
+        None => Err(CaseFault::wants(alloc, "say", "a refusal")),
+    }
+}
+
+/// Writes the line of a refusal, where there is one, with the answers of `say`.
+pub fn say_if_any(alloc: Global, fields: &Fields, answers: &mut Answers) -> Result<(), CaseFault> {
+    let mut sink = sink_of(alloc, fields)?;
+    let said = text_output::say_if_any(alloc, refusal_in(fields.find("say_if_any")), &mut sink);
+    put_said(alloc, &said, &sink, answers)
+}
+
+/// The refusal with a name; None where there is none of this name. No memory.
+fn refusal_in(name: Option<&Tree>) -> Option<Refusal> {
+    match name {
+        Some(Tree::Scalar(name)) => refusal_named(name.as_str()),
+        _ => None,
+    }
+}
+
+fn refusal_named(name: &str) -> Option<Refusal> {
+    match name {
+        "words" => Some(Refusal::NotBuilt(Unbuilt::Words)),
+        "stopped" => Some(Refusal::Stopped),
+        "output" => Some(Refusal::Outside(Part::Out)),
+        "plug" => Some(Refusal::Outside(Part::Plug)),
+        "memory" => Some(Refusal::Memory),
+        _ => None,
+    }
+}
+
+fn put_said(
+    alloc: Global,
+    said: &Option<Refusal>,
+    sink: &PieceSink,
+    answers: &mut Answers,
+) -> Result<(), CaseFault> {
+    match said {
+        Some(refusal) => put_refusal(alloc, refusal, answers)?,
+        None => answers.put_null("refusal")?,
+    }
+    answers.put_bytes("written", sink.written())
+}
+
+fn put_refusal(alloc: Global, refusal: &Refusal, answers: &mut Answers) -> Result<(), CaseFault> {
+    let words = format!(in alloc; "{refusal:?}")?;
+    answers.put_text("refusal", words.as_str())
+}

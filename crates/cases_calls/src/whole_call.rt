@@ -1,0 +1,70 @@
+use crate::call_answers::put_call;
+use crate::engines::plug_of;
+use crate::files::files_of;
+use crate::scene::{Scene, scene_of};
+use crate::sinks::sink_at;
+use case_files::{Answers, CaseFault, Fields};
+use compose_cli::{Ended, serial_main};
+use engine_hand::MemoryHand;
+use memory_engine::MemoryEngine;
+use outside_api::MemoryFiles;
+use std::alloc::Global;
+use tree_base::List;
+
+/// Makes a whole call on an Engine in memory: `status` has its exit status, `out` and `err` what was written, `journal`
+/// the entries of its journal, `hands` how many hands it made, `exchanges` what they exchanged, `exact` whether the
+/// Engine then holds exactly what the project declares, and `engine_after` that Engine.
+pub fn call(alloc: Global, fields: &Fields, answers: &mut Answers) -> Result<(), CaseFault> {
+    let mut engines = List::new(alloc);
+    call_on(alloc, fields, &mut engines, answers)
+}
+
+/// Makes the call of some fields on the Engine that an earlier call left, unless they have an Engine of their own, and
+/// leaves the Engine where the call made a hand.
+pub fn call_on(
+    alloc: Global,
+    fields: &Fields,
+    engines: &mut List<MemoryEngine>,
+    answers: &mut Answers,
+) -> Result<(), CaseFault> {
+    let scene = scene_of(alloc, fields, "call")?;
+    let mut files = files_of(alloc, fields, scene.directory.as_str())?;
+    call_with(alloc, fields, &scene, &mut files, engines, answers)
+}
+
+fn call_with(
+    alloc: Global,
+    fields: &Fields,
+    scene: &Scene,
+    files: &mut MemoryFiles,
+    engines: &mut List<MemoryEngine>,
+    answers: &mut Answers,
+) -> Result<(), CaseFault> {
+    let mut out = sink_at(alloc, fields, "out_sink")?;
+    let mut err = sink_at(alloc, fields, "err_sink")?;
+    let mut plug = plug_of(alloc, fields, engines)?;
+    let Scene {
+        words,
+        env,
+        directory,
+    } = scene;
+    let ended = serial_main(
+        alloc, words, env, directory, files, &mut plug, &mut out, &mut err,
+    );
+    let put = put_call(alloc, fields, scene, &ended, &out, &err, answers);
+    leave_engine(ended, engines, put)
+}
+
+/// Leaves the Engine of the hand that a call handed back, and answers what came of the answers.
+fn leave_engine(
+    ended: Ended<MemoryHand>,
+    engines: &mut List<MemoryEngine>,
+    put: Result<(), CaseFault>,
+) -> Result<(), CaseFault> {
+    let Ended { mut hands, .. } = ended;
+    match hands.pop() {
+        Some(MemoryHand { engine, .. }) => engines.push(engine)?,
+        None => (),
+    }
+    put
+}
