@@ -33,7 +33,7 @@ pub fn say(alloc: Global, fields: &Fields, answers: &mut Answers) -> Result<(), 
     match refusal_in(fields.find("say")) {
         Some(refusal) => {
             let said = Some(text_output::say(alloc, refusal, &mut sink));
-            put_said(alloc, &said, &sink, answers)
+            put_said(&said, &sink, answers)
         }
         None => Err(CaseFault::wants(alloc, "say", "a refusal")),
     }
@@ -43,7 +43,7 @@ pub fn say(alloc: Global, fields: &Fields, answers: &mut Answers) -> Result<(), 
 pub fn say_if_any(alloc: Global, fields: &Fields, answers: &mut Answers) -> Result<(), CaseFault> {
     let mut sink = sink_of(alloc, fields)?;
     let said = text_output::say_if_any(alloc, refusal_in(fields.find("say_if_any")), &mut sink);
-    put_said(alloc, &said, &sink, answers)
+    put_said(&said, &sink, answers)
 }
 
 /// The refusal with a name; None where there is none of this name. No memory.
@@ -65,20 +65,26 @@ fn refusal_named(name: &str) -> Option<Refusal> {
     }
 }
 
+/// The name of a refusal, as `refusal_named` takes it. No memory.
+fn name_of(refusal: &Refusal) -> &'static str {
+    match refusal {
+        Refusal::NotBuilt(Unbuilt::Words) => "words",
+        Refusal::Stopped => "stopped",
+        Refusal::Outside(Part::Out) => "output",
+        Refusal::Outside(Part::Plug) => "plug",
+        Refusal::Memory => "memory",
+        _ => "another",
+    }
+}
+
 fn put_said(
-    alloc: Global,
     said: &Option<Refusal>,
     sink: &PieceSink,
     answers: &mut Answers,
 ) -> Result<(), CaseFault> {
     match said {
-        Some(refusal) => put_refusal(alloc, refusal, answers)?,
+        Some(refusal) => answers.put_text("refusal", name_of(refusal))?,
         None => answers.put_null("refusal")?,
     }
     answers.put_bytes("written", sink.written())
-}
-
-fn put_refusal(alloc: Global, refusal: &Refusal, answers: &mut Answers) -> Result<(), CaseFault> {
-    let words = format!(in alloc; "{refusal:?}")?;
-    answers.put_text("refusal", words.as_str())
 }
