@@ -1,7 +1,7 @@
 use crate::labels::{container_labels, resource_labels};
 use crate::names::{condition_of, policy_of};
 use crate::reading::Reading;
-use crate::spec::spec_of;
+use crate::spec::{boxed, spec_of};
 use case_files::{CaseFault, Fields};
 use engine_types::{
     Attach, Declared, Endpoint, Need, NetworkSpec, Pairs, Slot, VolumeSpec, labels,
@@ -139,8 +139,9 @@ fn slots_of(
     let mut slots = List::new(reading.alloc);
     for tree in reading.items(fields, "slots") {
         if let Some(fields) = reading.fields_of(tree, "a slot") {
-            let slot = slot_with(reading, &fields, project, networks);
-            reading.push(&mut slots, slot);
+            if let Some(slot) = slot_with(reading, &fields, project, networks) {
+                reading.push(&mut slots, slot);
+            }
         }
     }
     slots
@@ -152,7 +153,7 @@ pub fn slot_of(alloc: Global, fields: &Fields, project: &Text) -> Result<Slot, C
     let mut reading = Reading::new(alloc);
     let slot = slot_with(&mut reading, fields, project, &[]);
     reading.end()?;
-    Ok(slot)
+    slot.ok_or(CaseFault::Memory)
 }
 
 /// The slot of a mapping, for a project with these networks.
@@ -161,7 +162,7 @@ fn slot_with(
     fields: &Fields,
     project: &Text,
     networks: &[NetworkSpec],
-) -> Slot {
+) -> Option<Slot> {
     let service = reading.text_at(fields, "service");
     let number = reading.small_or(fields, "number", 1);
     let attach = attach_of(reading, fields, &service, networks);
@@ -171,7 +172,9 @@ fn slot_with(
     let sent = reading.text(image.as_str());
     let policy = reading.text_or(fields, "policy", "missing");
     let goal = reading.text_or(fields, "goal", "running");
-    Slot {
+    let sent = spec_of(reading, fields, labels, Some(sent), endpoints);
+    let spec = boxed(reading, sent)?;
+    Some(Slot {
         name: slot_name(reading, fields, project, &service, number),
         service,
         number,
@@ -179,12 +182,12 @@ fn slot_with(
         policy: policy_of(reading, policy.as_str()),
         has_build: reading.flag(fields, "has_build"),
         hash: reading.text_or(fields, "hash", ""),
-        spec: spec_of(reading, fields, labels, Some(sent), endpoints),
+        spec,
         attach,
         needs: needs_of(reading, fields),
         goal: condition_of(reading, goal.as_str()),
         stop_seconds: reading.number_or(fields, "stop_seconds", 10),
-    }
+    })
 }
 
 fn slot_name(

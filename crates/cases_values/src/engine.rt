@@ -3,7 +3,7 @@ use crate::labels::container_labels;
 use crate::names::report_of;
 use crate::reading::Reading;
 use crate::seen::{images_of, networks_of};
-use crate::spec::spec_of;
+use crate::spec::{boxed, spec_of};
 use case_files::{CaseFault, Fields};
 use engine_types::{ContainerRow, Engine};
 use std::alloc::Global;
@@ -35,25 +35,28 @@ fn containers_of(reading: &mut Reading, fields: &Fields, project: &Text) -> List
     let mut rows = List::new(reading.alloc);
     for tree in reading.items(fields, "containers") {
         if let Some(fields) = reading.fields_of(tree, "a container") {
-            let row = row_of(reading, &fields, project);
-            reading.push(&mut rows, row);
+            if let Some(row) = row_of(reading, &fields, project) {
+                reading.push(&mut rows, row);
+            }
         }
     }
     rows
 }
 
-fn row_of(reading: &mut Reading, fields: &Fields, project: &Text) -> ContainerRow {
+fn row_of(reading: &mut Reading, fields: &Fields, project: &Text) -> Option<ContainerRow> {
     let id = reading.text_or(fields, "id", "");
     let labels = container_labels(reading, fields, project);
     let alloc = reading.alloc;
     let sent = reading.given(labels.copy(alloc), List::new(alloc));
-    ContainerRow {
+    let sent = spec_of(reading, fields, sent, None, None);
+    let spec = boxed(reading, sent)?;
+    Some(ContainerRow {
         id: id_of(reading, id.as_str()),
         name: reading.text_or(fields, "name", ""),
-        spec: spec_of(reading, fields, sent, None, None),
+        spec,
         labels,
         image_id: reading.text_or(fields, "image", ""),
         networks: reading.texts(fields, "networks"),
         report: report_of(reading, fields),
-    }
+    })
 }

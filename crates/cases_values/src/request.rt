@@ -2,7 +2,7 @@ use crate::declared::{network_named, volume_named};
 use crate::ids::{id_of, id_word};
 use crate::memory::number_of;
 use crate::reading::Reading;
-use crate::spec::spec_with;
+use crate::spec::{boxed, spec_with};
 use case_files::CaseFault;
 use engine_types::{ContainerSpec, Endpoint, Request};
 use std::alloc::Global;
@@ -107,9 +107,11 @@ fn texts_of(reading: &mut Reading, words: SplitWhitespace<'_>) -> List<Text> {
 
 fn create(reading: &mut Reading, name: &str, mut words: SplitWhitespace<'_>) -> Request {
     let image = words.next().unwrap_or("");
-    Request::Create {
-        name: reading.text(name),
-        spec: created_spec(reading, image, words),
+    let name = reading.text(name);
+    let spec = created_spec(reading, image, words);
+    match boxed(reading, spec) {
+        Some(spec) => Request::Create { name, spec },
+        None => Request::ListNetworks,
     }
 }
 

@@ -1,7 +1,7 @@
 use crate::reading::Reading;
 use case_files::Fields;
 use engine_types::{ContainerSpec, Endpoint, Healthcheck, Pairs};
-use tree_base::{List, Text};
+use tree_base::{Boxed, List, Memory, Text};
 
 /// What the Engine is sent of a container with these labels, image and networks: the further members that cases use
 /// stand under their names, `binds`, `network_mode` and `healthcheck` (the items of its test).
@@ -37,6 +37,17 @@ fn healthcheck_of(test: List<Text>) -> Healthcheck {
         timeout: None,
         start_period: None,
         retries: None,
+    }
+}
+
+/// What was read of a container, behind a box; None, and the want of memory is kept, where there is none for it.
+pub(crate) fn boxed(reading: &mut Reading, spec: ContainerSpec) -> Option<Boxed<ContainerSpec>> {
+    match Boxed::new(reading.alloc, spec) {
+        Ok(spec) => Some(spec),
+        Err(Memory) => {
+            reading.memory();
+            None
+        }
     }
 }
 
