@@ -43,7 +43,7 @@ fn slot_lines(alloc: Global, declared: &Declared) -> Result<List<Text>, Memory> 
 
 fn slot_line(alloc: Global, slot: &Slot) -> Result<Text, Memory> {
     let name = &slot.name;
-    let hash = match label(&slot.spec.labels, labels::HASH) {
+    let hash = match label(&slot.spec.get().labels, labels::HASH) {
         Some(hash) => hash.as_str(),
         None => "none",
     };

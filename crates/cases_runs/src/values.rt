@@ -42,26 +42,24 @@ fn label_value(alloc: Global, fields: &Fields, answers: &mut Answers) -> Result<
     }
 }
 
-/// The copy of a request: its line, and whether it is shown as the request, `same`.
+/// The copy of a request: its line, and whether the request has that line too, `same`.
 fn copy_request(alloc: Global, fields: &Fields, answers: &mut Answers) -> Result<(), CaseFault> {
     let request = request_of(alloc, fields.text("copy_request")?.as_str())?;
     let copy = request.copy(alloc)?;
     let line = request_line(alloc, &copy)?;
     answers.put_text("copied", line.as_str())?;
-    let shown = format!(in alloc; "{request:?}")?;
-    let again = format!(in alloc; "{copy:?}")?;
-    answers.put_flag("same", shown.as_str() == again.as_str())
+    let copied = request_line(alloc, &request)?;
+    answers.put_flag("same", line == copied)
 }
 
-/// The copy of what came of a request: its line, and whether it is shown as what it copies, `same`.
+/// The copy of what came of a request: its line, and whether what it copies has that line too, `same`.
 fn copy_outcome(alloc: Global, fields: &Fields, answers: &mut Answers) -> Result<(), CaseFault> {
     let outcome = outcome_of(alloc, fields.text("copy_outcome")?.as_str())?;
     let copy = outcome.copy(alloc)?;
     let line = outcome_line(alloc, &copy)?;
     answers.put_text("copied", line.as_str())?;
-    let shown = format!(in alloc; "{outcome:?}")?;
-    let again = format!(in alloc; "{copy:?}")?;
-    answers.put_flag("same", shown.as_str() == again.as_str())
+    let copied = outcome_line(alloc, &outcome)?;
+    answers.put_flag("same", line == copied)
 }
 
 /// Whether two verdicts are the `same`.
