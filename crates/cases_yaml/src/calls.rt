@@ -1,10 +1,7 @@
-use crate::blocks::block_text;
-use crate::logical::{cut_length, grouped_lines};
 use crate::refusals::{law, refusal};
 use crate::rows::{blanks_of, key_end, row_with_place, white_character};
-use crate::scalars::{plain_text, quoted_at_place, quoted_text};
-use crate::scans::lines_of_file;
-use crate::trees::yaml;
+use crate::scalars::{block_text, plain_text, quoted_at_place, quoted_text};
+use crate::texts::{cut_length, grouped_lines, lines_of_file, yaml};
 use case_files::{Answers, CaseFault, Fields};
 use std::alloc::Global;
 

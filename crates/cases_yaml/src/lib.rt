@@ -4,14 +4,10 @@
 //! `inputs_of` knows the calls with their inputs beside the main one, and `answer` makes one.
 #![tactic(auto)]
 
-mod blocks;
 mod calls;
-mod inputs;
-mod logical;
 mod refusals;
 mod rows;
 mod scalars;
-mod scans;
-mod trees;
+mod texts;
 
 pub use calls::{answer, inputs_of};

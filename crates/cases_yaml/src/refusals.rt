@@ -1,10 +1,22 @@
-use crate::inputs::small_number;
 use case_files::{Answers, CaseFault, Fields};
 use std::alloc::Global;
 use tree_base::Place;
 use yaml_lines::{
     YamlFault, YamlRefusal, double_quotes_read_back, lines_are_the_text, places_count_characters,
 };
+
+/// The number under a key, of 32 bits, or the default where the key isn't there. NoCase where it is something else.
+pub fn small_number(
+    alloc: Global,
+    fields: &Fields,
+    key: &str,
+    default: u32,
+) -> Result<u32, CaseFault> {
+    match u32::try_from(fields.number_or(key, default as u64)?) {
+        Ok(number) => Ok(number),
+        Err(_) => Err(CaseFault::no_case(alloc, "a number is too great")),
+    }
+}
 
 /// Puts a refusal: under `refused` its name with its line and column, as `BadFlow 3:14`, and the number of the file as
 /// `in_file`. Memory where it is want of memory.
@@ -30,16 +42,14 @@ fn put_refused(
     answers.refuse(words.as_str())
 }
 
-/// Puts a place: under `place` its line and column, as `3:14`, and the number of the file as `in_file`.
-pub fn put_place(alloc: Global, answers: &mut Answers, place: Place) -> Result<(), CaseFault> {
-    let line = place.line;
-    let column = place.column;
-    let words = format!(in alloc; "{line}:{column}")?;
-    answers.put_text("place", words.as_str())?;
+/// Puts a place: its `line`, its `column`, and the number of its file (`in_file`).
+pub fn put_place(answers: &mut Answers, place: Place) -> Result<(), CaseFault> {
+    answers.put_number("line", place.line as u64)?;
+    answers.put_number("column", place.column as u64)?;
     answers.put_number("in_file", place.file as u64)
 }
 
-/// `yaml_refusal: NAME` with `file`, `line` and `column`: its `name`, its `place` and how it is `printed`.
+/// `yaml_refusal: NAME` with `file`, `line` and `column`: how it is `printed`, and how a case says it (`refused`).
 pub fn refusal(alloc: Global, fields: &Fields, answers: &mut Answers) -> Result<(), CaseFault> {
     let place = Place {
         file: small_number(alloc, fields, "file", 0)?,
@@ -58,41 +68,23 @@ fn put_refusal(
     answers: &mut Answers,
     refusal: YamlRefusal,
 ) -> Result<(), CaseFault> {
-    answers.put_text("name", refusal.name())?;
-    match refusal.place() {
-        Some(place) => put_place(alloc, answers, place)?,
-        None => answers.put_null("place")?,
-    }
     let printed = format!(in alloc; "{refusal}")?;
-    answers.put_text("printed", printed.as_str())
+    answers.put_text("printed", printed.as_str())?;
+    match refusal {
+        YamlRefusal::Memory => answers.put_null("refused"),
+        _ => refuse(alloc, answers, refusal),
+    }
 }
 
-/// The refusal of a name at a place; None where none has the name.
+/// A refusal of each kind at a place; None where the name is of none of these.
 fn refusal_of(name: &str, place: Place) -> Option<YamlRefusal> {
     match name {
+        "BadFlow" => Some(YamlRefusal::Bad {
+            which: YamlFault::BadFlow,
+            place,
+        }),
         "TooDeep" => Some(YamlRefusal::TooDeep { place }),
-        "TooManyNodes" => Some(YamlRefusal::TooManyNodes { place }),
-        "TooMuchText" => Some(YamlRefusal::TooMuchText { place }),
         "memory" => Some(YamlRefusal::Memory),
-        _ => {
-            let which = fault_of(name)?;
-            Some(YamlRefusal::Bad { which, place })
-        }
-    }
-}
-
-fn fault_of(name: &str) -> Option<YamlFault> {
-    match name {
-        "BadUtf8" => Some(YamlFault::BadUtf8),
-        "TabIndent" => Some(YamlFault::TabIndent),
-        "BadScalar" => Some(YamlFault::BadScalar),
-        "BadIndent" => Some(YamlFault::BadIndent),
-        "BadFlow" => Some(YamlFault::BadFlow),
-        "RepeatedKey" => Some(YamlFault::RepeatedKey),
-        "UnknownAlias" => Some(YamlFault::UnknownAlias),
-        "BadMerge" => Some(YamlFault::BadMerge),
-        "BadTag" => Some(YamlFault::BadTag),
-        "Unsupported" => Some(YamlFault::Unsupported),
         _ => None,
     }
 }

@@ -1,11 +1,26 @@
-use crate::inputs::{row_under, small_number};
-use crate::refusals::{put_place, refuse};
+use crate::refusals::{put_place, refuse, small_number};
 use case_files::{Answers, CaseFault, Fields};
 use std::alloc::Global;
 use yaml_lines::{
-    Lines, Row, blanks, is_blank, is_colon, is_rest_blank, is_space_or_end, is_white, place_in,
-    rows_of, scan, spaces, tab_indent, text_at, text_of,
+    Line, Lines, Row, blanks, is_blank, is_colon, is_rest_blank, is_space_or_end, is_white,
+    place_in, row_of, rows_of, scan, spaces, tab_indent, text_at, text_of,
 };
+
+/// The line of the text under a key, with its number.
+pub fn line_of(fields: &Fields, key: &str, number: u32) -> Result<Line, CaseFault> {
+    let text = fields.text(key)?;
+    Ok(Line {
+        number,
+        indent: 0,
+        text,
+    })
+}
+
+/// The characters of the text under a key, as the row of a first line.
+pub fn row_under(alloc: Global, fields: &Fields, key: &str) -> Result<Row, CaseFault> {
+    let line = line_of(fields, key, 1)?;
+    Ok(row_of(alloc, &line)?)
+}
 
 /// `blanks: LINE`: how many `spaces` and how much `white` space it begins with, whether it is `blank`, whether it may
 /// follow a node on its line (`rest_blank`), and where its indentation has a `tab`.
@@ -44,7 +59,8 @@ pub fn key_end(alloc: Global, fields: &Fields, answers: &mut Answers) -> Result<
 }
 
 /// `row: TEXT` with the number of its `file`, the `index` of a row and the place `at` in it, each from 0: how many
-/// `rows` there are; of that one its `number`, its `indent`, the `rest` from the place on, and the `place`.
+/// `rows` there are; of that one its `number`, its `indent` and the `rest` from the place on; the
+/// `line` and the `column` of the place, and the number of the file (`in_file`).
 pub fn row_with_place(
     alloc: Global,
     fields: &Fields,
@@ -85,7 +101,7 @@ fn put_row(
     answers.put_number("number", row.number as u64)?;
     answers.put_number("indent", row.indent as u64)?;
     put_rest(alloc, answers, row, at)?;
-    put_place(alloc, answers, place_in(file, row, at))
+    put_place(answers, place_in(file, row, at))
 }
 
 /// Puts the characters of a row from a place on, as `rest`.
