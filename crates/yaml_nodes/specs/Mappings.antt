@@ -47,9 +47,13 @@ no_entries = record { own = []; merge = None }
 abbrev pub is_there : Entries → Key → Bool
 is_there entries key = if key.is_merge then is_some entries.merge else is_some (value_at entries.own key.text)
 
+-- how many bytes a key counts: the tree has no merge key, which has none
+abbrev pub key_size : Key → ℕ
+key_size key = if key.is_merge then 0 else length key.text
+
 -- a key at a place that isn't there yet, with its text counted
 abbrev pub new_key : Entries → Progress → Row → ℕ → Key → Result Progress YamlRefusal
-new_key entries p row at key = if is_there entries key then bad RepeatedKey p row at else more_text p row (Here at) (length key.text)
+new_key entries p row at key = if is_there entries key then bad RepeatedKey p row at else more_text p row (Here at) (key_size key)
 
 -- pairs of a key and a tree
 abbrev pub Pairs : Type 0

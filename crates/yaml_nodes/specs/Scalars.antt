@@ -40,14 +40,14 @@ Inline = (Tree × ℕ) × Progress
 abbrev pub ending : ℕ → Tree × Progress → Inline
 ending end (tree, p) = ((tree, end), p)
 
--- a scalar of so many characters at a place
-abbrev pub scalar : ℕ → Properties → Progress → Row → ℕ → Tree → List ℕ → ℕ → Result Inline YamlRefusal
-scalar levels found p row at tree text n = one_node levels p row at (length text) >>= λ p. Ok (ending (at + n) (finished found (tree, p)))
+-- a scalar of so many characters at a place, whose node is counted: its text counts when it is read
+abbrev pub scalar : Properties → Progress → Row → ℕ → Tree → List ℕ → ℕ → Result Inline YamlRefusal
+scalar found p row at tree text n = more_text p row (Here at) (length text) >>= λ p. Ok (ending (at + n) (finished found (tree, p)))
 
 -- a scalar in quotes: its spelling, whatever it is
-abbrev pub quoted_scalar : ℕ → Properties → Progress → Row → ℕ → Option (List ℕ × ℕ) → Result Inline YamlRefusal
-quoted_scalar levels found p row at None = bad BadScalar p row at
-quoted_scalar levels found p row at (Some (cs, n)) = scalar levels found p row at (Scalar (encode_utf8_all cs)) (encode_utf8_all cs) n
+abbrev pub quoted_scalar : Properties → Progress → Row → ℕ → Option (List ℕ × ℕ) → Result Inline YamlRefusal
+quoted_scalar found p row at None = bad BadScalar p row at
+quoted_scalar found p row at (Some (cs, n)) = scalar found p row at (Scalar (encode_utf8_all cs)) (encode_utf8_all cs) n
 
 -- a plain word for null, where no `!!str` stands
 abbrev pub is_plain_null : Properties → List ℕ → Bool
@@ -62,10 +62,16 @@ abbrev pub plain_bytes : Properties → List ℕ → List ℕ
 plain_bytes found text = if is_plain_null found text then [] else text
 
 -- a plain scalar
-abbrev pub plain_scalar : ℕ → Properties → Progress → Row → ℕ → Option (List ℕ × ℕ) → Result Inline YamlRefusal
-plain_scalar levels found p row at None = bad BadScalar p row at
-plain_scalar levels found p row at (Some (cs, n)) =
-    let text = encode_utf8_all cs in scalar levels found p row at (plain_tree found text) (plain_bytes found text) n
+abbrev pub plain_scalar : Properties → Progress → Row → ℕ → Option (List ℕ × ℕ) → Result Inline YamlRefusal
+plain_scalar found p row at None = bad BadScalar p row at
+plain_scalar found p row at (Some (cs, n)) =
+    let text = encode_utf8_all cs in scalar found p row at (plain_tree found text) (plain_bytes found text) n
+
+-- a scalar in quotes or a plain one, by the character with which it begins
+abbrev pub scalar_at : Context → Properties → Progress → Row → ℕ → Result Inline YamlRefusal
+scalar_at context found p row at =
+    let cs = text_at row at in
+    if is_quote cs then quoted_scalar found p row at (quoted_of cs) else plain_scalar found p row at (plain_of context cs)
 
 -- a copy of the latest finished node of a name; a limit is met at the alias
 abbrev pub copy_named : ℕ → Properties → Progress → Row → ℕ → Option Tree → ℕ → Result Inline YamlRefusal
@@ -78,13 +84,11 @@ alias levels found p row at =
     let cs = text_at row at in
     unspelled p row found >>= λ found. copy_named levels found p row at (value_at p.names (name_of cs)) (1 + name_len (drop 1 cs))
 
--- a scalar or an alias, which begins at a place
+-- a scalar or an alias, which begins at a place: a scalar's node is counted before it is read
 abbrev pub word : Context → ℕ → Properties → Progress → Row → ℕ → Result Inline YamlRefusal
 word context levels found p row at =
-    let cs = text_at row at in
-    if starts 42 cs then alias levels found p row at
-    else (if is_quote cs then quoted_scalar levels found p row at (quoted_of cs)
-    else plain_scalar levels found p row at (plain_of context cs))
+    if starts 42 (text_at row at) then alias levels found p row at
+    else (one_node levels p row at 0 >>= λ p. scalar_at context found p row at)
 
 -- what stands behind the `|` or `>` of a block scalar, before the rest of the line: `-`, `+` or nothing
 abbrev pub chomp_of : List ℕ → Chomp × ℕ

@@ -2,7 +2,7 @@ ghost use Rattle.std.specs.Prelude.{◌≡◌, Some, IfOk};
 ghost use Rattle.tree_base.specs.declared.tree.Tree.{out-Tree};
 ghost use Rattle.yaml_lines.specs.Answers.{Gives};
 ghost use Rattle.yaml_nodes.specs.Progress.{result_beside, result_left};
-ghost use Rattle.yaml_nodes.specs.Mappings.{no_entries, is_there, new_key, all_pairs, added_maps, with_merge, with_pair, merged_with, merged};
+ghost use Rattle.yaml_nodes.specs.Mappings.{no_entries, is_there, key_size, new_key, all_pairs, added_maps, with_merge, with_pair, merged_with, merged};
 
 use crate::added::{added, count, put_all};
 use crate::key::Key;
@@ -52,7 +52,18 @@ pub fn new_key(
     if is_there(entries, key) {
         return Err(progress.bad(YamlFault::RepeatedKey, row, at));
     }
-    progress.more_text(row, Spot::Here(at), key.text.len() as u64)
+    progress.more_text(row, Spot::Here(at), key_size(key))
+}
+
+/// How many bytes a key counts; a merge key, which the tree doesn't have, counts none.
+fn key_size(key: &Key) -> u64
+    ensures { result ≡ key_size key.now }
+{
+    if key.is_merge {
+        0
+    } else {
+        key.text.len() as u64
+    }
 }
 
 /// Whether a key is there already.

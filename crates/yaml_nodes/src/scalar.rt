@@ -7,11 +7,12 @@ ghost use Rattle.yaml_lines.specs.Quoted.{quoted_of};
 ghost use Rattle.yaml_lines.specs.Rows.{text_at};
 ghost use Rattle.yaml_nodes.specs.Progress.{result_beside};
 ghost use Rattle.yaml_nodes.specs.Properties.{is_spelled};
-ghost use Rattle.yaml_nodes.specs.Scalars.{is_null_word, is_plain_null, nothing, scalar, quoted_scalar, plain_scalar, copy_named, alias, word};
+ghost use Rattle.yaml_nodes.specs.Scalars.{is_null_word, is_plain_null, nothing, scalar, quoted_scalar, plain_scalar, scalar_at, copy_named, alias, word};
 
 use crate::marks::name_len;
 use crate::progress::Progress;
 use crate::properties::{Properties, Tag, finished, unspelled};
+use crate::spot::Spot;
 use std::alloc::Global;
 use tree_base::{Text, Tree};
 use yaml_lines::{
@@ -60,11 +61,10 @@ fn is_plain_null(found: &Properties, text: &Text) -> bool
     is_null_word(text) && !is_spelled(found)
 }
 
-/// The node of a scalar of so many characters, and the place behind it.
+/// The scalar of so many characters whose node is counted, and the place behind it. Its text counts now.
 fn scalar(
     alloc: Global,
     progress: &mut Progress,
-    levels: u32,
     found: Properties,
     row: &Row,
     at: usize,
@@ -73,19 +73,18 @@ fn scalar(
 ) -> Result<(Tree, usize), YamlRefusal>
     requires within { at + len ≤ length row.now.chars }
     requires small { length row.now.chars < 2 ^ 63 }
-    ensures is { Gives (result_beside result progress.new) (scalar levels found progress.old row.now at (Scalar text) text len) }
+    ensures is { Gives (result_beside result progress.new) (scalar found progress.old row.now at (Scalar text) text len) }
     ensures within { IfOk result (λ got. got.1 ≤ length row.now.chars) }
 {
-    progress.one_node(levels, row, at, text.len() as u64)?;
+    progress.more_text(row, Spot::Here(at), text.len() as u64)?;
     let tree = finished(alloc, progress, found, Tree::Scalar(text))?;
     Ok((tree, at + len))
 }
 
-/// The node of a plain word for null of so many characters, and the place behind it.
+/// The plain word for null of so many characters whose node is counted, and the place behind it. It has no text.
 fn null_word(
     alloc: Global,
     progress: &mut Progress,
-    levels: u32,
     found: Properties,
     row: &Row,
     at: usize,
@@ -93,10 +92,10 @@ fn null_word(
 ) -> Result<(Tree, usize), YamlRefusal>
     requires within { at + len ≤ length row.now.chars }
     requires small { length row.now.chars < 2 ^ 63 }
-    ensures is { Gives (result_beside result progress.new) (scalar levels found progress.old row.now at Null [] len) }
+    ensures is { Gives (result_beside result progress.new) (scalar found progress.old row.now at Null [] len) }
     ensures within { IfOk result (λ got. got.1 ≤ length row.now.chars) }
 {
-    progress.one_node(levels, row, at, 0)?;
+    progress.more_text(row, Spot::Here(at), 0)?;
     let tree = finished(alloc, progress, found, Tree::Null)?;
     Ok((tree, at + len))
 }
@@ -105,18 +104,17 @@ fn null_word(
 fn quoted(
     alloc: Global,
     progress: &mut Progress,
-    levels: u32,
     found: Properties,
     row: &Row,
     at: usize,
 ) -> Result<(Tree, usize), YamlRefusal>
     requires { at < length row.now.chars }
-    ensures is { Gives (result_beside result progress.new) (quoted_scalar levels found progress.old row.now at (quoted_of (text_at row.now at))) }
+    ensures is { Gives (result_beside result progress.new) (quoted_scalar found progress.old row.now at (quoted_of (text_at row.now at))) }
     ensures within { IfOk result (λ got. got.1 ≤ length row.now.chars) }
 {
     match quoted_scalar(alloc, text_at(row, at))? {
         None => Err(progress.bad(YamlFault::BadScalar, row, at)),
-        Some((text, len)) => scalar(alloc, progress, levels, found, row, at, text, len),
+        Some((text, len)) => scalar(alloc, progress, found, row, at, text, len),
     }
 }
 
@@ -125,22 +123,21 @@ fn plain(
     alloc: Global,
     progress: &mut Progress,
     context: Context,
-    levels: u32,
     found: Properties,
     row: &Row,
     at: usize,
 ) -> Result<(Tree, usize), YamlRefusal>
     requires { at < length row.now.chars }
-    ensures is { Gives (result_beside result progress.new) (plain_scalar levels found progress.old row.now at (plain_of context (text_at row.now at))) }
+    ensures is { Gives (result_beside result progress.new) (plain_scalar found progress.old row.now at (plain_of context (text_at row.now at))) }
     ensures within { IfOk result (λ got. got.1 ≤ length row.now.chars) }
 {
     match plain_scalar(alloc, text_at(row, at), context)? {
         None => Err(progress.bad(YamlFault::BadScalar, row, at)),
         Some((text, len)) => {
             if is_plain_null(&found, &text) {
-                null_word(alloc, progress, levels, found, row, at, len)
+                null_word(alloc, progress, found, row, at, len)
             } else {
-                scalar(alloc, progress, levels, found, row, at, text, len)
+                scalar(alloc, progress, found, row, at, text, len)
             }
         }
     }
@@ -197,9 +194,30 @@ fn alias(
     copy_named(alloc, progress, levels, found, row, at, &name, 1 + len)
 }
 
-/// The scalar or the alias that begins at a character of a row, and the place behind it. Refuses a bad beginning and
-/// a quote that isn't closed on its line (`BadScalar`), a name that no finished node has (`UnknownAlias`), `!!str` on
-/// an alias (`BadTag`), and a limit that this node passes.
+/// The scalar whose node is counted, by the character of a row at which it begins, and the place behind it. Refuses a
+/// bad beginning and a quote that isn't closed on its line (`BadScalar`), and a text that passes its limit.
+fn scalar_at(
+    alloc: Global,
+    progress: &mut Progress,
+    context: Context,
+    found: Properties,
+    row: &Row,
+    at: usize,
+) -> Result<(Tree, usize), YamlRefusal>
+    ensures is { Gives (result_beside result progress.new) (scalar_at context found progress.old row.now at) }
+    ensures within { IfOk result (λ got. got.1 ≤ length row.now.chars) }
+{
+    match text_at(row, at) {
+        [] => Err(progress.bad(YamlFault::BadScalar, row, at)),
+        ['\'' | '"', ..] => quoted(alloc, progress, found, row, at),
+        _ => plain(alloc, progress, context, found, row, at),
+    }
+}
+
+/// The scalar or the alias that begins at a character of a row, and the place behind it. Refuses the levels or nodes
+/// that a scalar's node passes, before it is read, and then a bad beginning and a quote that isn't closed on its line
+/// (`BadScalar`); of an alias `!!str` before it (`BadTag`), a name that no finished node has (`UnknownAlias`), and then
+/// a limit that its copy passes.
 pub fn word(
     alloc: Global,
     progress: &mut Progress,
@@ -212,10 +230,9 @@ pub fn word(
     ensures is { Gives (result_beside result progress.new) (word context levels found progress.old row.now at) }
     ensures within { IfOk result (λ got. got.1 ≤ length row.now.chars) }
 {
-    match text_at(row, at) {
-        [] => Err(progress.bad(YamlFault::BadScalar, row, at)),
-        ['*', behind @ ..] => alias(alloc, progress, levels, found, row, at, behind),
-        ['\'' | '"', ..] => quoted(alloc, progress, levels, found, row, at),
-        _ => plain(alloc, progress, context, levels, found, row, at),
+    if let ['*', behind @ ..] = text_at(row, at) {
+        return alias(alloc, progress, levels, found, row, at, behind);
     }
+    progress.one_node(levels, row, at, 0)?;
+    scalar_at(alloc, progress, context, found, row, at)
 }

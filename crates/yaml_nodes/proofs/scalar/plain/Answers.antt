@@ -12,18 +12,18 @@ pub returns-in-None-clause-is : goal.returns-in-None-clause-is
 returns-in-None-clause-is c =
     let a = c.args in
     let none : spelled (plain_of a.context (text_at a.row.now a.at)) ≡ None = cc (c.in_ok-plain_scalar.ensures.is) in
-    rw c.bad.ensures (plain_none a.levels a.found a.progress.now a.row.now a.at _ none)
+    rw c.bad.ensures (plain_none a.found a.progress.now a.row.now a.at _ none)
 
 pub returns-then-is_plain_null-clause-is : goal.returns-then-is_plain_null-clause-is
 returns-then-is_plain_null-clause-is c =
     let a = c.args in
     let some : spelled (plain_of a.context (text_at a.row.now a.at)) ≡ Some (c.in-Some.text, c.in-Some.len) = cc (c.in_ok-plain_scalar.ensures.is) in
     let null : is_plain_null a.found c.in-Some.text ≡ true = sym c.is_plain_null.ensures ∙ c.if-is_plain_null.true in
-    gives_as (result_beside c.null_word.result c.null_word.new.progress) (plain_null a.levels a.found a.progress.now a.row.now a.at _ c.in-Some.text c.in-Some.len some null) c.null_word.ensures.is
+    gives_as (result_beside c.null_word.result c.null_word.new.progress) (plain_null a.found a.progress.now a.row.now a.at _ c.in-Some.text c.in-Some.len some null) c.null_word.ensures.is
 
 pub returns-else-is_plain_null-clause-is : goal.returns-else-is_plain_null-clause-is
 returns-else-is_plain_null-clause-is c =
     let a = c.args in
     let some : spelled (plain_of a.context (text_at a.row.now a.at)) ≡ Some (c.in-Some.text, c.in-Some.len) = cc (c.in_ok-plain_scalar.ensures.is) in
     let other : is_plain_null a.found c.in-Some.text ≡ false = sym c.is_plain_null.ensures ∙ c.if-is_plain_null.false in
-    gives_as (result_beside c.scalar.result c.scalar.new.progress) (plain_some a.levels a.found a.progress.now a.row.now a.at _ c.in-Some.text c.in-Some.len some other) c.scalar.ensures.is
+    gives_as (result_beside c.scalar.result c.scalar.new.progress) (plain_some a.found a.progress.now a.row.now a.at _ c.in-Some.text c.in-Some.len some other) c.scalar.ensures.is

@@ -11,10 +11,10 @@ pub returns-in-None-clause-is : goal.returns-in-None-clause-is
 returns-in-None-clause-is c =
     let a = c.args in
     let none : spelled (quoted_of (text_at a.row.now a.at)) ≡ None = cc (c.in_ok-quoted_scalar.ensures.is) in
-    rw c.bad.ensures (quoted_none a.levels a.found a.progress.now a.row.now a.at _ none)
+    rw c.bad.ensures (quoted_none a.found a.progress.now a.row.now a.at _ none)
 
 pub returns-in-Some-clause-is : goal.returns-in-Some-clause-is
 returns-in-Some-clause-is c =
     let a = c.args in
     let some : spelled (quoted_of (text_at a.row.now a.at)) ≡ Some (c.in-Some.text, c.in-Some.len) = cc (c.in_ok-quoted_scalar.ensures.is) in
-    gives_as (result_beside c.scalar.result c.scalar.new.progress) (quoted_some a.levels a.found a.progress.now a.row.now a.at _ c.in-Some.text c.in-Some.len some) c.scalar.ensures.is
+    gives_as (result_beside c.scalar.result c.scalar.new.progress) (quoted_some a.found a.progress.now a.row.now a.at _ c.in-Some.text c.in-Some.len some) c.scalar.ensures.is
