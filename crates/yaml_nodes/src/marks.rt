@@ -129,8 +129,9 @@ pub fn before_colon(chars: &[char], context: Context) -> usize
 pub fn is_key(chars: &[char], context: Context) -> bool
     ensures { result ≡ is_key context chars.now }
 {
-    key_len(chars, context) > 0
-        && is_colon_of(chars, &chars[before_colon(chars, context)..], context)
+    let len = key_len(chars, context);
+    let rest = &chars[len..];
+    len > 0 && is_colon_of(chars, &rest[blanks(rest)..], context)
 }
 
 /// Whether a key stands here behind properties, or a colon alone, which has an empty key.
