@@ -48,19 +48,21 @@ flow_node levels read may_be_marked row piece owner p at =
     flow_properties 3 may_be_marked p row no_properties at >>= λ found.
     if nat_le piece.stop found.1 then nothing_before levels found.0 p row owner found.1 else read found.0 p row found.1
 
--- an item, which is no pair
+-- an item, which is no pair: that would be a node of its own, which is counted before it is refused at its key
 abbrev pub flow_item : ℕ → FlowReader → Row → Piece → List Tree × Progress → ℕ → Result (List Tree × Progress) YamlRefusal
 flow_item levels read row piece (items, p) at =
-    if is_key_behind Flow (text_at row at) then bad (if is_property (text_at row at) then fault_of_key (text_at row at) else Unsupported) p row at
+    if is_key_behind Flow (text_at row at)
+    then (one_node levels p row at 0 >>= λ p. bad (if is_property (text_at row at) then fault_of_key (text_at row at) else Unsupported) p row at)
     else (flow_node levels read false row piece at p at >>= λ got.
     at_stop row piece got.1 got.0.1 >>= λ p. Ok (items ++ got.0.0 ∷ [], p))
 
--- the value of a key, from behind the colon or the key on: null where nothing stands before the piece's end
+-- the value of a key, from behind its colon or itself on: null where no colon stands on the key's line, or nothing between it and the piece's end
 abbrev pub flow_value : ℕ → FlowReader → Row → Piece → ℕ → Progress → ℕ → Bool → Result Inline YamlRefusal
 flow_value levels read row piece key p behind has_colon =
-    next_place p row false behind >>= λ at.
-    if nat_le piece.stop at then nothing_before levels no_properties p row key at
-    else (if has_colon then flow_node levels read true row piece key p at else bad BadFlow p row piece.bracket)
+    if has_colon
+    then (next_place p row false behind >>= λ at.
+    if nat_le piece.stop at then nothing_before levels no_properties p row key at else flow_node levels read true row piece key p at)
+    else nothing_before levels no_properties p row key behind
 
 -- an entry: a key, and its value behind a colon on the key's line, with which a merge key is asked, and nothing behind that
 abbrev pub flow_entry : ℕ → FlowReader → Row → Piece → Entries × Progress → ℕ → Result (Entries × Progress) YamlRefusal

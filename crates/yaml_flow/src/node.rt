@@ -1,5 +1,5 @@
 ghost use Rattle.std.specs.Prelude.{◌≤◌, ◌<◌, ◌-◌, ◌^◌, [], length, IfOk};
-ghost use Rattle.yaml_flow.specs.Flow.{between, flow, flow_entry, flow_item, flow_mapping, flow_node, flow_sequence, flow_value, read_piece};
+ghost use Rattle.yaml_flow.specs.Flow.{between, flow, flow_entry, flow_item, flow_mapping, flow_node, flow_sequence, flow_value, nothing_before, read_piece};
 ghost use Rattle.yaml_lines.specs.Answers.{Gives};
 ghost use Rattle.yaml_nodes.specs.Mappings.{no_entries};
 ghost use Rattle.yaml_nodes.specs.Progress.{result_beside, result_left};
@@ -207,7 +207,7 @@ fn entry_piece(
     }
 }
 
-/// Puts the item last that begins at a place, which is no pair.
+/// Puts the item last that begins at a place, which is no pair: a pair is counted as a node, and refused at its key.
 #[cycle(collection)]
 fn item(
     alloc: Global,
@@ -223,6 +223,7 @@ fn item(
 {
     let chars = text_at(row, at);
     if is_key_behind(chars, Context::Flow) {
+        progress.one_node(levels, row, at, 0)?;
         return Err(progress.bad(fault_of_pair(chars), row, at));
     }
     let (tree, end) = flow_node(alloc, progress, levels, row, piece, at, at, false)?;
@@ -253,8 +254,8 @@ fn entry(
     at_stop(progress, row, piece, end)
 }
 
-/// The value of a key, from behind its colon or the key on, and the place behind it: null where nothing stands before
-/// the piece ends.
+/// The value of a key, from behind its colon or itself on, and the place behind it: null where no colon stands on the
+/// key's line, or nothing between it and the end of the piece.
 #[cycle(collection)]
 fn flow_value(
     alloc: Global,
@@ -270,13 +271,12 @@ fn flow_value(
     ensures is { Gives (result_beside result progress.new) (flow_value levels (flow levels) row.now piece key progress.old behind has_colon) }
     ensures within { IfOk result (λ got. got.1 ≤ length row.now.chars) }
 {
+    if !has_colon {
+        return nothing_before(alloc, progress, levels, no_properties(), row, key, behind);
+    }
     let at = next_place(progress, row, behind, false)?;
     if piece.stop <= at {
-        let null = nothing(alloc, progress, levels, no_properties(), row, key)?;
-        return Ok((null, at));
-    }
-    if !has_colon {
-        return Err(progress.bad(YamlFault::BadFlow, row, piece.bracket));
+        return nothing_before(alloc, progress, levels, no_properties(), row, key, at);
     }
     flow_node(alloc, progress, levels, row, piece, key, at, true)
 }
@@ -308,8 +308,25 @@ fn flow_node(
         RUNS,
     )?;
     if piece.stop <= at {
-        let null = nothing(alloc, progress, levels, found, row, owner)?;
-        return Ok((null, at));
+        return nothing_before(alloc, progress, levels, found, row, owner, at);
     }
     flow(alloc, progress, levels, found, row, at)
+}
+
+/// Nothing before a place, at the place of its owner, and the place itself.
+fn nothing_before(
+    alloc: Global,
+    progress: &mut Progress,
+    levels: u32,
+    found: Properties,
+    row: &Row,
+    owner: usize,
+    end: usize,
+) -> Result<(Tree, usize), YamlRefusal>
+    requires { end ≤ length row.now.chars }
+    ensures is { Gives (result_beside result progress.new) (nothing_before levels found progress.old row.now owner end) }
+    ensures within { IfOk result (λ got. got.1 ≤ length row.now.chars) }
+{
+    let null = nothing(alloc, progress, levels, found, row, owner)?;
+    Ok((null, end))
 }
