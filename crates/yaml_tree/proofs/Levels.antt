@@ -3,15 +3,14 @@ use Rattle.std.proofs.Common.{◌≡◌, ◌∙◌, ℕ, zero, suc, ◌+◌, ◌
 use Rattle.logical_lines.specs.declared.line.LogicalLine.{LogicalLine}
 use Rattle.tree_base.specs.declared.tree.Tree.{Tree}
 use Rattle.yaml_lines.specs.Blanks.{is_rest_blank}
-use Rattle.yaml_lines.specs.declared.plain.Context.TheVariants.{Block}
 use Rattle.yaml_lines.specs.declared.refusal.YamlRefusal.{YamlRefusal}
 use Rattle.yaml_lines.specs.Rows.{text_at}
 use Rattle.yaml_nodes.specs.declared.progress.Progress.{Progress}
 use Rattle.yaml_nodes.specs.declared.properties.Properties.{Properties}
-use Rattle.yaml_nodes.specs.Marks.{is_key_behind, is_property, properties_len}
-use Rattle.yaml_nodes.specs.Progress.{◌>>=◌, bad}
-use Rattle.yaml_nodes.specs.Properties.{carried, fault_of_key, properties_from}
-use Rattle.yaml_tree.specs.Blocks.{block_or_inline, node, node_with}
+use Rattle.yaml_nodes.specs.Marks.{properties_len}
+use Rattle.yaml_nodes.specs.Progress.{◌>>=◌}
+use Rattle.yaml_nodes.specs.Properties.{carried, properties_from}
+use Rattle.yaml_tree.specs.Blocks.{block_or_inline, has_own_properties, node, node_with}
 use Rattle.yaml_tree.specs.Inline.{Owned, goes_on_at, inline_alone}
 use Rattle.yaml_tree.specs.Parts.{begun, first_indent}
 use Rattle.yaml_tree.specs.Steps.{behind_properties, inner}
@@ -29,10 +28,9 @@ inner_is (suc levels) h = let p : suc levels - 1 ≡ levels = omega arith in rw 
 -- a node whose first line may begin it
 abbrev pub node_begun : ℕ → Owned → Properties → ℕ → LogicalLine → List LogicalLine → Progress → Result (Tree × Progress) YamlRefusal
 node_begun levels owner found at line more p =
-    if is_property (text_at line.row at)
-    then (if is_key_behind Block (text_at line.row at) then bad (fault_of_key (text_at line.row at)) p line.row at
-    else (properties_from owner.is_key p line.row at found 0 (text_at line.row at) >>= λ found.
-    behind_properties levels (node levels) owner found p (goes_on_at owner line at) line (at + properties_len 0 (text_at line.row at)) more))
+    if has_own_properties (text_at line.row at)
+    then (properties_from owner.is_key p line.row at found 0 (text_at line.row at) >>= λ found.
+    behind_properties levels (node levels) owner found p (goes_on_at owner line at) line (at + properties_len 0 (text_at line.row at)) more)
     else block_or_inline levels (levels - 1) (inner levels) owner found p at line more
 
 -- a node of lines, by what its first line begins with
@@ -41,10 +39,9 @@ pub node_is : (levels : ℕ) (owner : Owned) (found : Properties) (p : Progress)
 node_is levels owner found p at line more =
     (λ i. opened levels i owner found p at (line ∷ more))
     ∙ (λ i. begun p line >>= λ p.
-    if is_property (text_at line.row at)
-    then (if is_key_behind Block (text_at line.row at) then bad (fault_of_key (text_at line.row at)) p line.row at
-    else (properties_from owner.is_key p line.row at found 0 (text_at line.row at) >>= λ found.
+    if has_own_properties (text_at line.row at)
+    then (properties_from owner.is_key p line.row at found 0 (text_at line.row at) >>= λ found.
     if is_rest_blank true (text_at line.row (at + properties_len 0 (text_at line.row at)))
     then sym (opened levels) i owner (carried p line.row found) p (first_indent more) more
-    else inline_alone levels (goes_on_at owner line at) owner.column found p line (at + properties_len 0 (text_at line.row at)) more))
+    else inline_alone levels (goes_on_at owner line at) owner.column found p line (at + properties_len 0 (text_at line.row at)) more)
     else block_or_inline levels (levels - 1) (inner levels) owner found p at line more)

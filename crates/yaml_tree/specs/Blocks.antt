@@ -5,8 +5,7 @@ use Rattle.tree_base.specs.declared.tree.Tree.{Tree}
 use Rattle.tree_base.specs.declared.tree.Tree.TheVariants.{Seq}
 use Rattle.yaml_lines.specs.Blanks.{blanks, is_rest_blank}
 use Rattle.yaml_lines.specs.declared.plain.Context.TheVariants.{Block}
-use Rattle.yaml_lines.specs.Plain.{is_colon}
-use Rattle.yaml_lines.specs.declared.refusal.YamlFault.TheVariants.{BadScalar, Unsupported}
+use Rattle.yaml_lines.specs.declared.refusal.YamlFault.TheVariants.{BadScalar}
 use Rattle.yaml_lines.specs.declared.refusal.YamlRefusal.{YamlRefusal}
 use Rattle.yaml_lines.specs.declared.refusal.YamlRefusal.TheVariants.{TooDeep}
 use Rattle.yaml_lines.specs.declared.row.Row.{Row}
@@ -16,9 +15,9 @@ use Rattle.yaml_nodes.specs.declared.progress.Progress.{Progress}
 use Rattle.yaml_nodes.specs.declared.properties.Properties.{Properties}
 use Rattle.yaml_nodes.specs.declared.spot.Spot.TheVariants.{Before}
 use Rattle.yaml_nodes.specs.Mappings.{key_at, merged, new_key, no_entries, with_pair}
-use Rattle.yaml_nodes.specs.Marks.{before_colon, is_colon_of, is_item, is_key, is_key_behind, is_property, properties_len, starts}
+use Rattle.yaml_nodes.specs.Marks.{before_colon, is_colon_of, is_item, is_key_behind, is_property, properties_len}
 use Rattle.yaml_nodes.specs.Progress.{◌>>=◌, bad, one_node}
-use Rattle.yaml_nodes.specs.Properties.{carried, fault_of_key, finished, no_properties, properties_from, unspelled}
+use Rattle.yaml_nodes.specs.Properties.{carried, finished, no_properties, properties_from, unspelled}
 use Rattle.yaml_nodes.specs.Scalars.{nothing}
 use Rattle.yaml_tree.specs.Inline.{Owned, alone, goes_on_at, inline_alone}
 use Rattle.yaml_tree.specs.Parts.{PartReader, begins_entry, begins_item, begun, block, first_indent, is_entry_at, is_item_at, value_len}
@@ -88,27 +87,29 @@ block_mapping levels under read found p at line more =
     block (begins_entry at) (is_entry_at at) (block_entry at under read) (no_entries, p) line more >>= λ got.
     merged got.1 line.row got.0 >>= λ map. Ok (finished found map)
 
--- a node without properties of its own on its line: a block, if it begins one, else a node on one line
+-- a node's own properties stand here: no key follows them on the line, whose they would be
+abbrev pub has_own_properties : List ℕ → Bool
+has_own_properties cs = is_property cs && not (is_key_behind Block cs)
+
+-- a node without properties of its own on its line: a block, if it begins one, else a node on one line. A mapping begins with its first key, also with one that is refused when it is read: behind properties, empty or an alias
 abbrev pub block_or_inline : ℕ → ℕ → Reader → Owned → Properties → Progress → ℕ → LogicalLine → List LogicalLine → Result (Tree × Progress) YamlRefusal
 block_or_inline levels under read owner found p at line more =
     let cs = text_at line.row at in
     if is_item cs then (unspelled p line.row found >>= λ found. block_sequence levels read found p at line more)
-    else (if is_colon cs || (starts 42 cs && is_key Block cs) then bad Unsupported p line.row at
-    else (if is_key Block cs then (unspelled p line.row found >>= λ found. block_mapping levels under read found p at line more)
-    else inline_alone levels (goes_on_at owner line at) owner.column found p line at more))
+    else (if is_key_behind Block cs then (unspelled p line.row found >>= λ found. block_mapping levels under read found p at line more)
+    else inline_alone levels (goes_on_at owner line at) owner.column found p line at more)
 
--- a node at so many levels, whose nodes are read by a reader with so many: its properties on a line belong to what stands behind them on it, and if nothing does to the lines below; before a key they would be the key's
+-- a node at so many levels, whose nodes are read by a reader with so many: its properties on a line belong to what stands behind them on it, and if nothing does to the lines below
 abbrev pub node_with : ℕ → ℕ → Reader → Reader
 node_with levels under read owner found p at [] = nothing levels found p owner.row owner.column
 node_with levels under read owner found p at (line ∷ more) =
     let cs = text_at line.row at in
     let behind = at + properties_len 0 cs in
     begun p line >>= λ p.
-    if is_property cs
-    then (if is_key_behind Block cs then bad (fault_of_key cs) p line.row at
-    else (properties_from owner.is_key p line.row at found 0 cs >>= λ found.
+    if has_own_properties cs
+    then (properties_from owner.is_key p line.row at found 0 cs >>= λ found.
     if is_rest_blank true (text_at line.row behind) then node_with levels under read owner (carried p line.row found) p (first_indent more) more
-    else inline_alone levels (goes_on_at owner line at) owner.column found p line behind more))
+    else inline_alone levels (goes_on_at owner line at) owner.column found p line behind more)
     else block_or_inline levels under read owner found p at line more
 
 -- no node may stand where no level is left

@@ -1,11 +1,8 @@
-ghost use Rattle.std.specs.Prelude.{◌≡◌, [], ◌∷◌, ◌<◌, ◌≤◌, ◌-◌, ◌||◌, ◌&&◌, length};
+ghost use Rattle.std.specs.Prelude.{◌≡◌, [], ◌∷◌, ◌<◌, ◌≤◌, ◌-◌, length};
 ghost use Rattle.yaml_lines.specs.Answers.{Gives};
-ghost use Rattle.yaml_lines.specs.Plain.{is_colon};
-ghost use Rattle.yaml_lines.specs.declared.plain.Context.TheVariants.{Block};
-ghost use Rattle.yaml_nodes.specs.Marks.{is_key, starts};
 ghost use Rattle.yaml_nodes.specs.Mappings.{no_entries};
 ghost use Rattle.yaml_nodes.specs.Progress.{result_beside, result_left};
-ghost use Rattle.yaml_tree.specs.Blocks.{below, item_node, block_item, block_sequence, block_value, block_entry, block_mapping, block_or_inline, node};
+ghost use Rattle.yaml_tree.specs.Blocks.{below, item_node, block_item, block_sequence, block_value, block_entry, block_mapping, has_own_properties, block_or_inline, node};
 ghost use Rattle.yaml_tree.specs.Parts.{begins_item, begins_entry, is_item_at, is_entry_at, block};
 ghost use Rattle.yaml_tree.specs.Steps.{behind_properties, inner};
 
@@ -17,13 +14,11 @@ use crate::parts::{
 use logical_lines::LogicalLine;
 use std::alloc::Global;
 use tree_base::{List, Tree};
-use yaml_lines::{
-    Context, YamlFault, YamlRefusal, blanks, is_colon, is_rest_blank, place_in, text_at,
-};
+use yaml_lines::{Context, YamlFault, YamlRefusal, blanks, is_rest_blank, place_in, text_at};
 use yaml_nodes::{
-    Entries, Progress, Properties, Spot, before_colon, carried, fault_of_key, finished,
-    is_colon_of, is_item, is_key, is_key_behind, is_property, key_at, merged, new_key, no_entries,
-    no_properties, nothing, properties_from, properties_len, starts, unspelled, with_pair,
+    Entries, Progress, Properties, Spot, before_colon, carried, finished, is_colon_of, is_item,
+    is_key_behind, is_property, key_at, merged, new_key, no_entries, no_properties, nothing,
+    properties_from, properties_len, unspelled, with_pair,
 };
 
 /// The node in the lines below its owner, which begins with their first character; null where there are none.
@@ -64,11 +59,8 @@ fn node(
 {
     begun(progress, line)?;
     let chars = text_at(&line.row, at);
-    if !is_property(chars) {
+    if !has_own_properties(chars) {
         return block_or_inline(alloc, progress, levels, owner, found, at, line, more);
-    }
-    if is_key_behind(chars, Context::Block) {
-        return Err(progress.bad(fault_of_key(chars), &line.row, at));
     }
     let found = properties_from(alloc, progress, &line.row, at, found, owner.is_key)?;
     let indent = goes_on_at(owner, line, at);
@@ -103,7 +95,8 @@ fn behind_properties(
     }
 }
 
-/// The node without properties of its own on its line: a block, if it begins one, else a node on one line.
+/// The node without properties of its own on its line: a block, if it begins one, else a node on one line. A mapping
+/// begins with its first key, also with one that is refused when it is read.
 #[cycle(node)]
 fn block_or_inline(
     alloc: Global,
@@ -122,10 +115,7 @@ fn block_or_inline(
         let found = unspelled(progress, &line.row, found)?;
         return block_sequence(alloc, progress, levels, found, at, line, more);
     }
-    if is_unsupported_key(chars) {
-        return Err(progress.bad(YamlFault::Unsupported, &line.row, at));
-    }
-    if is_key(chars, Context::Block) {
+    if is_key_behind(chars, Context::Block) {
         let found = unspelled(progress, &line.row, found)?;
         return block_mapping(alloc, progress, levels, found, at, line, more);
     }
@@ -329,9 +319,9 @@ fn block_value(
     )
 }
 
-/// Whether an empty key or an alias as a key stands here.
-fn is_unsupported_key(chars: &[char]) -> bool
-    ensures { result ≡ (is_colon chars.now || (starts 42 chars.now && is_key Block chars.now)) }
+/// Whether a node's own properties stand here: no key follows them on the line, whose they would be.
+fn has_own_properties(chars: &[char]) -> bool
+    ensures { result ≡ has_own_properties chars.now }
 {
-    is_colon(chars) || (starts(chars, '*') && is_key(chars, Context::Block))
+    is_property(chars) && !is_key_behind(chars, Context::Block)
 }

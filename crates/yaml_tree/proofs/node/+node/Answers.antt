@@ -1,4 +1,4 @@
-use Rattle.std.proofs.Common.{Err, ◌∙◌, [], sym, ap, refl, length, arith, rules}
+use Rattle.std.proofs.Common.{◌∙◌, [], sym, ap, refl, length, arith, rules}
 use Rattle.std.proofs.lemmas.Grind.{common_steps}
 use Rattle.std.proofs.lemmas.Result.{err_from_is_err_and}
 use Rattle.yaml_nodes.proofs.Chains.{gives_as}
@@ -92,15 +92,10 @@ node-returns-in_err-begun t c =
     let a = c.args in
     gives_as _ (node_is a.levels a.owner.now a.found a.progress.now a.at a.line.now a.more.now) (grind (arith, common_steps))
 
-pub node-returns-then-not-is_property : goal.node-returns-then-not-is_property
-node-returns-then-not-is_property t c =
+pub node-returns-then-not-has_own_properties : goal.node-returns-then-not-has_own_properties
+node-returns-then-not-has_own_properties t c =
     let a = c.args in
     gives_as _ (node_is a.levels a.owner.now a.found a.progress.now a.at a.line.now a.more.now) (grind (arith, common_steps))
-
-pub node-returns-then-is_key_behind : goal.node-returns-then-is_key_behind
-node-returns-then-is_key_behind t c =
-    let a = c.args in
-    gives_as (Err c.bad.result) (node_is a.levels a.owner.now a.found a.progress.now a.at a.line.now a.more.now) (grind (arith, common_steps))
 
 pub node-returns-in_err-found : goal.node-returns-in_err-found
 node-returns-in_err-found t c =
