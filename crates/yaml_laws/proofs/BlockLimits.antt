@@ -1,17 +1,16 @@
 -- Block collections are within the limits.
-use Rattle.std.proofs.Common.{ℕ, zero, suc, ◌+◌, ◌-◌, ◌≤◌, List, [], ◌∷◌, true, false, take, drop, ◌||◌, ◌&&◌, arith}
+use Rattle.std.proofs.Common.{ℕ, zero, suc, ◌+◌, ◌-◌, ◌≤◌, List, [], ◌∷◌, true, false, take, drop, arith}
 use Rattle.logical_lines.specs.declared.line.LogicalLine.{LogicalLine}
 use Rattle.tree_base.specs.declared.tree.Tree.{Tree}
 use Rattle.yaml_lines.specs.Blanks.{blanks, is_rest_blank}
 use Rattle.yaml_lines.specs.declared.plain.Context.TheVariants.{Block}
-use Rattle.yaml_lines.specs.Plain.{is_colon}
 use Rattle.yaml_lines.specs.Rows.{place_in, text_at}
 use Rattle.yaml_nodes.specs.declared.entries.Entries.{Entries}
 use Rattle.yaml_nodes.specs.declared.progress.Progress.{Progress}
 use Rattle.yaml_nodes.specs.declared.properties.Properties.{Properties}
 use Rattle.yaml_nodes.specs.declared.spot.Spot.TheVariants.{Before}
 use Rattle.yaml_nodes.specs.Mappings.{key_at, no_entries}
-use Rattle.yaml_nodes.specs.Marks.{before_colon, is_colon_of, is_item, is_key, is_key_behind, is_property, properties_len, starts}
+use Rattle.yaml_nodes.specs.Marks.{before_colon, is_colon_of, is_item, is_key_behind, properties_len}
 use Rattle.yaml_nodes.specs.Properties.{carried, no_properties, properties_from, unspelled}
 use Rattle.yaml_laws.proofs.Chains.{Yields, given, refused, either, chained, followed, unchanged}
 use Rattle.yaml_laws.proofs.EntryLimits.{Fills, none_fill, new_key_counts, with_pair_fills, merged_grows}
@@ -20,7 +19,7 @@ use Rattle.yaml_laws.proofs.ItemLimits.{Lists, none_list, push_lists, seq_grows}
 use Rattle.yaml_laws.proofs.Limits.{Counts, Grows, finished_grows}
 use Rattle.yaml_laws.proofs.NodeLimits.{one_node_takes, nothing_grows}
 use Rattle.yaml_laws.proofs.PartLimits.{begun_same, block_keeps}
-use Rattle.yaml_tree.specs.Blocks.{Reader, block_entry, block_item, block_mapping, block_or_inline, block_sequence, block_value, item_node, no_level, node, node_with, stands_behind, value_behind}
+use Rattle.yaml_tree.specs.Blocks.{Reader, block_entry, block_item, block_mapping, block_or_inline, block_sequence, block_value, has_own_properties, item_node, no_level, node, node_with, stands_behind, value_behind}
 use Rattle.yaml_tree.specs.Inline.{Owned, goes_on_at}
 use Rattle.yaml_tree.specs.Parts.{begins_entry, begins_item, begun, first_indent, is_entry_at, is_item_at, value_len}
 
@@ -79,9 +78,8 @@ module _ (levels under : ℕ) (read : Reader) (less : under ≤ levels - 1) (gro
   block_or_inline_grows owner found p at line more =
       let cs = text_at line.row at in
       either (is_item cs) _ _ (followed (unspelled p line.row found) _ (λ found. block_sequence_grows found p at line more))
-      (either (is_colon cs || (starts 42 cs && is_key Block cs)) _ _ (refused _)
-      (either (is_key Block cs) _ _ (followed (unspelled p line.row found) _ (λ found. block_mapping_grows found p at line more))
-      (inline_alone_grows levels (goes_on_at owner line at) owner.column found p line at more)))
+      (either (is_key_behind Block cs) _ _ (followed (unspelled p line.row found) _ (λ found. block_mapping_grows found p at line more))
+      (inline_alone_grows levels (goes_on_at owner line at) owner.column found p line at more))
 
   node_with_grows : BlockGrows levels (node_with levels under read)
   node_with_grows owner found p at [] = nothing_grows levels found p owner.row owner.column
@@ -89,11 +87,10 @@ module _ (levels under : ℕ) (read : Reader) (less : under ≤ levels - 1) (gro
       let cs = text_at line.row at in
       let behind = at + properties_len 0 cs in
       unchanged p (begun p line) _ (begun_same p line)
-      (either (is_property cs) _ _
-      (either (is_key_behind Block cs) _ _ (refused _)
+      (either (has_own_properties cs) _ _
       (followed (properties_from owner.is_key p line.row at found 0 cs) _
       (λ found. either (is_rest_blank true (text_at line.row behind)) _ _ (node_with_grows owner (carried p line.row found) p (first_indent more) more)
-      (inline_alone_grows levels (goes_on_at owner line at) owner.column found p line behind more))))
+      (inline_alone_grows levels (goes_on_at owner line at) owner.column found p line behind more)))
       (block_or_inline_grows owner found p at line more))
 
 -- a node is of at most the levels that are left for it

@@ -1,5 +1,5 @@
 -- The entries of a mapping are within the limits.
-use Rattle.std.proofs.Common.{ℕ, ◌+◌, ◌≤◌, Option, Some, None, List, [], ◌++◌, length, arith}
+use Rattle.std.proofs.Common.{◌≡◌, ℕ, false, refl, ◌+◌, ◌≤◌, Option, Some, None, List, [], ◌++◌, length, arith}
 use Rattle.std.proofs.lemmas.List.Sums.{sum_by-append}
 use Rattle.tree_base.specs.Entries.{with_entry}
 use Rattle.tree_base.specs.Trees.{depth, node_count, text_size}
@@ -11,8 +11,8 @@ use Rattle.yaml_nodes.specs.declared.key.Key.{Key}
 use Rattle.yaml_nodes.specs.declared.progress.Progress.{Progress}
 use Rattle.yaml_nodes.specs.declared.spot.Spot.{Spot}
 use Rattle.yaml_nodes.specs.declared.spot.Spot.TheVariants.{Here}
-use Rattle.yaml_nodes.specs.Mappings.{Pairs, added, added_maps, merged, merged_with, new_key, no_entries, with_merge, with_pair}
-use Rattle.yaml_laws.proofs.Chains.{Yields, given, refused, either, chained, weaker}
+use Rattle.yaml_nodes.specs.Mappings.{Pairs, added, added_maps, key_size, merged, merged_with, new_key, no_entries, with_merge, with_pair}
+use Rattle.yaml_laws.proofs.Chains.{Yields, given, refused, either, either_by, chained, weaker}
 use Rattle.yaml_laws.proofs.Limits.{IsWithin, Counts, Grows}
 use Rattle.yaml_laws.proofs.NodeLimits.{CountsText, CountsBoth, more_text_counts, more_nodes_counts}
 use Rattle.yaml_laws.proofs.PairSizes.{AreShallow, added_shallow, maps_depth, pairs_depth, pairs_depth-added, pairs_depth-append, pairs_depth_put, pairs_nodes, pairs_nodes_put, pairs_text, pairs_text_put}
@@ -34,17 +34,18 @@ pub none_fill : (levels : ℕ) (p : Progress) → IsWithin p → Fills levels p 
 none_fill levels p h = record { deep = omega arith; added = omega arith; counted = record { nodes = omega arith; text = omega arith }; within = h }
 
 -- a key is counted
-pub new_key_counts : (entries : Entries) (p : Progress) (row : Row) (at : ℕ) (key : Key) → Yields (Counts p 0 (length key.text)) (new_key entries p row at key)
-new_key_counts entries p row at key = either _ _ _ (refused _) (weaker (λ q (h : CountsText p (length key.text) q). h.counted) (more_text_counts p row (Here at) (length key.text)))
+pub new_key_counts : (entries : Entries) (p : Progress) (row : Row) (at : ℕ) (key : Key) → Yields (Counts p 0 (key_size key)) (new_key entries p row at key)
+new_key_counts entries p row at key = either _ _ _ (refused _) (weaker (λ q (h : CountsText p (key_size key) q). h.counted) (more_text_counts p row (Here at) (key_size key)))
 
 module _ (levels : ℕ) (p before q : Progress) (row : Row) (spot : Spot) (entries : Entries) (key : Key) (tree : Tree)
-    (filled : Fills levels p (entries, before)) (counted : Counts before (node_count tree) (length key.text + text_size tree) q) (deep : depth tree ≤ levels) (within : IsWithin q) where
+    (filled : Fills levels p (entries, before)) (counted : Counts before (node_count tree) (key_size key + text_size tree) q) (deep : depth tree ≤ levels) (within : IsWithin q) where
   merge_fills : (maps : Option (List Pairs)) → AreShallow levels maps → Yields (λ after. Fills levels p (after, q)) (with_merge entries q row spot maps)
   merge_fills None h = refused _
   merge_fills (Some maps) h = given _ (record { deep = filled.deep; added = h; counted = record { nodes = omega arith; text = omega arith }; within = within })
 
-  own_fills : Fills levels p (record entries { own = with_entry entries.own key.text tree }, q)
-  own_fills =
+  own_fills : key.is_merge ≡ false → Fills levels p (record entries { own = with_entry entries.own key.text tree }, q)
+  own_fills is_own =
+      let size : key_size key ≡ length key.text = rw is_own refl in
       let d = pairs_depth_put entries.own key.text tree in
       let n = pairs_nodes_put entries.own key.text tree in
       let t = pairs_text_put entries.own key.text tree in
@@ -52,7 +53,7 @@ module _ (levels : ℕ) (p before q : Progress) (row : Row) (spot : Spot) (entri
 
   -- one more pair, whose key and value are counted
   pub with_pair_fills : Yields (λ after. Fills levels p (after, q)) (with_pair entries q row spot key tree)
-  with_pair_fills = either key.is_merge _ _ (merge_fills (added_maps (out-Tree tree)) (added_shallow levels tree deep)) (given _ own_fills)
+  with_pair_fills = either_by key.is_merge _ _ (λ merge. merge_fills (added_maps (out-Tree tree)) (added_shallow levels tree deep)) (λ is_own. given _ (own_fills is_own))
 
 module _ (levels under : ℕ) (p first q : Progress) (row : Row) (more_levels : under + 1 ≤ levels) (counted : Counts p 1 0 first) where
   merged_with_grows : (own : Pairs) (merge : Option Merge) → Fills under first (record { own = own; merge = merge }, q) → Yields (Grows levels p) (merged_with q row own merge)

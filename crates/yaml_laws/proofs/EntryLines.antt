@@ -6,12 +6,12 @@ use Rattle.logical_lines.specs.Grouped.{begins_block, begins_flow, head_of}
 use Rattle.yaml_lines.specs.Blanks.{is_white, spaces, tab_indent}
 use Rattle.yaml_lines.specs.declared.plain.Context.TheVariants.{Block}
 use Rattle.yaml_lines.specs.Plain.{is_colon, plain_of}
-use Rattle.yaml_nodes.specs.Marks.{before_colon, is_item, is_key, is_left_out, is_property, is_quote, starts}
+use Rattle.yaml_nodes.specs.Marks.{before_colon, is_item, is_key, is_key_behind, is_left_out, is_property, is_quote, starts}
 use Rattle.yaml_laws.specs.Laws.{IsWord, are_word_chars, entry_line, is_word_char}
 use Rattle.yaml_tree.specs.Reading.{is_start}
 use Rattle.yaml_laws.proofs.NumberedLines.{IsOneLine}
 use Rattle.yaml_laws.proofs.OneLine.{head_is}
-use Rattle.yaml_laws.proofs.PlainWords.{before_is, key_is, plain_is}
+use Rattle.yaml_laws.proofs.PlainWords.{before_is, key_behind, key_is, plain_is}
 use Rattle.yaml_laws.proofs.WordLines.{never, no_alias, no_block, no_colon, no_document_start, no_flow, no_item, no_property, no_quote, no_spaces, no_tab, not_blank, not_left_out}
 
 -- a key stands at the first column of a line, and none of the marks that a line may begin with
@@ -24,11 +24,11 @@ pub record IsEntryLine (cs : List ℕ) : Type 0 where
   pub bare : is_property cs ≡ false
   pub unquoted : is_quote cs ≡ false
   pub own : (starts 42 cs || is_colon cs) ≡ false
-  pub named : (is_colon cs || (starts 42 cs && is_key Block cs)) ≡ false
   pub keyed : is_key Block cs ≡ true
+  pub begins : is_key_behind Block cs ≡ true
 
 -- the third of four cases
-pub third_of_four : {A : Type 0} (a b c : Bool) (x y third z : A) → a ≡ false → b ≡ false → c ≡ true → cond a x (cond b y (cond c third z)) ≡ third
+third_of_four : {A : Type 0} (a b c : Bool) (x y third z : A) → a ≡ false → b ≡ false → c ≡ true → cond a x (cond b y (cond c third z)) ≡ third
 third_of_four a b c x y third z p q r = rw (p, q, r)
 
 -- a key and its colon are passed over
@@ -66,8 +66,8 @@ module _ (c : ℕ) (cs : List ℕ) (chars : are_word_chars (c ∷ cs) ≡ true) 
         bare = no_property c more is_first;
         unquoted = no_quote c more is_first;
         own = rw (no_alias c more is_first) (no_colon c more is_first);
-        named = rw (no_colon c more is_first, no_alias c more is_first);
         keyed = key_is c cs (58 ∷ 32 ∷ value) chars refl refl;
+        begins = key_behind c more is_first (key_is c cs (58 ∷ 32 ∷ value) chars refl refl);
       }
 
 pub is_entry_line : (key value : List ℕ) → IsWord key → IsEntryLine (entry_line (key, value))

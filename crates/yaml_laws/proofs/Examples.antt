@@ -232,3 +232,15 @@ bad_38 = refl
 bad_39 : IsBad (codes "a: |\n  x\n y\n") BadIndent 3 2
 unfolding utf8_valid_len is_utf8 chars encode
 bad_39 = refl
+
+bad_40 : IsBad (codes "!!str\n: x\n") BadTag 1 1
+unfolding utf8_valid_len is_utf8 chars encode
+bad_40 = refl
+
+bad_41 : IsBad (codes "!!str\n&x a: 1\n") BadTag 1 1
+unfolding utf8_valid_len is_utf8 chars encode
+bad_41 = refl
+
+bad_42 : IsBad (codes "{\"a\" b}\n") BadFlow 1 1
+unfolding utf8_valid_len is_utf8 chars encode
+bad_42 = refl

@@ -13,6 +13,7 @@ use Rattle.yaml_nodes.specs.declared.properties.Properties.{Properties}
 use Rattle.yaml_nodes.specs.declared.spot.Spot.TheVariants.{Here}
 use Rattle.yaml_nodes.specs.Mappings.{key_at, no_entries}
 use Rattle.yaml_nodes.specs.Marks.{is_key_behind, starts}
+use Rattle.yaml_nodes.specs.Progress.{one_node}
 use Rattle.yaml_nodes.specs.Properties.{no_properties, unspelled}
 use Rattle.yaml_laws.proofs.Chains.{Yields, given, refused, either, chained, followed, unchanged}
 use Rattle.yaml_laws.proofs.EntryLimits.{Fills, none_fill, new_key_counts, with_pair_fills, merged_grows}
@@ -39,14 +40,15 @@ module _ (levels : ℕ) (read : FlowReader) (grows : FlowGrows levels read) (row
 
   flow_item_lists : (p : Progress) (piece : Piece) (done : List Tree × Progress) (at : ℕ) → Lists levels p done → Yields (Lists levels p) (flow_item levels read row piece done at)
   flow_item_lists p piece done at h =
-      either (is_key_behind Flow (text_at row at)) _ _ (refused _)
+      either (is_key_behind Flow (text_at row at)) _ _ (followed (one_node levels done.1 row at 0) _ (λ q. refused _))
       (chained _ _ (flow_node_grows false piece at done.1 at)
       (λ got k. unchanged got.1 _ _ (at_stop_same piece got.1 got.0.1) (given _ (push_lists levels p done.1 got.1 done.0 got.0.0 h k))))
 
   flow_value_grows : (piece : Piece) (key : ℕ) (p : Progress) (behind : ℕ) (has_colon : Bool) → Yields (GrowsInline levels p) (flow_value levels read row piece key p behind has_colon)
   flow_value_grows piece key p behind has_colon =
-      followed (next_place p row false behind) _
-      (λ at. either (nat_le piece.stop at) _ _ (nothing_before_grows no_properties p key at) (either has_colon _ _ (flow_node_grows true piece key p at) (refused _)))
+      either has_colon _ _
+      (followed (next_place p row false behind) _ (λ at. either (nat_le piece.stop at) _ _ (nothing_before_grows no_properties p key at) (flow_node_grows true piece key p at)))
+      (nothing_before_grows no_properties p key behind)
 
   flow_entry_fills : (p : Progress) (piece : Piece) (done : Entries × Progress) (at : ℕ) → Fills levels p done → Yields (Fills levels p) (flow_entry levels read row piece done at)
   flow_entry_fills p piece done at h =

@@ -1,5 +1,5 @@
 -- Lines that are a word, a colon, a space and a word each, with different keys, spell the mapping of the pairs.
-use Rattle.std.proofs.Common.{◌≡◌, ◌≢◌, ℕ, suc, ◌+◌, ◌<◌, ◌≤◌, ◌||◌, ◌&&◌, Bool, List, [], ◌∷◌, ◌++◌, true, false, All, Ok, None, Result, drop, length, map, arith, refl, sym, ap, subst, ◌∙◌, append_assoc}
+use Rattle.std.proofs.Common.{◌≡◌, ◌≢◌, ℕ, suc, ◌+◌, ◌<◌, ◌≤◌, Bool, cond, List, [], ◌∷◌, ◌++◌, true, false, All, Ok, None, Result, drop, length, map, arith, refl, sym, ap, subst, ◌∙◌, append_assoc}
 use Rattle.std.proofs.lemmas.Bool.{cond-false}
 use Rattle.std.proofs.lemmas.List.{append-nil, length-map}
 use Rattle.std.proofs.lemmas.List.Elements.{All-head, All-tail, All-weaker, All-from_recursion}
@@ -17,12 +17,11 @@ use Rattle.yaml_lines.specs.Block.{lines_of_rows}
 use Rattle.yaml_lines.specs.declared.lines.Line.{Line}
 use Rattle.yaml_lines.specs.declared.plain.Context.TheVariants.{Block}
 use Rattle.yaml_lines.specs.declared.refusal.YamlRefusal.{YamlRefusal}
-use Rattle.yaml_lines.specs.Plain.{is_colon}
 use Rattle.yaml_lines.specs.Rows.{row_of}
 use Rattle.yaml_nodes.specs.declared.entries.Entries.{Entries}
 use Rattle.yaml_nodes.specs.declared.progress.Progress.{Progress}
 use Rattle.yaml_nodes.specs.Mappings.{Pairs, merged, no_entries}
-use Rattle.yaml_nodes.specs.Marks.{is_item, is_key, is_left_out, starts}
+use Rattle.yaml_nodes.specs.Marks.{is_item, is_key_behind, is_left_out}
 use Rattle.yaml_nodes.specs.Progress.{◌>>=◌, at_start}
 use Rattle.yaml_nodes.specs.Properties.{finished, no_properties}
 use Rattle.yaml_tree.specs.Blocks.{Reader, below, block_entry, block_mapping, block_or_inline, node}
@@ -30,7 +29,7 @@ use Rattle.yaml_tree.specs.Inline.{Owned}
 use Rattle.yaml_laws.specs.Laws.{IsWord, MappingsReadBack, bytes_of, entry_line, scalar_of}
 use Rattle.yaml_tree.specs.Parts.{PartReader, begins_entry, begun, block, is_entry_at, later_parts}
 use Rattle.yaml_tree.specs.Reading.{document, no_owner}
-use Rattle.yaml_laws.proofs.EntryLines.{IsEntryLine, entry_is_one, is_entry_line, third_of_four}
+use Rattle.yaml_laws.proofs.EntryLines.{IsEntryLine, entry_is_one, is_entry_line}
 use Rattle.yaml_laws.proofs.EntryValues.{entries_with, entry_is}
 use Rattle.yaml_laws.proofs.NewKeys.{still_new}
 use Rattle.yaml_laws.proofs.NumberedLines.{All-from_map, IsOneLine, Reads, grouped_are, line_at, parted_are, parts_of, row_at, rows_are}
@@ -68,10 +67,14 @@ part_is : {A : Type 0} (belongs : LogicalLine → Bool) (read : PartReader A) (d
     → later_parts belongs read done ((line, more) ∷ parts) ≡ (read done line more >>= λ done. later_parts belongs read done parts)
 part_is belongs read done line more parts is here = rw (begun_is done.1 line is, here)
 
+-- the second of three cases
+second_of_three : {A : Type 0} (a b : Bool) (x second z : A) → a ≡ false → b ≡ true → cond a x (cond b second z) ≡ second
+second_of_three a b x second z p q = rw (p, q)
+
 mapping_by : (levels under : ℕ) (read : Reader) (owner : Owned) (p : Progress) (at : ℕ) (line : LogicalLine) (more : List LogicalLine) → is_item (drop at line.row.chars) ≡ false
-    → (is_colon (drop at line.row.chars) || (starts 42 (drop at line.row.chars) && is_key Block (drop at line.row.chars))) ≡ false → is_key Block (drop at line.row.chars) ≡ true
+    → is_key_behind Block (drop at line.row.chars) ≡ true
     → block_or_inline levels under read owner no_properties p at line more ≡ block_mapping levels under read no_properties p at line more
-mapping_by levels under read owner p at line more undashed named keyed = third_of_four _ _ _ _ _ _ _ undashed named keyed
+mapping_by levels under read owner p at line more undashed begins = second_of_three _ _ _ _ _ undashed begins
 
 begins_is : (line : LogicalLine) → IsEntryLine line.row.chars → line.row.indent ≡ 0 → begins_entry 0 line ≡ true
 begins_is line is first = rw (first, is.undashed)
@@ -153,7 +156,7 @@ module _ (levels : ℕ) where
       let is = is_entry_line x.1.0 x.1.1 word in
       ap (λ at. node (suc (suc levels)) no_owner no_properties p at (line_at entry_line x ∷ map (line_at entry_line) xs)) is.first
       ∙ node_is (suc (suc levels)) (suc levels) (node (suc levels)) no_owner p 0 (line_at entry_line x) (map (line_at entry_line) xs) (begun_is p (line_at entry_line x) is) is.bare
-      ∙ mapping_by (suc (suc levels)) (suc levels) (node (suc levels)) no_owner p 0 (line_at entry_line x) (map (line_at entry_line) xs) is.undashed is.named is.keyed
+      ∙ mapping_by (suc (suc levels)) (suc levels) (node (suc levels)) no_owner p 0 (line_at entry_line x) (map (line_at entry_line) xs) is.undashed is.begins
 
   document_is : (file : ℕ) (x : ℕ × (List ℕ × List ℕ)) (xs : Numbered) → IsRoom [] (grown (at_start file) 1 0) (x ∷ xs)
       → document (suc (suc levels)) file (map (line_at entry_line) (x ∷ xs)) ≡ Ok (Map (map entry_of (pairs_in (x ∷ xs))))

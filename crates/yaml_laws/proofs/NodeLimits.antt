@@ -17,7 +17,7 @@ use Rattle.yaml_nodes.specs.declared.spot.Spot.{Spot}
 use Rattle.yaml_nodes.specs.declared.spot.Spot.TheVariants.{Here}
 use Rattle.yaml_nodes.specs.Progress.{more_text, more_nodes, taken, one_node, copied}
 use Rattle.yaml_nodes.specs.Properties.{is_spelled, unspelled}
-use Rattle.yaml_nodes.specs.Scalars.{nothing, scalar, quoted_scalar, plain_scalar, is_plain_null, copy_named, alias, word, block_scalar}
+use Rattle.yaml_nodes.specs.Scalars.{nothing, scalar, quoted_scalar, plain_scalar, scalar_at, is_plain_null, copy_named, alias, word, block_scalar}
 use Rattle.yaml_laws.proofs.Chains.{Yields, given, refused, either, either_by, chained, followed, weaker}
 use Rattle.yaml_laws.proofs.Limits.{IsWithin, Counts, Grows, GrowsInline, finished_grows}
 use Rattle.yaml_laws.proofs.Sizes.{null_sizes, scalar_sizes}
@@ -76,23 +76,31 @@ nothing_grows levels found p row at = chained _ _ (one_node_takes levels p row a
     by q h true = scalar_grows [] h
     by q h false = null_grows h
 
-pub scalar_of_grows : (levels : ℕ) (found : Properties) (p : Progress) (row : Row) (at : ℕ) (tree : Tree) (text : List ℕ) (n : ℕ)
-    → ((q : Progress) → Takes levels 1 p 1 (length text) q → Grows levels p (tree, q)) → Yields (GrowsInline levels p) (scalar levels found p row at tree text n)
-scalar_of_grows levels found p row at tree text n grows = chained _ _ (one_node_takes levels p row at (length text))
-    (λ q h. given _ (finished_grows levels p found (tree, q) (grows q h)))
+-- a node that is counted, and its text behind it
+with_text : {levels long : ℕ} {p first q : Progress} → Takes levels 1 p 1 0 first → CountsText first long q → Takes levels 1 p 1 long q
+with_text t c = record { levels_left = t.levels_left; counted = record { nodes = omega arith; text = omega arith }; within = record { nodes = omega arith; text = c.text } }
 
-quoted_grows : (levels : ℕ) (found : Properties) (p : Progress) (row : Row) (at : ℕ) (read : Option (List ℕ × ℕ)) → Yields (GrowsInline levels p) (quoted_scalar levels found p row at read)
-quoted_grows levels found p row at None = refused _
-quoted_grows levels found p row at (Some (cs, n)) = scalar_of_grows levels found p row at _ _ n (λ q h. scalar_grows (encode_utf8_all cs) h)
+module _ (levels : ℕ) (found : Properties) (p first : Progress) (row : Row) (at : ℕ) (takes : Takes levels 1 p 1 0 first) where
+  scalar_of_grows : (tree : Tree) (text : List ℕ) (n : ℕ) → ((q : Progress) → Takes levels 1 p 1 (length text) q → Grows levels p (tree, q)) → Yields (GrowsInline levels p) (scalar found first row at tree text n)
+  scalar_of_grows tree text n grows = chained _ _ (more_text_counts first row (Here at) (length text))
+      (λ q c. given _ (finished_grows levels p found (tree, q) (grows q (with_text takes c))))
 
-plain_grows : (levels : ℕ) (found : Properties) (p : Progress) (row : Row) (at : ℕ) (read : Option (List ℕ × ℕ)) → Yields (GrowsInline levels p) (plain_scalar levels found p row at read)
-plain_grows levels found p row at None = refused _
-plain_grows levels found p row at (Some (cs, n)) =
-    scalar_of_grows levels found p row at _ _ n (λ q h. by q (encode_utf8_all cs) (is_plain_null found (encode_utf8_all cs)) h)
-  where
-    by : (q : Progress) (text : List ℕ) (null : Bool) → Takes levels 1 p 1 (length (if null then [] else text)) q → Grows levels p (if null then Null else Scalar text, q)
-    by q text true h = null_grows h
-    by q text false h = scalar_grows text h
+  quoted_grows : (read : Option (List ℕ × ℕ)) → Yields (GrowsInline levels p) (quoted_scalar found first row at read)
+  quoted_grows None = refused _
+  quoted_grows (Some (cs, n)) = scalar_of_grows _ _ n (λ q h. scalar_grows (encode_utf8_all cs) h)
+
+  plain_by : (q : Progress) (text : List ℕ) (null : Bool) → Takes levels 1 p 1 (length (if null then [] else text)) q → Grows levels p (if null then Null else Scalar text, q)
+  plain_by q text true h = null_grows h
+  plain_by q text false h = scalar_grows text h
+
+  plain_grows : (read : Option (List ℕ × ℕ)) → Yields (GrowsInline levels p) (plain_scalar found first row at read)
+  plain_grows None = refused _
+  plain_grows (Some (cs, n)) = scalar_of_grows _ _ n (λ q h. plain_by q (encode_utf8_all cs) (is_plain_null found (encode_utf8_all cs)) h)
+
+  scalar_at_grows : (context : Context) → Yields (GrowsInline levels p) (scalar_at context found first row at)
+  scalar_at_grows context =
+      let cs = text_at row at in
+      either (is_quote cs) _ _ (quoted_grows (quoted_of cs)) (plain_grows (plain_of context cs))
 
 copy_grows : (levels : ℕ) (found : Properties) (p : Progress) (row : Row) (at : ℕ) (tree : Option Tree) (n : ℕ) → Yields (GrowsInline levels p) (copy_named levels found p row at tree n)
 copy_grows levels found p row at None n = refused _
@@ -104,14 +112,12 @@ alias_grows levels found p row at = followed (unspelled p row found) _ (λ found
 -- a scalar or an alias on one line
 pub word_grows : (context : Context) (levels : ℕ) (found : Properties) (p : Progress) (row : Row) (at : ℕ) → Yields (GrowsInline levels p) (word context levels found p row at)
 word_grows context levels found p row at =
-    let cs = text_at row at in
-    either (starts 42 cs) _ _ (alias_grows levels found p row at)
-    (either (is_quote cs) _ _ (quoted_grows levels found p row at (quoted_of cs)) (plain_grows levels found p row at (plain_of context cs)))
+    either (starts 42 (text_at row at)) _ _ (alias_grows levels found p row at)
+    (chained _ _ (one_node_takes levels p row at 0) (λ first takes. scalar_at_grows levels found p first row at takes context))
 
 -- a block scalar
 pub block_scalar_grows : (levels : ℕ) (found : Properties) (p : Progress) (row : Row) (at column : ℕ) (content : List Row) → Yields (GrowsInline levels p) (block_scalar levels found p row at column content)
 block_scalar_grows levels found p row at column content =
     chained _ _ (one_node_takes levels p row at 0)
     (λ first t. followed _ _ (λ read. chained _ _ (more_text_counts first row (Here at) _)
-    (λ q (c : CountsText first _ q). let sum : Takes levels 1 p 1 _ q = record { levels_left = t.levels_left; counted = record { nodes = omega arith; text = omega arith }; within = record { nodes = omega arith; text = c.text } } in
-    given _ (finished_grows levels p found _ (scalar_grows _ sum)))))
+    (λ q c. given _ (finished_grows levels p found _ (scalar_grows _ (with_text t c))))))
