@@ -50,22 +50,27 @@ pub(crate) fn numbers_tree(alloc: Global, numbers: &[u64]) -> Result<Tree, CaseF
 
 /// Variables as a mapping, in their order.
 pub fn variables_tree(alloc: Global, variables: &Env) -> Result<Tree, CaseFault> {
-    let mut entries = Map::new(alloc);
-    for (name, value) in variables.keys().iter().zip(variables.values()) {
-        add_text(alloc, name.as_str(), value.as_str(), &mut entries)?;
-    }
-    Ok(Tree::Map(entries))
+    let values = scalars_of(alloc, variables.values())?;
+    Ok(Tree::Map(under_keys(alloc, variables, values)?))
 }
 
-/// Values under as many keys.
-pub fn under_keys<V: Drop>(
+fn scalars_of(alloc: Global, texts: &[Text]) -> Result<List<Tree>, CaseFault> {
+    let mut scalars = List::new(alloc);
+    for text in texts {
+        scalars.push(Tree::Scalar(text.copy(alloc)?))?;
+    }
+    Ok(scalars)
+}
+
+/// Other values under the same keys. NoCase where there isn't one for each.
+pub fn under_keys<U, V: Drop>(
     alloc: Global,
-    keys: &[Text],
+    entries: &TextMap<U>,
     values: List<V>,
 ) -> Result<TextMap<V>, CaseFault> {
-    let mut map = TextMap::new(alloc);
-    for (key, value) in keys.iter().zip(values.into_vec()) {
-        let _ = map.put(key.copy(alloc)?, value)?;
+    if values.len() == entries.len() {
+        Ok(entries.with_values(alloc, values)?)
+    } else {
+        Err(CaseFault::no_case(alloc, "each key wants a value"))
     }
-    Ok(map)
 }

@@ -1,23 +1,17 @@
 use crate::case_step::CaseStep;
-use crate::entries::{add_tree, number_tree, variables_tree};
+use crate::entries::{numbers_tree, under_keys, variables_tree};
 use crate::gave::Gave;
 use case_files::{Answers, CaseFault, Fields};
 use std::alloc::Global;
-use tree_base::{Env, List, Map, Text, TextMap, Tree, TryCopy};
+use tree_base::{Env, List, Text, TextMap, Tree, TryCopy};
 
 /// `map: VARIABLES` with `steps`: what the steps `gave`, and what the map `becomes`.
 pub(crate) fn map(alloc: Global, fields: &Fields, answers: &mut Answers) -> Result<(), CaseFault> {
-    let mut map = map_of(alloc, fields)?;
+    let mut map = fields.variables("map")?;
     let mut gave = Gave::new(alloc);
     take_steps(alloc, fields.items("steps")?, &mut map, &mut gave)?;
     gave.put(answers)?;
     answers.put("becomes", variables_tree(alloc, &map)?)
-}
-
-/// A copy of the map of a case.
-fn map_of(alloc: Global, fields: &Fields) -> Result<Env, CaseFault> {
-    let map = fields.variables("map")?;
-    Ok(map.copy(alloc)?)
 }
 
 fn take_steps(
@@ -39,6 +33,7 @@ fn take_step(
     gave: &mut Gave,
 ) -> Result<(), CaseFault> {
     match step.name() {
+        "copy" => put_copy(alloc, map),
         "put" => put(alloc, step, map, gave),
         "pair" => give_pair(alloc, map.pair(step.count()?), gave),
         "get" => gave.text_or_null(map.get(step.text()?)),
@@ -48,6 +43,12 @@ fn take_step(
         "with_values" => give_with_values(alloc, map, step.numbers()?, gave),
         _ => Err(step.unknown()),
     }
+}
+
+/// Puts a copy in place of the map.
+fn put_copy(alloc: Global, map: &mut Env) -> Result<(), CaseFault> {
+    *map = map.copy(alloc)?;
+    Ok(())
 }
 
 fn put(alloc: Global, step: CaseStep, map: &mut Env, gave: &mut Gave) -> Result<(), CaseFault> {
@@ -82,30 +83,18 @@ fn pair_tree(alloc: Global, key: &Text, value: &Text) -> Result<Tree, CaseFault>
     Ok(Tree::Seq(items))
 }
 
-/// Gives the same keys with numbers.
+/// Gives the numbers that stand under the same keys, and how many keys there are.
 fn give_with_values(
     alloc: Global,
     map: &Env,
     numbers: List<u64>,
     gave: &mut Gave,
 ) -> Result<(), CaseFault> {
-    if numbers.len() == map.len() {
-        let numbers = map.with_values(alloc, numbers)?;
-        gave.tree(counts_tree(alloc, &numbers)?)
-    } else {
-        Err(CaseFault::no_case(alloc, "there is one number for each key"))
-    }
+    let counts = under_keys(alloc, map, numbers)?;
+    give_counts(alloc, &counts, gave)
 }
 
-fn counts_tree(alloc: Global, counts: &TextMap<u64>) -> Result<Tree, CaseFault> {
-    let mut entries = Map::new(alloc);
-    for (key, count) in counts.keys().iter().zip(counts.values()) {
-        add_tree(
-            alloc,
-            key.as_str(),
-            number_tree(alloc, *count)?,
-            &mut entries,
-        )?;
-    }
-    Ok(Tree::Map(entries))
+fn give_counts(alloc: Global, counts: &TextMap<u64>, gave: &mut Gave) -> Result<(), CaseFault> {
+    gave.tree(numbers_tree(alloc, counts.values())?)?;
+    gave.number(counts.keys().len() as u64)
 }

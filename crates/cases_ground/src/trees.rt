@@ -94,7 +94,7 @@ fn map_with_marks(entries: &Map, alloc: Global) -> Result<Tree, CaseFault> {
         Ok(Tree::Reset)
     } else {
         let values = trees_with_marks(entries.values(), alloc)?;
-        Ok(Tree::Map(under_keys(alloc, entries.keys(), values)?))
+        Ok(Tree::Map(under_keys(alloc, entries, values)?))
     }
 }
 

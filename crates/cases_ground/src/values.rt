@@ -2,7 +2,7 @@ use crate::entries::add_text;
 use case_files::{Answers, CaseFault, Fields};
 use std::alloc::Global;
 use std::fmt;
-use tree_base::{Boxed, List, Map, Place, Tree, TryCopy, Var, copy_slice};
+use tree_base::{Boxed, List, Map, Place, Text, Tree, TryCopy, Var, copy_slice};
 
 /// `boxed: NUMBER`: the `value` in the box, and what is `taken_out`.
 pub(crate) fn value_in_box(
@@ -75,12 +75,19 @@ pub(crate) fn copy_variables(
 fn records_in(alloc: Global, fields: &Fields) -> Result<List<Var>, CaseFault> {
     let variables = fields.variables("copy_variables")?;
     let mut records = List::new(alloc);
-    for (name, value) in variables.keys().iter().zip(variables.values()) {
-        let name = name.copy(alloc)?;
-        let value = value.copy(alloc)?;
-        records.push(Var { name, value })?;
+    for name in variables.keys() {
+        if let Some(value) = variables.get(name) {
+            records.push(record_of(alloc, name, value)?)?;
+        }
     }
     Ok(records)
+}
+
+fn record_of(alloc: Global, name: &Text, value: &Text) -> Result<Var, CaseFault> {
+    Ok(Var {
+        name: name.copy(alloc)?,
+        value: value.copy(alloc)?,
+    })
 }
 
 fn records_tree(alloc: Global, records: &[Var]) -> Result<Tree, CaseFault> {

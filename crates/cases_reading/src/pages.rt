@@ -89,7 +89,7 @@ fn node_of_map(entries: &Map, alloc: Global) -> Result<Node, CaseFault> {
         Some(word) => Ok(Node::Word(word.copy(alloc)?)),
         None => {
             let nodes = nodes_of(entries.values(), alloc)?;
-            Ok(Node::Map(under_keys(alloc, entries.keys(), nodes)?))
+            Ok(Node::Map(under_keys(alloc, entries, nodes)?))
         }
     }
 }
