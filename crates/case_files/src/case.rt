@@ -1,3 +1,6 @@
+ghost use Rattle.std.specs.Prelude.{◌≡◌, ◌↔◌, IsTrue};
+ghost use Rattle.std.specs.Option.{option_copied};
+
 use crate::answers::Answers;
 use crate::case_fault::CaseFault;
 use crate::fields::Fields;
@@ -31,11 +34,12 @@ impl<'c> Case<'c> {
 
     /// The name of the call: the first key but `case`. NoCase where there is none.
     pub fn call(&self) -> Result<&'c Text, CaseFault> {
-        let keys = self.fields.entries().keys();
-        match keys.iter().find(|key| key.as_str() != "case") {
-            Some(key) => Ok(key),
-            None => Err(CaseFault::no_case(self.alloc, "it names no call")),
+        for key in self.fields.entries().keys() {
+            if key.as_str() != "case" {
+                return Ok(key);
+            }
         }
+        Err(CaseFault::no_case(self.alloc, "it names no call"))
     }
 
     /// What the case is told by on one line: its sentence, or else its call with the beginning of its main input.
@@ -58,13 +62,12 @@ impl<'c> Case<'c> {
 
     /// NoCase where no answer of the call with these further inputs is wanted.
     pub fn has_wanted(&self, call: &Text, inputs: &[&str]) -> Result<(), CaseFault> {
-        let keys = self.fields.entries().keys();
-        let call = call.as_str();
-        if keys.iter().any(|key| is_wanted(key.as_str(), call, inputs)) {
-            Ok(())
-        } else {
-            Err(CaseFault::no_case(self.alloc, "it wants no answer"))
+        for key in self.fields.entries().keys() {
+            if is_wanted(key.as_str(), call.as_str(), inputs) {
+                return Ok(());
+            }
         }
+        Err(CaseFault::no_case(self.alloc, "it wants no answer"))
     }
 
     /// The title of the case and the lines of its differences; None where its answers are as wanted.
@@ -109,7 +112,12 @@ impl<'c> Case<'c> {
 
 /// Whether a field is an answer that is wanted: all are but the sentence, the call and its further inputs. No memory.
 fn is_wanted(key: &str, call: &str, inputs: &[&str]) -> bool {
-    key != "case" && key != call && !inputs.iter().any(|input| *input == key)
+    for input in inputs {
+        if *input == key {
+            return false;
+        }
+    }
+    key != "case" && key != call
 }
 
 /// The name of the answer that tells why a call was refused.
@@ -123,12 +131,23 @@ fn compare(
     came: Option<&Tree>,
     lines: &mut Text,
 ) -> Result<(), CaseFault> {
+    if is_same(wanted, came) {
+        return Ok(());
+    }
     let wanted = line_or_nothing(alloc, wanted)?;
     let came = line_or_nothing(alloc, came)?;
-    if wanted != came {
-        add_difference(name, &wanted, &came, lines)?;
+    Ok(add_difference(name, &wanted, &came, lines)?)
+}
+
+/// Whether there are two trees that are the same, or none at all. No memory.
+fn is_same(wanted: Option<&Tree>, came: Option<&Tree>) -> bool
+    ensures { IsTrue result ↔ (option_copied wanted.entry ≡ option_copied came.entry) }
+{
+    match (wanted, came) {
+        (Some(wanted), Some(came)) => wanted.same(came),
+        (None, None) => true,
+        _ => false,
     }
-    Ok(())
 }
 
 fn line_or_nothing(alloc: Global, tree: Option<&Tree>) -> Result<Text, CaseFault> {

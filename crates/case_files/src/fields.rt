@@ -1,7 +1,7 @@
 use crate::built::{bytes_of, text_of};
 use crate::case_fault::CaseFault;
 use std::alloc::Global;
-use tree_base::{Env, List, Map, Text, Tree, item_at};
+use tree_base::{Env, List, Map, Text, Tree};
 
 /// The fields of a case, or of a mapping in one.
 #[derive(Clone, Copy)]
@@ -36,12 +36,7 @@ impl<'c> Fields<'c> {
 
     /// What stands under a key; None where the key isn't there. No memory.
     pub fn find(&self, key: &str) -> Option<&'c Tree> {
-        let at = self
-            .entries
-            .keys()
-            .iter()
-            .position(|name| name.as_str() == key)?;
-        item_at(self.entries.values(), at)
+        self.entries.find(key)
     }
 
     /// What stands under a key. NoCase where the key isn't there.
@@ -88,10 +83,11 @@ impl<'c> Fields<'c> {
     /// Whether a key is `true`. NoCase where it is something else than `true` or `false`.
     pub fn is_set(&self, key: &str) -> Result<bool, CaseFault> {
         match self.find(key) {
-            Some(Tree::Scalar(text)) if text.as_str() == "true" => Ok(true),
-            Some(Tree::Scalar(text)) if text.as_str() == "false" => Ok(false),
-            Some(_) => Err(CaseFault::wants(self.alloc, key, "true or false")),
             None => Ok(false),
+            Some(tree) => match flag_of(tree) {
+                Some(flag) => Ok(flag),
+                None => Err(CaseFault::wants(self.alloc, key, "true or false")),
+            },
         }
     }
 
@@ -151,6 +147,17 @@ fn add_variable(alloc: Global, name: &Text, tree: &Tree, to: &mut Env) -> Result
     let value = text_of(alloc, tree, name.as_str())?;
     let _ = to.put(name.copy(alloc)?, value)?;
     Ok(())
+}
+
+fn flag_of(tree: &Tree) -> Option<bool> {
+    match tree {
+        Tree::Scalar(text) => match text.as_str() {
+            "true" => Some(true),
+            "false" => Some(false),
+            _ => None,
+        },
+        _ => None,
+    }
 }
 
 fn number_of(alloc: Global, tree: &Tree, what: &str) -> Result<u64, CaseFault> {
