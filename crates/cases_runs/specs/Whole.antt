@@ -1,5 +1,5 @@
 -- Which declared sets one worker can carry out, as a test.
-use Rattle.std.specs.Prelude.{ℕ, Bool, true, ◌&&◌, nat_lt, ◌==◌, List, [], ◌∷◌, length}
+use Rattle.std.specs.Prelude.{ℕ, Bool, true, false, ◌&&◌, nat_lt, List, [], ◌∷◌, length}
 use Rattle.std.specs.List.{list_all}
 use Rattle.engine_types.specs.declared.Declared.{Declared}
 use Rattle.engine_types.specs.declared.NetworkSpec.{NetworkSpec}
@@ -20,9 +20,14 @@ is_attached networks slot = list_all (λ attach. nat_lt attach.network (length n
 abbrev pub are_attached : List NetworkSpec → List Slot → Bool
 are_attached networks slots = list_all (is_attached networks) slots
 
+-- whether a list has no element
+abbrev pub is_nil : {X : Type 0} → List X → Bool
+is_nil [] = true
+is_nil (x ∷ xs) = false
+
 -- whether no slot needs another one
 abbrev pub need_nothing : List Slot → Bool
-need_nothing slots = list_all (λ slot. length slot.needs == 0) slots
+need_nothing slots = list_all (λ slot. is_nil slot.needs) slots
 
 -- whether a declared set is whole and none of its slots needs another one
 abbrev pub is_serial : Declared → Bool

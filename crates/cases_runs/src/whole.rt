@@ -1,17 +1,22 @@
-ghost use Rattle.std.specs.Prelude.{◌≡◌, true, IsTrue};
+ghost use Rattle.std.specs.Prelude.{◌≡◌, true};
 ghost use Rattle.run_model.specs.Plans.{IsWhole, is_slot_before};
 ghost use Rattle.serial_run.specs.Serial.{NeedsNoSlot};
 ghost use Rattle.run_model.specs.Tests.{is_before};
-ghost use Rattle.cases_runs.specs.Whole.{are_attached, is_ascending, is_attached, is_serial, need_nothing};
+ghost use Rattle.cases_runs.specs.Whole.{are_attached, is_ascending, is_attached, is_nil, is_serial, need_nothing};
 
 use engine_types::{Declared, NetworkSpec, Slot, VolumeSpec};
 
 /// Whether a declared set is whole and none of its slots needs another one, so that one worker can carry it out. No
 /// memory.
 pub(crate) fn is_serial(declared: &Declared) -> bool
-    ensures serial { result ≡ is_serial declared.now }
     ensures whole { result ≡ true → IsWhole declared.now }
     ensures unconditional { result ≡ true → NeedsNoSlot declared.now }
+{
+    passes(declared)
+}
+
+fn passes(declared: &Declared) -> bool
+    ensures { result ≡ is_serial declared.now }
 {
     let slots = declared.slots.as_slice();
     let networks = declared.networks.as_slice();
@@ -82,5 +87,14 @@ fn is_attached(networks: &[NetworkSpec], slot: &Slot) -> bool
 fn need_nothing(slots: &[Slot]) -> bool
     ensures { result ≡ need_nothing slots.now }
 {
-    slots.iter().all(|slot| slot.needs.is_empty())
+    slots.iter().all(needs_nothing)
+}
+
+fn needs_nothing(slot: &Slot) -> bool
+    ensures { result ≡ is_nil slot.now.needs }
+{
+    match slot.needs.as_slice() {
+        [] => true,
+        [_, ..] => false,
+    }
 }

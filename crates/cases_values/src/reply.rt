@@ -58,13 +58,21 @@ pub(crate) fn report(reading: &mut Reading, line: &str) -> Report {
         health: Health::Absent,
     };
     for word in words {
-        if word.starts_with(|c: char| c.is_ascii_digit() || c == '-') {
+        if is_code(word) {
             report.exit_code = code_of(reading, word);
         } else {
             report.health = health_of(reading, word);
         }
     }
     report
+}
+
+/// Whether a word is an exit code: it begins with a digit or a minus.
+fn is_code(word: &str) -> bool {
+    match word.as_bytes() {
+        [first, ..] => first.is_ascii_digit() || *first == b'-',
+        [] => false,
+    }
 }
 
 /// The line of a reply: listings with their rows, behind commas.

@@ -27,16 +27,29 @@ impl MemoryEngine {
         ensures made { IfSome result (λ m. m.made ≡ 0) }
         ensures catalogue { IfSome result (λ m. m.catalogue ≡ catalogue) }
     {
-        if !can_be_held(&engine) {
-            return None;
+        if can_be_held(&engine) {
+            Some(held(engine, script, faults, catalogue))
+        } else {
+            None
         }
-        Some(MemoryEngine {
-            engine,
-            script,
-            faults,
-            made: 0,
-            catalogue,
-        })
+    }
+}
+
+/// An Engine in memory that holds what it can hold.
+fn held(engine: Engine, script: List<Tick>, faults: FaultPlan, catalogue: Catalogue) -> MemoryEngine
+    requires { can_be_held engine ≡ true }
+    ensures engine { result.engine ≡ engine }
+    ensures script { result.script ≡ script }
+    ensures faults { result.faults ≡ faults }
+    ensures made { result.made ≡ 0 }
+    ensures catalogue { result.catalogue ≡ catalogue }
+{
+    MemoryEngine {
+        engine,
+        script,
+        faults,
+        made: 0,
+        catalogue,
     }
 }
 
