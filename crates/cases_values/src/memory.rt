@@ -2,6 +2,7 @@ use crate::engine::engine;
 use crate::names::{code_of, health_of};
 use crate::reading::Reading;
 use case_files::{CaseFault, Fields};
+use engine_holding::engine_that_holds;
 use memory_engine::{Catalogue, Change, FaultPlan, LostAt, MemoryEngine, Tick};
 use std::alloc::Global;
 use tree_base::{List, Text};
@@ -9,7 +10,7 @@ use tree_base::{List, Text};
 /// An Engine in memory: what it holds, as `engine_of` reads it; `catalogue`, the names of the images that can be
 /// pulled (absent: all); `script`, each tick as `NAME exits CODE` or `NAME HEALTH`; and what goes wrong with its
 /// exchanges, which count from 1: `lost`, each as `4 before` or `4 after` its effect, `unsent`, and `asked_from`. NoCase
-/// where something isn't so, and where `MemoryEngine::holding` refuses what it is to hold.
+/// where something isn't so, and where `engine_that_holds` refuses what it is to hold.
 pub fn memory_engine_of(
     alloc: Global,
     fields: &Fields,
@@ -20,7 +21,7 @@ pub fn memory_engine_of(
     let script = script_of(&mut reading, fields);
     let faults = faults_of(&mut reading, fields);
     let catalogue = catalogue_of(&mut reading, fields);
-    let held = MemoryEngine::holding(engine, script, faults, catalogue);
+    let held = engine_that_holds(engine, script, faults, catalogue);
     reading.end()?;
     match held {
         Some(memory) => Ok(memory),

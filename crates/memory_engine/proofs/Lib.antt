@@ -7,7 +7,6 @@ pub mod NumberedIds
 pub mod Loops
 pub mod Outcomes
 pub mod Keeps
-pub mod Held
 pub mod Listings
 pub mod Answering
 pub mod KeepsServed

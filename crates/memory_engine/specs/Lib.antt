@@ -1,4 +1,3 @@
-pub mod Holding
 pub mod Ids
 pub mod Keeping
 pub mod Listing

@@ -10,7 +10,6 @@ mod catalogue;
 mod containers;
 mod creation;
 mod faults;
-mod holding;
 mod ids;
 mod images;
 mod listing;

@@ -12,7 +12,7 @@ use Rattle.engine_types.specs.declared.Engine.{Engine}
 use Rattle.engine_types.specs.declared.ImageRow.{ImageRow}
 use Rattle.engine_types.specs.declared.NetRow.{NetRow}
 use Rattle.run_model.specs.EngineRules.{container_at, network_at}
-use Rattle.memory_engine.specs.Holding.{are_apart, are_attached, are_foreign, are_told_apart, can_be_held, is_foreign}
+use Rattle.engine_holding.specs.Holding.{are_apart, are_attached, are_foreign, are_told_apart, can_be_held, is_foreign}
 use Rattle.memory_engine.specs.Ids.{id_text}
 use Rattle.memory_engine.specs.Keeping.{IsKept, is_free}
 use Rattle.memory_engine.proofs.Texts.{by_cases, same_text}
@@ -33,8 +33,9 @@ long_id : (n : ℕ) → length (id_text n) ≡ 64
 unfolding id_text
 long_id n =
     let within = digits_within n in
-    length-append (replicate (64 - length (digits 16 false n)) 48) (digits 16 false n)
-    ∙ omega (arith, within, length-replicate (64 - length (digits 16 false n)) 48)
+    let zeros : ℕ = 64 - length (digits 16 false n) in
+    let padding : length (replicate {A = ℕ} zeros 48) ≡ zeros = length-replicate {A = ℕ} zeros 48 in
+    length-append (replicate {A = ℕ} zeros 48) (digits 16 false n) ∙ omega (arith, within, padding)
 
 module _ {X : Type 0} (key : X → List ℕ) where
   others_apart : (x : X) (xs : List X) → list_any (λ y. bytes_eq (key x) (key y)) xs ≡ false → AllByRecursion (λ k. bytes_eq (key x) k ≡ false) (map key xs)
