@@ -1,4 +1,5 @@
 ghost use Rattle.std.specs.Prelude.{◌≡◌, true};
+ghost use Rattle.std.specs.List.{list_all};
 ghost use Rattle.run_model.specs.Plans.{IsWhole, is_slot_before};
 ghost use Rattle.serial_run.specs.Serial.{NeedsNoSlot};
 ghost use Rattle.run_model.specs.Tests.{is_before};
@@ -32,10 +33,14 @@ fn slots_ascend(slots: &[Slot]) -> bool
 {
     match slots {
         [] => true,
-        [first, later @ ..] => {
-            later.iter().all(|other| is_slot_before(first, other)) && slots_ascend(later)
-        }
+        [first, later @ ..] => are_after(first, later) && slots_ascend(later),
     }
+}
+
+fn are_after(slot: &Slot, later: &[Slot]) -> bool
+    ensures { result ≡ list_all (is_slot_before slot.now) later.now }
+{
+    later.iter().all(|other| is_slot_before(slot, other))
 }
 
 /// Whether a slot stands before another one: by service, then by number.
@@ -50,10 +55,14 @@ fn networks_ascend(networks: &[NetworkSpec]) -> bool
 {
     match networks {
         [] => true,
-        [first, later @ ..] => {
-            later.iter().all(|other| first.name < other.name) && networks_ascend(later)
-        }
+        [first, later @ ..] => are_later_networks(first, later) && networks_ascend(later),
     }
+}
+
+fn are_later_networks(network: &NetworkSpec, later: &[NetworkSpec]) -> bool
+    ensures { result ≡ list_all (λ other. is_before network.now.name other.name) later.now }
+{
+    later.iter().all(|other| network.name < other.name)
 }
 
 fn volumes_ascend(volumes: &[VolumeSpec]) -> bool
@@ -61,10 +70,14 @@ fn volumes_ascend(volumes: &[VolumeSpec]) -> bool
 {
     match volumes {
         [] => true,
-        [first, later @ ..] => {
-            later.iter().all(|other| first.name < other.name) && volumes_ascend(later)
-        }
+        [first, later @ ..] => are_later_volumes(first, later) && volumes_ascend(later),
     }
+}
+
+fn are_later_volumes(volume: &VolumeSpec, later: &[VolumeSpec]) -> bool
+    ensures { result ≡ list_all (λ other. is_before volume.now.name other.name) later.now }
+{
+    later.iter().all(|other| volume.name < other.name)
 }
 
 /// Whether slots attach to networks that are there.
