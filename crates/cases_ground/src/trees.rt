@@ -90,7 +90,7 @@ fn tree_with_marks(tree: &Tree, alloc: Global) -> Result<Tree, CaseFault> {
 
 #[cycle(marks)]
 fn map_with_marks(entries: &Map, alloc: Global) -> Result<Tree, CaseFault> {
-    if is_reset(entries) {
+    if is_reset(alloc, entries) {
         Ok(Tree::Reset)
     } else {
         let values = trees_with_marks(entries.values(), alloc)?;
@@ -107,9 +107,9 @@ fn trees_with_marks(trees: &[Tree], alloc: Global) -> Result<List<Tree>, CaseFau
     Ok(copies)
 }
 
-fn is_reset(entries: &Map) -> bool {
-    match entries.pair(0) {
-        Some((key, Tree::Scalar(word))) => key.as_str() == "mark" && word.as_str() == "reset",
+fn is_reset(alloc: Global, entries: &Map) -> bool {
+    match Fields::new(alloc, entries).find("mark") {
+        Some(Tree::Scalar(word)) => word.as_str() == "reset",
         _ => false,
     }
 }

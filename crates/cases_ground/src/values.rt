@@ -2,7 +2,7 @@ use crate::entries::add_text;
 use case_files::{Answers, CaseFault, Fields};
 use std::alloc::Global;
 use std::fmt;
-use tree_base::{Boxed, List, Map, Place, Text, Tree, TryCopy, Var, copy_slice};
+use tree_base::{Boxed, List, Map, Memory, Place, Text, Tree, TryCopy, Var, copy_slice};
 
 /// `boxed: NUMBER`: the `value` in the box, and what is `taken_out`.
 pub(crate) fn value_in_box(
@@ -77,17 +77,17 @@ fn records_in(alloc: Global, fields: &Fields) -> Result<List<Var>, CaseFault> {
     let mut records = List::new(alloc);
     for name in variables.keys() {
         if let Some(value) = variables.get(name) {
-            records.push(record_of(alloc, name, value)?)?;
+            records.push(record_of(alloc, name, value.copy(alloc)?)?)?;
         }
     }
     Ok(records)
 }
 
-fn record_of(alloc: Global, name: &Text, value: &Text) -> Result<Var, CaseFault> {
-    Ok(Var {
-        name: name.copy(alloc)?,
-        value: value.copy(alloc)?,
-    })
+fn record_of(alloc: Global, name: &Text, value: Text) -> Result<Var, CaseFault> {
+    match name.copy(alloc) {
+        Ok(name) => Ok(Var { name, value }),
+        Err(Memory) => Err(CaseFault::Memory),
+    }
 }
 
 fn records_tree(alloc: Global, records: &[Var]) -> Result<Tree, CaseFault> {

@@ -85,7 +85,7 @@ fn node_of(tree: &Tree, alloc: Global) -> Result<Node, CaseFault> {
 
 #[cycle(nodes)]
 fn node_of_map(entries: &Map, alloc: Global) -> Result<Node, CaseFault> {
-    match word_in(entries) {
+    match word_in(alloc, entries) {
         Some(word) => Ok(Node::Word(word.copy(alloc)?)),
         None => {
             let nodes = nodes_of(entries.values(), alloc)?;
@@ -104,11 +104,9 @@ fn nodes_of(trees: &[Tree], alloc: Global) -> Result<List<Node>, CaseFault> {
 }
 
 /// The word of `{word: TEXT}`.
-fn word_in(entries: &Map) -> Option<&Text> {
-    match entries.pair(0) {
-        Some((key, Tree::Scalar(word))) if entries.len() == 1 && key.as_str() == "word" => Some(
-            word,
-        ),
+fn word_in(alloc: Global, entries: &Map) -> Option<&Text> {
+    match Fields::new(alloc, entries).find("word") {
+        Some(Tree::Scalar(word)) if entries.len() == 1 => Some(word),
         _ => None,
     }
 }
