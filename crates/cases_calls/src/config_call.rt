@@ -16,7 +16,8 @@ use std::alloc::Global;
 pub fn config(alloc: Global, fields: &Fields, answers: &mut Answers) -> Result<(), CaseFault> {
     let scene = scene_of(alloc, fields, "config")?;
     match command_of(&scene.words) {
-        Some(Command::Config) | None => print_project(alloc, fields, &scene, answers),
+        None => print_project(alloc, fields, &scene, answers),
+        Some(Command::Config) => print_project(alloc, fields, &scene, answers),
         Some(_) => Err(CaseFault::wants(alloc, "config", "no words of another command")),
     }
 }

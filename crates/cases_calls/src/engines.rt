@@ -1,11 +1,6 @@
-ghost use Rattle.std.specs.Prelude.{◌≡◌, ◌<◌, ◌^◌, IfOk};
-ghost use Rattle.std.specs.Option.{ForSome};
-
 use case_files::{CaseFault, Fields, text_of};
 use cases_values::{memory_engine_of, request_of};
-use engine_hand::{MemoryHand, MemoryPlug};
 use memory_engine::MemoryEngine;
-use outside_api::{DialAnswer, Plug, Target};
 use std::alloc::Global;
 use tree_base::{List, Text, Tree};
 
@@ -21,37 +16,9 @@ pub fn engine_at(alloc: Global, fields: &Fields) -> Result<MemoryEngine, CaseFau
     }
 }
 
-/// The plug of a call, for the Engine of the field `engine`, else the one that an earlier call left, else a fresh one.
-/// The Engine has served the requests of `served` before; and where `no_hand_left` says so, the plug made its one
-/// hand before.
-pub fn plug_of(
-    alloc: Global,
-    fields: &Fields,
-    engines: &mut List<MemoryEngine>,
-) -> Result<MemoryPlug, CaseFault>
-    ensures { IfOk result (λ plug. ForSome (⟦<MemoryPlug as Plug>⟧.dialled plug) (λ n. n < 2 ^ 61)) }
-{
-    let used = fields.is_set("no_hand_left")?;
-    let engine = engine_for(alloc, fields, engines)?;
-    let mut plug = MemoryPlug::new(engine, 1);
-    if used {
-        let _ = is_dialled(alloc, &mut plug);
-    }
-    Ok(plug)
-}
-
-/// Dials, and whether that made a hand.
-pub fn is_dialled(alloc: Global, plug: &mut MemoryPlug) -> bool
-    requires { ForSome (⟦<MemoryPlug as Plug>⟧.dialled plug.old) (λ n. n < 2 ^ 60) }
-    ensures { ForSome (⟦<MemoryPlug as Plug>⟧.dialled plug.new) (λ n. n < 2 ^ 61) }
-{
-    matches!(
-        plug.dial(alloc, &Target::InMemory, None, 0),
-        DialAnswer::Dialled(_)
-    )
-}
-
-fn engine_for(
+/// The Engine of a call: that of the field `engine`, else the one that an earlier call left, else a fresh one; after it
+/// served the requests of `served`.
+pub fn engine_for(
     alloc: Global,
     fields: &Fields,
     engines: &mut List<MemoryEngine>,

@@ -1,8 +1,7 @@
-ghost use Rattle.std.specs.Prelude.{◌≡◌, ◌<◌, ◌^◌};
-ghost use Rattle.std.specs.Option.{ForSome};
+ghost use Rattle.std.specs.Prelude.{◌≡◌, ◌<◌, ◌^◌, Some};
 ghost use Rattle.outside_api.specs.Clock.{new_clock};
 
-use crate::engines::{engine_at, is_dialled};
+use crate::engines::engine_at;
 use case_files::{Answers, CaseFault, Fields, text_of};
 use cases_values::{exchange_lines, request_of};
 use engine_hand::{HandClock, MemoryHand, MemoryPlug};
@@ -145,19 +144,21 @@ pub fn plug(alloc: Global, fields: &Fields, answers: &mut Answers) -> Result<(),
     }
     let engine = engine_at(alloc, fields)?;
     let mut plug = MemoryPlug::new(engine, 1);
-    let first = is_dialled(alloc, &mut plug);
-    let second = is_dialled_again(alloc, &mut plug);
-    put_dials(first, second, answers)
+    match plug.dial(alloc, &Target::InMemory, None, 0) {
+        DialAnswer::Dialled(_) => put_dials(true, is_dialled(alloc, &mut plug, 1), answers),
+        _ => put_dials(false, false, answers),
+    }
 }
 
-/// Dials again, and whether that made a hand.
-fn is_dialled_again(alloc: Global, plug: &mut MemoryPlug) -> bool
-    requires { ForSome (⟦<MemoryPlug as Plug>⟧.dialled plug.old) (λ n. n < 2 ^ 61) }
+/// Dials a plug that made so many hands, and whether that made another one.
+fn is_dialled(alloc: Global, plug: &mut MemoryPlug, dialled: u64) -> bool
+    requires told { ⟦<MemoryPlug as Plug>⟧.dialled plug.old ≡ Some dialled }
+    requires below { dialled < 2 ^ 61 }
 {
-    matches!(
-        plug.dial(alloc, &Target::InMemory, None, 1),
-        DialAnswer::Dialled(_)
-    )
+    match plug.dial(alloc, &Target::InMemory, None, 1) {
+        DialAnswer::Dialled(_) => true,
+        _ => false,
+    }
 }
 
 fn put_dials(first: bool, second: bool, answers: &mut Answers) -> Result<(), CaseFault> {

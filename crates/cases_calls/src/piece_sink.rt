@@ -1,5 +1,3 @@
-ghost use Rattle.std.specs.Prelude.{◌≤◌};
-
 use outside_api::{MemorySink, Sink, SinkAnswer};
 
 /// A sink in memory that takes at most so many bytes of each piece.
@@ -7,16 +5,12 @@ use outside_api::{MemorySink, Sink, SinkAnswer};
 pub struct PieceSink {
     sink: MemorySink,
     most: usize,
-    ghost takes_some: { 1 ≤ most },
 }
 
 impl PieceSink {
-    /// A sink that takes so much of each piece, at least one byte. No memory.
+    /// A sink that takes so much of each piece, but at least one byte. No memory.
     pub fn new(sink: MemorySink, most: usize) -> PieceSink {
-        PieceSink {
-            sink,
-            most: most.max(1),
-        }
+        PieceSink { sink, most }
     }
 
     /// What was written. No memory.
@@ -31,7 +25,7 @@ impl Sink for PieceSink {
     ghost faults = { λ by_pieces. ⟦<MemorySink as Sink>⟧.faults by_pieces.sink };
 
     fn write(&mut self, piece: &[u8]) -> SinkAnswer {
-        let taken = piece.len().min(self.most);
+        let taken = piece.len().min(self.most.max(1));
         self.sink.write(&piece[..taken])
     }
 }

@@ -1,13 +1,15 @@
+ghost use Rattle.std.specs.Prelude.{◌≡◌, ◌<◌, ◌^◌, Some};
+
 use crate::call_answers::put_call;
-use crate::engines::plug_of;
+use crate::engines::engine_for;
 use crate::files::files_of;
 use crate::scene::{Scene, scene_of};
 use crate::sinks::sink_at;
 use case_files::{Answers, CaseFault, Fields};
 use compose_cli::{Ended, serial_main};
-use engine_hand::MemoryHand;
+use engine_hand::{MemoryHand, MemoryPlug};
 use memory_engine::MemoryEngine;
-use outside_api::MemoryFiles;
+use outside_api::{DialAnswer, Plug, Target};
 use std::alloc::Global;
 use tree_base::List;
 
@@ -20,36 +22,64 @@ pub fn call(alloc: Global, fields: &Fields, answers: &mut Answers) -> Result<(),
 }
 
 /// Makes the call of some fields on the Engine that an earlier call left, unless they have an Engine of their own, and
-/// leaves the Engine where the call made a hand.
+/// leaves the Engine where the call made a hand. Where `no_hand_left` says so, the plug made its one hand before.
 pub fn call_on(
     alloc: Global,
     fields: &Fields,
     engines: &mut List<MemoryEngine>,
     answers: &mut Answers,
 ) -> Result<(), CaseFault> {
+    let used = fields.is_set("no_hand_left")?;
     let scene = scene_of(alloc, fields, "call")?;
-    let mut files = files_of(alloc, fields, scene.directory.as_str())?;
-    call_with(alloc, fields, &scene, &mut files, engines, answers)
+    let engine = engine_for(alloc, fields, engines)?;
+    let mut plug = MemoryPlug::new(engine, 1);
+    if used {
+        call_used(alloc, fields, &scene, &mut plug, engines, answers)
+    } else {
+        call_with(alloc, fields, &scene, &mut plug, 0, engines, answers)
+    }
 }
 
+/// Makes a call with a plug whose one hand was made before.
+fn call_used(
+    alloc: Global,
+    fields: &Fields,
+    scene: &Scene,
+    plug: &mut MemoryPlug,
+    engines: &mut List<MemoryEngine>,
+    answers: &mut Answers,
+) -> Result<(), CaseFault>
+    requires { ⟦<MemoryPlug as Plug>⟧.dialled plug.old ≡ Some 0 }
+{
+    match plug.dial(alloc, &Target::InMemory, None, 0) {
+        DialAnswer::Dialled(_) => call_with(alloc, fields, scene, plug, 1, engines, answers),
+        _ => Err(CaseFault::Memory),
+    }
+}
+
+/// Makes a call with a plug that made so many hands.
 fn call_with(
     alloc: Global,
     fields: &Fields,
     scene: &Scene,
-    files: &mut MemoryFiles,
+    plug: &mut MemoryPlug,
+    dialled: u64,
     engines: &mut List<MemoryEngine>,
     answers: &mut Answers,
-) -> Result<(), CaseFault> {
+) -> Result<(), CaseFault>
+    requires told { ⟦<MemoryPlug as Plug>⟧.dialled plug.old ≡ Some dialled }
+    requires below { dialled < 2 ^ 61 }
+{
+    let mut files = files_of(alloc, fields, scene.directory.as_str())?;
     let mut out = sink_at(alloc, fields, "out_sink")?;
     let mut err = sink_at(alloc, fields, "err_sink")?;
-    let mut plug = plug_of(alloc, fields, engines)?;
     let Scene {
         words,
         env,
         directory,
     } = scene;
     let ended = serial_main(
-        alloc, words, env, directory, files, &mut plug, &mut out, &mut err,
+        alloc, words, env, directory, &mut files, plug, &mut out, &mut err,
     );
     let put = put_call(alloc, fields, scene, &ended, &out, &err, answers);
     leave_engine(ended, engines, put)
