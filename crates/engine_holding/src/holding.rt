@@ -1,5 +1,6 @@
-ghost use Rattle.std.specs.Prelude.{◌≡◌, ◌↔◌, IfSome, IsSome, is_some, true};
+ghost use Rattle.std.specs.Prelude.{◌≡◌, ◌↔◌, IfSome, IsSome, true};
 ghost use Rattle.std.specs.List.{list_all, list_any};
+ghost use Rattle.std.specs.Option.{option_copied};
 ghost use Rattle.std.specs.Str.{bytes_eq};
 ghost use Rattle.run_model.specs.EngineRules.{network_at};
 ghost use Rattle.engine_holding.specs.Holding.{are_apart, are_attached, are_foreign, are_networks, are_told_apart, can_be_held, is_foreign};
@@ -156,18 +157,13 @@ fn are_attached(engine: &Engine) -> bool
 fn are_networks(engine: &Engine, ids: &[Text]) -> bool
     ensures { result ≡ are_networks engine.now ids.now }
 {
-    ids.iter().all(|id| has_network(engine, id))
+    ids.iter().all(|id| network(engine, id).is_some())
 }
 
-fn has_network(engine: &Engine, id: &Text) -> bool
-    ensures { result ≡ is_some (network_at engine.now id.now) }
+fn network<'e>(engine: &'e Engine, id: &Text) -> Option<&'e NetRow>
+    ensures { option_copied result ≡ network_at engine.now id.now }
 {
-    engine
-        .networks
-        .as_slice()
-        .iter()
-        .find(|row| row.id == *id)
-        .is_some()
+    engine.networks.as_slice().iter().find(|row| row.id == *id)
 }
 
 /// Whether no id looks like one that the Engine gives.
