@@ -20,6 +20,8 @@ pub fn say<G: Sink>(alloc: Global, refusal: Refusal, err: &mut G) -> Refusal
         }
         Err(_) => {
             write_all(err, b"compose: memory\n");
+            // By a call, since each variant's drop would be proved at this place.
+            drop(refusal);
             Refusal::Memory
         }
     }
