@@ -5,8 +5,8 @@ ghost use Rattle.run_outcome.specs.Permits.{is_poll};
 use crate::planning::{declared_at, seen_at};
 use case_files::{Answers, CaseFault, Fields};
 use cases_values::{journal_of, plan_of, request_line};
-use engine_types::{Entry, RunFault};
-use refusals::{refusal_line, refusal_of};
+use engine_types::{Declared, Entry, RunFault, Seen};
+use refusals::{Refusal, refusal_line, refusal_of};
 use run_outcome::{Run, fault, report, status};
 use std::alloc::Global;
 
@@ -18,15 +18,43 @@ pub(crate) fn ending(
     answers: &mut Answers,
 ) -> Result<(), CaseFault> {
     let declared = declared_at(alloc, fields)?;
+    ending_of(alloc, fields, &declared, answers)
+}
+
+fn ending_of(
+    alloc: Global,
+    fields: &Fields,
+    declared: &Declared,
+    answers: &mut Answers,
+) -> Result<(), CaseFault> {
     let seen = seen_at(alloc, fields, &declared.project)?;
+    ending_with(alloc, fields, declared, &seen, answers)
+}
+
+fn ending_with(
+    alloc: Global,
+    fields: &Fields,
+    declared: &Declared,
+    seen: &Seen,
+    answers: &mut Answers,
+) -> Result<(), CaseFault> {
     let plan = plan_of(alloc, fields, "plan")?;
-    let journal = journal_of(alloc, fields, "ending")?;
     let run = Run {
-        declared: &declared,
-        seen: &seen,
+        declared,
+        seen,
         plan: &plan,
     };
-    put_end(alloc, &run, journal.as_slice(), answers)
+    ending_by(alloc, fields, &run, answers)
+}
+
+fn ending_by(
+    alloc: Global,
+    fields: &Fields,
+    run: &Run<'_>,
+    answers: &mut Answers,
+) -> Result<(), CaseFault> {
+    let journal = journal_of(alloc, fields, "ending")?;
+    put_end(alloc, run, journal.as_slice(), answers)
 }
 
 fn put_end(
@@ -38,9 +66,19 @@ fn put_end(
     if has_poll(journal) {
         return Err(CaseFault::no_case(alloc, "a journal of one worker has no poll"));
     }
+    let fault = fault(alloc, run, journal)?;
+    let told = put_report(alloc, run, journal, answers);
+    put_fault(alloc, fault, told, answers)
+}
+
+fn put_report(
+    alloc: Global,
+    run: &Run<'_>,
+    journal: &[Entry],
+    answers: &mut Answers,
+) -> Result<(), CaseFault> {
     let said = report(alloc, run, journal)?;
-    answers.put_text("report", said.as_str())?;
-    put_fault(alloc, fault(alloc, run, journal)?, answers)
+    answers.put_text("report", said.as_str())
 }
 
 /// Whether an entry is a poll.
@@ -56,24 +94,59 @@ fn is_poll(entry: &Entry) -> bool
     matches!(entry, Entry::Poll { .. })
 }
 
-/// Puts what a fault says: its status, the request that failed, and its line.
+/// Puts what a fault says, where all before it was put: its status, the request that failed, and its line.
 pub(crate) fn put_fault(
     alloc: Global,
     fault: Option<RunFault>,
+    before: Result<(), CaseFault>,
     answers: &mut Answers,
 ) -> Result<(), CaseFault> {
-    answers.put_number("status", u64::from(status(&fault)))?;
+    let told = match before {
+        Ok(()) => put_facts(alloc, &fault, answers),
+        Err(fault) => Err(fault),
+    };
     match fault {
-        Some(fault) => put_some_fault(alloc, fault, answers),
+        Some(fault) => put_line(alloc, fault, told, answers),
+        None => told,
+    }
+}
+
+/// Puts the status and the request that failed; and that there is no fault, where there is none.
+fn put_facts(
+    alloc: Global,
+    fault: &Option<RunFault>,
+    answers: &mut Answers,
+) -> Result<(), CaseFault> {
+    answers.put_number("status", u64::from(status(fault)))?;
+    match fault {
+        Some(fault) => put_request(alloc, fault, answers),
         None => answers.put_null("fault"),
     }
 }
 
-fn put_some_fault(alloc: Global, fault: RunFault, answers: &mut Answers) -> Result<(), CaseFault> {
-    put_request(alloc, &fault, answers)?;
+/// Puts the line of a fault, where all before it was put.
+fn put_line(
+    alloc: Global,
+    fault: RunFault,
+    told: Result<(), CaseFault>,
+    answers: &mut Answers,
+) -> Result<(), CaseFault> {
     let refusal = refusal_of(fault);
-    let line = refusal_line(alloc, &refusal)?;
-    answers.put_text("fault", line.as_str())
+    match told {
+        Ok(()) => put_refusal_line(alloc, "fault", &refusal, answers),
+        Err(fault) => Err(fault),
+    }
+}
+
+/// Puts the line of a refusal.
+pub(crate) fn put_refusal_line(
+    alloc: Global,
+    name: &str,
+    refusal: &Refusal,
+    answers: &mut Answers,
+) -> Result<(), CaseFault> {
+    let line = refusal_line(alloc, refusal)?;
+    answers.put_text(name, line.as_str())
 }
 
 fn put_request(alloc: Global, fault: &RunFault, answers: &mut Answers) -> Result<(), CaseFault> {

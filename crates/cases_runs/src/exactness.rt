@@ -11,15 +11,25 @@ pub(crate) fn exact(
     fields: &Fields,
     answers: &mut Answers,
 ) -> Result<(), CaseFault> {
-    let declared = match fields.fields("exact")? {
-        Some(fields) => declared_of(alloc, &fields)?,
-        None => return Err(CaseFault::missing(alloc, "exact")),
-    };
-    let engine = match fields.fields("engine")? {
-        Some(fields) => engine_of(alloc, &fields, &declared.project)?,
-        None => return Err(CaseFault::missing(alloc, "engine")),
-    };
-    put_exact(alloc, &declared, &engine, answers)
+    match fields.fields("exact")? {
+        Some(of) => exact_of(alloc, fields, &declared_of(alloc, &of)?, answers),
+        None => Err(CaseFault::missing(alloc, "exact")),
+    }
+}
+
+fn exact_of(
+    alloc: Global,
+    fields: &Fields,
+    declared: &Declared,
+    answers: &mut Answers,
+) -> Result<(), CaseFault> {
+    match fields.fields("engine")? {
+        Some(of) => {
+            let engine = engine_of(alloc, &of, &declared.project)?;
+            put_exact(alloc, declared, &engine, answers)
+        }
+        None => Err(CaseFault::missing(alloc, "engine")),
+    }
 }
 
 fn put_exact(

@@ -3,7 +3,7 @@ use cases_values::{listed_of, slot_of};
 use engine_types::{Declared, Listed, Pairs, Slot};
 use membership::{agrees, has_slot_service, is_of_slot, names_service};
 use std::alloc::Global;
-use tree_base::{List, Text};
+use tree_base::{List, Memory, Text};
 
 /// Whose a container is, by its labels, for a slot of a project whose image has an id: whether it is `of_slot`, `agrees`
 /// with it, `names_service`, and names the service of some slot of a project that declares this one alone,
@@ -16,10 +16,34 @@ pub(crate) fn membership(
     let project = fields.text("project")?;
     let image = fields.text("image")?;
     let row = container_at(alloc, fields, &project)?;
-    let slot = slot_at(alloc, fields, &project)?;
-    put_owner(alloc, &project, &slot, &row.labels, answers)?;
-    put_agreeing(alloc, &project, &slot, &image, &row, answers)?;
-    put_slot_service(alloc, slot, &row.labels, answers)
+    membership_of(alloc, fields, &project, &image, &row, answers)
+}
+
+fn membership_of(
+    alloc: Global,
+    fields: &Fields,
+    project: &Text,
+    image: &Text,
+    row: &Listed,
+    answers: &mut Answers,
+) -> Result<(), CaseFault> {
+    let slot = slot_at(alloc, fields, project)?;
+    let told = put_slot(alloc, project, &slot, image, row, answers);
+    let declared = declared_alone(alloc, slot)?;
+    told?;
+    put_slot_service(&declared, &row.labels, answers)
+}
+
+fn put_slot(
+    alloc: Global,
+    project: &Text,
+    slot: &Slot,
+    image: &Text,
+    row: &Listed,
+    answers: &mut Answers,
+) -> Result<(), CaseFault> {
+    put_owner(alloc, project, slot, &row.labels, answers)?;
+    put_agreeing(alloc, project, slot, image, row, answers)
 }
 
 fn container_at(alloc: Global, fields: &Fields, project: &Text) -> Result<Listed, CaseFault> {
@@ -67,19 +91,22 @@ fn put_agreeing(
     answers.put_flag("agrees", agrees)
 }
 
-fn put_slot_service(
-    alloc: Global,
-    slot: Slot,
-    pairs: &Pairs,
-    answers: &mut Answers,
-) -> Result<(), CaseFault> {
+/// A project that declares this slot alone.
+fn declared_alone(alloc: Global, slot: Slot) -> Result<Declared, Memory> {
     let mut slots = List::new(alloc);
     slots.push(slot)?;
-    let declared = Declared {
+    Ok(Declared {
         project: Text::new(alloc),
         slots,
         networks: List::new(alloc),
         volumes: List::new(alloc),
-    };
-    answers.put_flag("has_slot_service", has_slot_service(&declared, pairs))
+    })
+}
+
+fn put_slot_service(
+    declared: &Declared,
+    pairs: &Pairs,
+    answers: &mut Answers,
+) -> Result<(), CaseFault> {
+    answers.put_flag("has_slot_service", has_slot_service(declared, pairs))
 }

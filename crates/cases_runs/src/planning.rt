@@ -11,9 +11,29 @@ use tree_base::{List, Memory, Text};
 pub(crate) fn plan(alloc: Global, fields: &Fields, answers: &mut Answers) -> Result<(), CaseFault> {
     let aim = aim_of(alloc, fields, "plan")?;
     let declared = declared_at(alloc, fields)?;
+    plan_of(alloc, fields, &declared, aim, answers)
+}
+
+fn plan_of(
+    alloc: Global,
+    fields: &Fields,
+    declared: &Declared,
+    aim: Aim,
+    answers: &mut Answers,
+) -> Result<(), CaseFault> {
     let seen = seen_at(alloc, fields, &declared.project)?;
-    answers.put_texts("kept", kept_ids(alloc, &declared, &seen)?)?;
-    put_plan(alloc, planned(alloc, &declared, &seen, aim), answers)
+    plan_for(alloc, declared, &seen, aim, answers)
+}
+
+fn plan_for(
+    alloc: Global,
+    declared: &Declared,
+    seen: &Seen,
+    aim: Aim,
+    answers: &mut Answers,
+) -> Result<(), CaseFault> {
+    answers.put_texts("kept", kept_ids(alloc, declared, seen)?)?;
+    put_plan(alloc, planned(alloc, declared, seen, aim), answers)
 }
 
 /// What is declared, the empty project where the case doesn't say.

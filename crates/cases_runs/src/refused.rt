@@ -1,8 +1,7 @@
+use crate::ending::put_refusal_line;
 use case_files::{Answers, CaseFault, Fields, text_of};
 use cases_values::run_fault_of;
-use refusals::{
-    LoadRefusal, Part, ProjectRefusal, Refusal, Unbuilt, refusal_line, refusal_of, status_of,
-};
+use refusals::{LoadRefusal, Part, ProjectRefusal, Refusal, Unbuilt, refusal_of, status_of};
 use std::alloc::Global;
 use tree_base::{List, Path, Place, Step, Text, Tree};
 use yaml_lines::{YamlFault, YamlRefusal};
@@ -16,19 +15,31 @@ pub(crate) fn refusal(
     fields: &Fields,
     answers: &mut Answers,
 ) -> Result<(), CaseFault> {
-    let Some(fields) = fields.fields("refusal")? else {
-        return Err(CaseFault::missing(alloc, "refusal"));
-    };
-    if fields.has("none") {
-        return answers.put_number("status", u64::from(status_of(&None)));
+    match fields.fields("refusal")? {
+        Some(fields) => put_refusal(alloc, &refusal_where(alloc, &fields)?, answers),
+        None => Err(CaseFault::missing(alloc, "refusal")),
     }
-    put_refusal(alloc, refusal_by(alloc, &fields)?, answers)
 }
 
-fn put_refusal(alloc: Global, refusal: Refusal, answers: &mut Answers) -> Result<(), CaseFault> {
-    let line = refusal_line(alloc, &refusal)?;
-    answers.put_text("line", line.as_str())?;
-    answers.put_number("status", u64::from(status_of(&Some(refusal))))
+/// The refusal of a mapping, None where it says so.
+fn refusal_where(alloc: Global, fields: &Fields) -> Result<Option<Refusal>, CaseFault> {
+    if fields.has("none") {
+        Ok(None)
+    } else {
+        Ok(Some(refusal_by(alloc, fields)?))
+    }
+}
+
+fn put_refusal(
+    alloc: Global,
+    refusal: &Option<Refusal>,
+    answers: &mut Answers,
+) -> Result<(), CaseFault> {
+    answers.put_number("status", u64::from(status_of(refusal)))?;
+    match refusal {
+        Some(refusal) => put_refusal_line(alloc, "line", refusal, answers),
+        None => Ok(()),
+    }
 }
 
 /// The refusal of a mapping: that of a run's fault, else one of its own.

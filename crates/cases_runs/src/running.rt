@@ -5,7 +5,7 @@ use crate::whole::is_serial;
 use case_files::{Answers, CaseFault, Fields};
 use cases_values::{engine_lines, exchange_lines, journal_lines};
 use engine_hand::MemoryHand;
-use engine_types::Declared;
+use engine_types::{Declared, Entry};
 use project_run::{Aim, Ran, run_project};
 use std::alloc::Global;
 use world_laws::exact;
@@ -16,13 +16,33 @@ use world_laws::exact;
 pub(crate) fn run(alloc: Global, fields: &Fields, answers: &mut Answers) -> Result<(), CaseFault> {
     let aim = aim_of(alloc, fields, "run")?;
     let declared = declared_at(alloc, fields)?;
+    run_of(alloc, fields, &declared, aim, answers)
+}
+
+fn run_of(
+    alloc: Global,
+    fields: &Fields,
+    declared: &Declared,
+    aim: Aim,
+    answers: &mut Answers,
+) -> Result<(), CaseFault> {
     let memory = memory_at(alloc, fields, &declared.project)?;
     let mut hand = MemoryHand::new(alloc, memory);
-    match run_with(alloc, &mut hand, &declared, aim) {
+    run_on(alloc, &mut hand, declared, aim, answers)
+}
+
+fn run_on(
+    alloc: Global,
+    hand: &mut MemoryHand,
+    declared: &Declared,
+    aim: Aim,
+    answers: &mut Answers,
+) -> Result<(), CaseFault> {
+    match run_with(alloc, hand, declared, aim) {
         Some(ran) => put_ran(alloc, ran, answers)?,
         None => return answers.refuse("the declared set is not whole, or a slot needs another"),
     }
-    put_hand(alloc, &hand, &declared, aim, answers)
+    put_hand(alloc, hand, declared, aim, answers)
 }
 
 /// The run, where the declared set is one that a single worker can carry out.
@@ -40,9 +60,18 @@ fn put_ran(alloc: Global, ran: Ran, answers: &mut Answers) -> Result<(), CaseFau
         report,
         fault,
     } = ran;
-    answers.put_texts("journal", journal_lines(alloc, journal.as_slice())?)?;
-    answers.put_text("report", report.as_str())?;
-    put_fault(alloc, fault, answers)
+    let told = put_told(alloc, journal.as_slice(), report.as_str(), answers);
+    put_fault(alloc, fault, told, answers)
+}
+
+fn put_told(
+    alloc: Global,
+    journal: &[Entry],
+    report: &str,
+    answers: &mut Answers,
+) -> Result<(), CaseFault> {
+    answers.put_texts("journal", journal_lines(alloc, journal)?)?;
+    answers.put_text("report", report)
 }
 
 fn put_hand(

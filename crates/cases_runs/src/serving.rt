@@ -12,7 +12,16 @@ pub(crate) fn serve(
     answers: &mut Answers,
 ) -> Result<(), CaseFault> {
     let mut memory = memory_at(alloc, fields, &Text::new(alloc))?;
-    let replies = replies_of(alloc, &mut memory, fields.items("serve")?)?;
+    serve_on(alloc, fields, &mut memory, answers)
+}
+
+fn serve_on(
+    alloc: Global,
+    fields: &Fields,
+    memory: &mut MemoryEngine,
+    answers: &mut Answers,
+) -> Result<(), CaseFault> {
+    let replies = replies_of(alloc, memory, fields.items("serve")?)?;
     answers.put_texts("replies", replies)?;
     answers.put_texts("after", engine_lines(alloc, &memory.engine)?)?;
     answers.put_number("left", memory.script.len() as u64)
