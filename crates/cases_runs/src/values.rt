@@ -1,9 +1,9 @@
 use case_files::{Answers, CaseFault, Fields};
 use cases_values::{outcome_line, outcome_of, pairs_of, request_line, request_of};
-use engine_types::label;
+use engine_types::{Outcome, Request, label};
 use run_model::Verdict;
 use std::alloc::Global;
-use tree_base::{Text, TryCopy};
+use tree_base::{Memory, Text, TryCopy};
 
 /// The inputs of a call on single values.
 pub(crate) fn inputs_of(call: &str) -> Option<&'static [&'static str]> {
@@ -44,22 +44,45 @@ fn label_value(alloc: Global, fields: &Fields, answers: &mut Answers) -> Result<
 
 /// The copy of a request: its line, and whether the request has that line too, `same`.
 fn copy_request(alloc: Global, fields: &Fields, answers: &mut Answers) -> Result<(), CaseFault> {
-    let request = request_of(alloc, fields.text("copy_request")?.as_str())?;
+    let line = fields.text("copy_request")?;
+    let request = request_of(alloc, line.as_str())?;
+    put_copied(
+        copied_request(alloc, &request),
+        request_line(alloc, &request),
+        answers,
+    )
+}
+
+fn copied_request(alloc: Global, request: &Request) -> Result<Text, Memory> {
     let copy = request.copy(alloc)?;
-    let line = request_line(alloc, &copy)?;
-    answers.put_text("copied", line.as_str())?;
-    let copied = request_line(alloc, &request)?;
-    answers.put_flag("same", line == copied)
+    request_line(alloc, &copy)
 }
 
 /// The copy of what came of a request: its line, and whether what it copies has that line too, `same`.
 fn copy_outcome(alloc: Global, fields: &Fields, answers: &mut Answers) -> Result<(), CaseFault> {
-    let outcome = outcome_of(alloc, fields.text("copy_outcome")?.as_str())?;
+    let line = fields.text("copy_outcome")?;
+    let outcome = outcome_of(alloc, line.as_str())?;
+    put_copied(
+        copied_outcome(alloc, &outcome),
+        outcome_line(alloc, &outcome),
+        answers,
+    )
+}
+
+fn copied_outcome(alloc: Global, outcome: &Outcome) -> Result<Text, Memory> {
     let copy = outcome.copy(alloc)?;
-    let line = outcome_line(alloc, &copy)?;
-    answers.put_text("copied", line.as_str())?;
-    let copied = outcome_line(alloc, &outcome)?;
-    answers.put_flag("same", line == copied)
+    outcome_line(alloc, &copy)
+}
+
+/// Puts the line of a copy, and whether what it copies has that line too.
+fn put_copied(
+    copied: Result<Text, Memory>,
+    line: Result<Text, Memory>,
+    answers: &mut Answers,
+) -> Result<(), CaseFault> {
+    let copied = copied?;
+    answers.put_text("copied", copied.as_str())?;
+    answers.put_flag("same", line? == copied)
 }
 
 /// Whether two verdicts are the `same`.
