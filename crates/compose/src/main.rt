@@ -31,7 +31,10 @@ fn run(rt: &HostRuntime) -> Result<u8, Memory> {
     let ended = serial_main(
         alloc, &words, &variables, &directory, &mut files, &mut plug, &mut out, &mut err,
     );
-    Ok(ended.status)
+    let status = ended.status;
+    // By a call, since the drop of each variant of a refusal would be proved at this place.
+    drop(ended);
+    Ok(status)
 }
 
 /// The words of the command line after the program's name.
