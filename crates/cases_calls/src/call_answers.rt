@@ -64,7 +64,10 @@ fn is_exact(
     let mut files = sound_files_of(alloc, fields, scene.directory.as_str())?;
     match load(alloc, &scene.words, &scene.directory, &mut files) {
         Ok(project) => Ok(Some(holds(alloc, &project, engine, goes_for_orphans(scene))?)),
-        Err(_) => Ok(None),
+        Err(refusal) => {
+            drop(refusal);
+            Ok(None)
+        }
     }
 }
 

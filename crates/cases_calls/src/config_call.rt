@@ -51,7 +51,9 @@ fn print_from(
         directory,
     } = scene;
     let end = config_run(alloc, words, env, directory, files, &mut out, &mut err);
-    put_ended(end.status, &out, &err, answers)
+    let status = end.status;
+    drop(end);
+    put_ended(status, &out, &err, answers)
 }
 
 /// Puts the exit status of a call and what its sinks took.

@@ -2,7 +2,7 @@ use case_files::{CaseFault, Fields, text_of};
 use cases_values::{memory_engine_of, request_of};
 use memory_engine::MemoryEngine;
 use std::alloc::Global;
-use tree_base::{List, Text, Tree};
+use tree_base::{List, Memory, Text, Tree};
 
 /// The Engine of the field `engine`, whose containers are those of the project `shop` where they name no other; a
 /// fresh one where the field isn't there.
@@ -40,7 +40,10 @@ fn served(
 ) -> Result<MemoryEngine, CaseFault> {
     match serve_each(alloc, fields, &mut engine) {
         Ok(()) => Ok(engine),
-        Err(fault) => Err(fault),
+        Err(fault) => {
+            drop(engine);
+            Err(fault)
+        }
     }
 }
 
@@ -54,6 +57,13 @@ fn serve_each(alloc: Global, fields: &Fields, engine: &mut MemoryEngine) -> Resu
 fn serve(alloc: Global, tree: &Tree, engine: &mut MemoryEngine) -> Result<(), CaseFault> {
     let line = text_of(alloc, tree, "served")?;
     let request = request_of(alloc, line.as_str())?;
-    let _ = engine.serve(alloc, &request)?;
-    Ok(())
+    let served = engine.serve(alloc, &request);
+    drop(request);
+    match served {
+        Ok(reply) => {
+            drop(reply);
+            Ok(())
+        }
+        Err(Memory) => Err(CaseFault::Memory),
+    }
 }

@@ -32,7 +32,8 @@ fn exchange_each(alloc: Global, fields: &Fields, unused: &mut UnusedHand) -> Res
     for tree in fields.items("hand")? {
         let line = text_of(alloc, tree, "hand")?;
         let request = request_of(alloc, line.as_str())?;
-        let _ = unused.hand.exchange(alloc, request);
+        let outcome = unused.hand.exchange(alloc, request);
+        drop(outcome);
     }
     Ok(())
 }
@@ -50,6 +51,7 @@ fn put_hand(
     let asked = hand.asked();
     let put = put_clock(now, asked, answers);
     let said = put_exchanges(alloc, &hand, answers);
+    drop(hand);
     exchanged.and(put).and(said)
 }
 
@@ -145,7 +147,10 @@ pub fn plug(alloc: Global, fields: &Fields, answers: &mut Answers) -> Result<(),
     let engine = engine_at(alloc, fields)?;
     let mut plug = MemoryPlug::new(engine, 1);
     match plug.dial(alloc, &Target::InMemory, None, 0) {
-        DialAnswer::Dialled(_) => put_dials(true, is_dialled(alloc, &mut plug, 1), answers),
+        DialAnswer::Dialled(hand) => {
+            drop(hand);
+            put_dials(true, is_dialled(alloc, &mut plug, 1), answers)
+        }
         _ => put_dials(false, false, answers),
     }
 }

@@ -33,7 +33,9 @@ pub fn say(alloc: Global, fields: &Fields, answers: &mut Answers) -> Result<(), 
     match refusal_in(fields.find("say")) {
         Some(refusal) => {
             let said = Some(text_output::say(alloc, refusal, &mut sink));
-            put_said(&said, &sink, answers)
+            let put = put_said(&said, &sink, answers);
+            drop(said);
+            put
         }
         None => Err(CaseFault::wants(alloc, "say", "a refusal")),
     }
@@ -43,7 +45,9 @@ pub fn say(alloc: Global, fields: &Fields, answers: &mut Answers) -> Result<(), 
 pub fn say_if_any(alloc: Global, fields: &Fields, answers: &mut Answers) -> Result<(), CaseFault> {
     let mut sink = sink_of(alloc, fields)?;
     let said = text_output::say_if_any(alloc, refusal_in(fields.find("say_if_any")), &mut sink);
-    put_said(&said, &sink, answers)
+    let put = put_said(&said, &sink, answers);
+    drop(said);
+    put
 }
 
 /// The refusal with a name; None where there is none of this name. No memory.

@@ -52,7 +52,10 @@ fn call_used(
     requires { ⟦<MemoryPlug as Plug>⟧.dialled plug.old ≡ Some 0 }
 {
     match plug.dial(alloc, &Target::InMemory, None, 0) {
-        DialAnswer::Dialled(_) => call_with(alloc, fields, scene, plug, 1, engines, answers),
+        DialAnswer::Dialled(hand) => {
+            drop(hand);
+            call_with(alloc, fields, scene, plug, 1, engines, answers)
+        }
         _ => Err(CaseFault::Memory),
     }
 }
@@ -91,7 +94,14 @@ fn leave_engine(
     engines: &mut List<MemoryEngine>,
     put: Result<(), CaseFault>,
 ) -> Result<(), CaseFault> {
-    let Ended { mut hands, .. } = ended;
+    let Ended {
+        mut hands,
+        journal,
+        refusal,
+        ..
+    } = ended;
+    drop(journal);
+    drop(refusal);
     match hands.pop() {
         Some(MemoryHand { engine, .. }) => engines.push(engine)?,
         None => (),
