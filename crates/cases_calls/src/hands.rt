@@ -161,7 +161,10 @@ fn is_dialled(alloc: Global, plug: &mut MemoryPlug, dialled: u64) -> bool
     requires below { dialled < 2 ^ 61 }
 {
     match plug.dial(alloc, &Target::InMemory, None, 1) {
-        DialAnswer::Dialled(_) => true,
+        DialAnswer::Dialled(hand) => {
+            drop(hand);
+            true
+        }
         _ => false,
     }
 }
