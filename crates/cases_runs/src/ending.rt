@@ -132,10 +132,12 @@ fn put_line(
     answers: &mut Answers,
 ) -> Result<(), CaseFault> {
     let refusal = refusal_of(fault);
-    match told {
+    let put = match told {
         Ok(()) => put_refusal_line(alloc, "fault", &refusal, answers),
         Err(fault) => Err(fault),
-    }
+    };
+    drop(refusal);
+    put
 }
 
 /// Puts the line of a refusal.

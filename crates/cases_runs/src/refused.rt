@@ -16,7 +16,12 @@ pub(crate) fn refusal(
     answers: &mut Answers,
 ) -> Result<(), CaseFault> {
     match fields.fields("refusal")? {
-        Some(fields) => put_refusal(alloc, &refusal_where(alloc, &fields)?, answers),
+        Some(fields) => {
+            let refusal = refusal_where(alloc, &fields)?;
+            let put = put_refusal(alloc, &refusal, answers);
+            drop(refusal);
+            put
+        }
         None => Err(CaseFault::missing(alloc, "refusal")),
     }
 }

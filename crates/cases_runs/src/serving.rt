@@ -59,8 +59,14 @@ fn reply_to(alloc: Global, memory: &mut MemoryEngine, line: &str) -> Result<Text
         return Ok(Text::from_str(alloc, "ticked")?);
     }
     let request = request_of(alloc, line)?;
-    match memory.serve(alloc, &request) {
-        Ok(reply) => Ok(reply_line(alloc, &reply)?),
+    let served = memory.serve(alloc, &request);
+    drop(request);
+    match served {
+        Ok(reply) => {
+            let line = reply_line(alloc, &reply);
+            drop(reply);
+            Ok(line?)
+        }
         Err(Memory) => Ok(Text::from_str(alloc, "memory")?),
     }
 }

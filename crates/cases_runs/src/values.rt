@@ -46,32 +46,34 @@ fn label_value(alloc: Global, fields: &Fields, answers: &mut Answers) -> Result<
 fn copy_request(alloc: Global, fields: &Fields, answers: &mut Answers) -> Result<(), CaseFault> {
     let line = fields.text("copy_request")?;
     let request = request_of(alloc, line.as_str())?;
-    put_copied(
-        copied_request(alloc, &request),
-        request_line(alloc, &request),
-        answers,
-    )
+    let copied = copied_request(alloc, &request);
+    let line = request_line(alloc, &request);
+    drop(request);
+    put_copied(copied, line, answers)
 }
 
 fn copied_request(alloc: Global, request: &Request) -> Result<Text, Memory> {
     let copy = request.copy(alloc)?;
-    request_line(alloc, &copy)
+    let line = request_line(alloc, &copy);
+    drop(copy);
+    line
 }
 
 /// The copy of what came of a request: its line, and whether what it copies has that line too, `same`.
 fn copy_outcome(alloc: Global, fields: &Fields, answers: &mut Answers) -> Result<(), CaseFault> {
     let line = fields.text("copy_outcome")?;
     let outcome = outcome_of(alloc, line.as_str())?;
-    put_copied(
-        copied_outcome(alloc, &outcome),
-        outcome_line(alloc, &outcome),
-        answers,
-    )
+    let copied = copied_outcome(alloc, &outcome);
+    let line = outcome_line(alloc, &outcome);
+    drop(outcome);
+    put_copied(copied, line, answers)
 }
 
 fn copied_outcome(alloc: Global, outcome: &Outcome) -> Result<Text, Memory> {
     let copy = outcome.copy(alloc)?;
-    outcome_line(alloc, &copy)
+    let line = outcome_line(alloc, &copy);
+    drop(copy);
+    line
 }
 
 /// Puts the line of a copy, and whether what it copies has that line too.
