@@ -11,7 +11,7 @@ use engine_hand::{MemoryHand, MemoryPlug};
 use memory_engine::MemoryEngine;
 use outside_api::{DialAnswer, Plug, Target};
 use std::alloc::Global;
-use tree_base::List;
+use tree_base::{List, Memory};
 
 /// Makes a whole call on an Engine in memory: `status` has its exit status, `out` and `err` what was written, `journal`
 /// the entries of its journal, `hands` how many hands it made, `exchanges` what they exchanged, `exact` whether the
@@ -95,16 +95,32 @@ fn leave_engine(
     put: Result<(), CaseFault>,
 ) -> Result<(), CaseFault> {
     let Ended {
-        mut hands,
+        hands,
         journal,
         refusal,
         ..
     } = ended;
     drop(journal);
     drop(refusal);
-    match hands.pop() {
-        Some(MemoryHand { engine, .. }) => engines.push(engine)?,
-        None => (),
+    match engine_in(hands) {
+        Some(engine) => keep_engine(engine, engines, put),
+        None => put,
     }
-    put
+}
+
+/// The Engine of the last hand.
+fn engine_in(mut hands: List<MemoryHand>) -> Option<MemoryEngine> {
+    let MemoryHand { engine, .. } = hands.pop()?;
+    Some(engine)
+}
+
+fn keep_engine(
+    engine: MemoryEngine,
+    engines: &mut List<MemoryEngine>,
+    put: Result<(), CaseFault>,
+) -> Result<(), CaseFault> {
+    match engines.push(engine) {
+        Ok(()) => put,
+        Err(Memory) => Err(CaseFault::Memory),
+    }
 }
