@@ -1,3 +1,4 @@
 pub mod boxed
 pub mod list
+pub mod shared
 pub mod text_map

@@ -15,7 +15,7 @@ impl Tree {
                 _ => false,
             },
             Tree::Map(entries) => match other {
-                Tree::Map(others) => Tree::same_entries(entries, others),
+                Tree::Map(others) => Tree::same_entries(entries.get(), others.get()),
                 _ => false,
             },
             Tree::Seq(items) => match other {

@@ -4,6 +4,7 @@ ghost use Rattle.std.specs.Option.{option_copied};
 use crate::boxed::Boxed;
 use crate::list::{List, item_at};
 use crate::memory::Memory;
+use crate::shared::Shared;
 use crate::text::Text;
 use crate::text_map::TextMap;
 use std::alloc::Global;
@@ -23,54 +24,50 @@ pub enum Step {
 pub type Path = List<Step>;
 
 /// A tree of text, as a YAML text spells it. `Reset` and `Override` are the Compose Specification's marks
-/// `!reset` and `!override`, which merging takes away.
+/// `!reset` and `!override`, which merging takes away. Several trees may hold one mapping or sequence, which stands
+/// in memory once.
 #[derive(Drop)]
 pub enum Tree {
     Null,
     Scalar(Text),
-    Map(Map),
-    Seq(List<Tree>),
+    Map(Shared<Map>),
+    Seq(Shared<List<Tree>>),
     Reset,
     Override(Boxed<Tree>),
 }
 
 impl Tree {
     ghost use Rattle.tree_base.specs.Paths.{child_at, tree_at, unmarked};
+    ghost use Rattle.tree_base.specs.declared.tree.Tree.{Tree};
 
-    /// A copy, which equals the tree.
-    #[cycle(copy)]
+    /// The mapping of entries.
+    pub fn mapping(alloc: Global, entries: Map) -> Result<Tree, Memory>
+        ensures { IfOk result (λ t. t ≡ Tree.Map entries) }
+    {
+        Ok(Tree::Map(Shared::new(alloc, entries)?))
+    }
+
+    /// The sequence of items.
+    pub fn sequence(alloc: Global, items: List<Tree>) -> Result<Tree, Memory>
+        ensures { IfOk result (λ t. t ≡ Tree.Seq items) }
+    {
+        Ok(Tree::Seq(Shared::new(alloc, items)?))
+    }
+
+    /// A tree that equals this one: it holds the same mapping or sequence, and a copy of a scalar's text.
     pub fn copy(&self, alloc: Global) -> Result<Tree, Memory>
         ensures { IfOk result (λ t. t ≡ self.now) }
     {
         match self {
             Tree::Null => Ok(Tree::Null),
             Tree::Scalar(text) => Ok(Tree::Scalar(text.copy(alloc)?)),
-            Tree::Map(entries) => Ok(Tree::Map(Tree::copy_entries(entries, alloc)?)),
-            Tree::Seq(items) => Ok(Tree::Seq(Tree::copy_all(items.as_slice(), alloc)?)),
+            Tree::Map(entries) => Ok(Tree::Map(entries.share()?)),
+            Tree::Seq(items) => Ok(Tree::Seq(items.share()?)),
             Tree::Reset => Ok(Tree::Reset),
             Tree::Override(inner) => {
                 Ok(Tree::Override(Boxed::new(alloc, inner.get().copy(alloc)?)?))
             }
         }
-    }
-
-    #[cycle(copy)]
-    fn copy_all(items: &[Tree], alloc: Global) -> Result<List<Tree>, Memory>
-        ensures { IfOk result (λ l. l ≡ items.now) }
-    {
-        let mut copies = List::new(alloc);
-        for item in items {
-            copies.push(item.copy(alloc)?)?;
-        }
-        Ok(copies)
-    }
-
-    #[cycle(copy)]
-    fn copy_entries(entries: &Map, alloc: Global) -> Result<Map, Memory>
-        ensures { IfOk result (λ m. m ≡ entries.now) }
-    {
-        let values = Tree::copy_all(entries.values(), alloc)?;
-        entries.with_values(alloc, values)
     }
 
     /// The tree below the marks `!override` at its root. No memory.
@@ -90,7 +87,7 @@ impl Tree {
     {
         match step {
             Step::Key(key) => match self.unmarked() {
-                Tree::Map(entries) => entries.get(key),
+                Tree::Map(entries) => entries.get().get(key),
                 _ => None,
             },
             Step::Index(at) => match self.unmarked() {

@@ -3,6 +3,7 @@ ghost use Rattle.std.specs.Prelude.{◌≡◌, IfOk};
 use crate::boxed::Boxed;
 use crate::list::List;
 use crate::memory::Memory;
+use crate::shared::Shared;
 use crate::text::Text;
 use crate::text_map::TextMap;
 use crate::tree::{Step, Tree};
@@ -10,7 +11,7 @@ use std::alloc::Global;
 
 /// What can be copied where there is memory. A copy equals the value that it copies.
 pub trait TryCopy {
-    /// A copy with memory of its own.
+    /// A copy. What is `Shared` in it gets one more owner, and the rest has memory of its own.
     fn copy(&self, alloc: Global) -> Result<Self, Memory>
         ensures { IfOk result (λ c. c ≡ self.now) };
 }
@@ -85,6 +86,12 @@ impl<T: TryCopy + Drop> TryCopy for Boxed<T> {
     fn copy(&self, alloc: Global) -> Result<Boxed<T>, Memory> {
         let copy = self.get().copy(alloc)?;
         Boxed::new(alloc, copy)
+    }
+}
+
+impl<T: Drop> TryCopy for Shared<T> {
+    fn copy(&self, _: Global) -> Result<Shared<T>, Memory> {
+        self.share()
     }
 }
 
