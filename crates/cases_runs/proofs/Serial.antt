@@ -7,8 +7,8 @@ use Rattle.engine_types.specs.declared.Declared.{Declared}
 use Rattle.engine_types.specs.declared.Need.{Need}
 use Rattle.engine_types.specs.declared.Slot.{Slot}
 use Rattle.run_model.specs.EngineRules.{Among}
-use Rattle.run_model.specs.Plans.{IsAscending, IsWhole, is_running, is_slot_before}
-use Rattle.run_model.specs.Tests.{is_before}
+use Rattle.run_model.specs.Plans.{IsWhole, is_running, is_slot_before}
+use Rattle.tree_base.specs.ByteOrder.{IsAscending, is_before}
 use Rattle.serial_run.proofs.Lists.{all_each}
 use Rattle.serial_run.specs.Serial.{NeedsNoSlot}
 use Rattle.cases_runs.specs.Whole.{are_attached, is_ascending, is_attached, is_nil, is_serial, need_nothing}

@@ -5,7 +5,7 @@ use Rattle.engine_types.specs.declared.Declared.{Declared}
 use Rattle.engine_types.specs.declared.NetworkSpec.{NetworkSpec}
 use Rattle.engine_types.specs.declared.Slot.{Slot}
 use Rattle.run_model.specs.Plans.{is_slot_before}
-use Rattle.run_model.specs.Tests.{is_before}
+use Rattle.tree_base.specs.ByteOrder.{is_before}
 
 -- whether each element stands before all later ones
 abbrev pub is_ascending : {X : Type 0} → (X → X → Bool) → List X → Bool

@@ -6,8 +6,8 @@ use crate::planning::{declared_at, seen_at};
 use case_files::{Answers, CaseFault, Fields};
 use cases_values::{journal_of, plan_of, request_line};
 use engine_types::{Declared, Entry, RunFault, Seen};
-use refusals::{Refusal, refusal_line, refusal_of};
-use run_outcome::{Run, fault, report, status};
+use refusals::{Refusal, refusal_line, refusal_of, refusal_status};
+use run_outcome::{Run, fault, report};
 use std::alloc::Global;
 
 /// What a journal of a plan for what is declared and seen ends with: its `status`, its `report`, the line of its `fault`
@@ -101,43 +101,43 @@ pub(crate) fn put_fault(
     before: Result<(), CaseFault>,
     answers: &mut Answers,
 ) -> Result<(), CaseFault> {
-    let told = match before {
-        Ok(()) => put_facts(alloc, &fault, answers),
-        Err(fault) => Err(fault),
-    };
     match fault {
-        Some(fault) => put_line(alloc, fault, told, answers),
-        None => told,
+        Some(fault) => put_failure(alloc, fault, before, answers),
+        None => put_success(before, answers),
     }
 }
 
-/// Puts the status and the request that failed; and that there is no fault, where there is none.
-fn put_facts(
-    alloc: Global,
-    fault: &Option<RunFault>,
-    answers: &mut Answers,
-) -> Result<(), CaseFault> {
-    answers.put_number("status", u64::from(status(fault)))?;
-    match fault {
-        Some(fault) => put_request(alloc, fault, answers),
-        None => answers.put_null("fault"),
-    }
+/// Puts that there is no fault, where all before it was put.
+fn put_success(before: Result<(), CaseFault>, answers: &mut Answers) -> Result<(), CaseFault> {
+    before?;
+    answers.put_number("status", 0)?;
+    answers.put_null("fault")
 }
 
-/// Puts the line of a fault, where all before it was put.
-fn put_line(
+/// Puts what a fault says, where all before it was put.
+fn put_failure(
     alloc: Global,
     fault: RunFault,
-    told: Result<(), CaseFault>,
+    before: Result<(), CaseFault>,
     answers: &mut Answers,
 ) -> Result<(), CaseFault> {
+    let told = match before {
+        Ok(()) => put_request(alloc, &fault, answers),
+        Err(fault) => Err(fault),
+    };
     let refusal = refusal_of(fault);
     let put = match told {
-        Ok(()) => put_refusal_line(alloc, "fault", &refusal, answers),
+        Ok(()) => put_refusal(alloc, &refusal, answers),
         Err(fault) => Err(fault),
     };
     drop(refusal);
     put
+}
+
+/// Puts the status and the line of a refusal.
+fn put_refusal(alloc: Global, refusal: &Refusal, answers: &mut Answers) -> Result<(), CaseFault> {
+    answers.put_number("status", u64::from(refusal_status(refusal)))?;
+    put_refusal_line(alloc, "fault", refusal, answers)
 }
 
 /// Puts the line of a refusal.

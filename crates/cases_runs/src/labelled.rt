@@ -1,7 +1,7 @@
 use case_files::{Answers, CaseFault, Fields};
 use cases_values::{listed_of, slot_of};
 use engine_types::{Declared, Listed, Pairs, Slot};
-use membership::{agrees, has_slot_service, is_of_slot, names_service};
+use run_lookups::{agrees, has_slot_service, is_of_slot, names_service};
 use std::alloc::Global;
 use tree_base::{List, Memory, Text};
 

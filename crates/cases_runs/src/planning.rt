@@ -1,7 +1,8 @@
 use case_files::{Answers, CaseFault, Fields};
 use cases_values::{declared_of, plan_lines, purpose_of, seen_of};
 use engine_types::{Declared, Plan, Purpose, Seen};
-use plan_core::{PlanRefusal, kept_of, plan_down, plan_up};
+use plan_core::{PlanRefusal, plan_down, plan_up};
+use run_lookups::kept_of;
 use serial_run::Aim;
 use std::alloc::Global;
 use tree_base::{List, Memory, Text};

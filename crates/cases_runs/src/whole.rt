@@ -2,7 +2,7 @@ ghost use Rattle.std.specs.Prelude.{◌≡◌, true};
 ghost use Rattle.std.specs.List.{list_all};
 ghost use Rattle.run_model.specs.Plans.{IsWhole, is_slot_before};
 ghost use Rattle.serial_run.specs.Serial.{NeedsNoSlot};
-ghost use Rattle.run_model.specs.Tests.{is_before};
+ghost use Rattle.tree_base.specs.ByteOrder.{is_before};
 ghost use Rattle.cases_runs.specs.Whole.{are_attached, is_ascending, is_attached, is_nil, is_serial, need_nothing};
 
 use engine_types::{Declared, NetworkSpec, Slot, VolumeSpec};

@@ -14,7 +14,7 @@ use Rattle.std.specs.Str.{bytes_eq}
 use Rattle.config_command.specs.ProjectPages.{entry_of, service_node}
 use Rattle.plain_services.specs.Projects.{IsInOrder}
 use Rattle.plain_services.specs.declared.PlainService.{PlainService}
-use Rattle.run_model.specs.Tests.{is_before}
+use Rattle.tree_base.specs.ByteOrder.{is_before}
 use Rattle.tree_base.proofs.Pairs.{put-next}
 use Rattle.tree_base.specs.Entries.{with_entry}
 

@@ -15,7 +15,8 @@ use Rattle.plain_services.specs.declared.PlainService.{PlainService}
 use Rattle.plain_services.specs.declared.Project.{Project}
 use Rattle.run_model.specs.EngineRules.{Among, endpoints_of, has_label}
 use Rattle.run_model.specs.Labels.{is_of_slot}
-use Rattle.run_model.specs.Plans.{IsAscending, IsWhole, is_slot_before, network_name}
+use Rattle.run_model.specs.Plans.{IsWhole, is_slot_before, network_name}
+use Rattle.tree_base.specs.ByteOrder.{IsAscending}
 
 same_text : (t : List ℕ) → bytes_eq t t ≡ true
 same_text t = (bytes_eq-Decides t t).1 refl

@@ -1,10 +1,10 @@
 ghost use Rattle.std.specs.Prelude.{◌≡◌, IfOk, OnErr};
-ghost use Rattle.run_model.specs.EngineRules.{can_start as can_start_from, has_test as has_health_test};
-ghost use Rattle.run_model.specs.EngineRules.{is_live as is_live_state, is_started as is_started_state, started_row};
+ghost use Rattle.run_model.specs.EngineRules.{can_start as can_start_from, has_test as has_health_test, is_started as is_started_state, started_row};
 ghost use Rattle.memory_engine.specs.Serving.{inspected, started, stopped, removed};
 
 use crate::{look_ups, refusals, rows};
 use engine_types::{ContainerRow, ContainerSpec, ContainerState, Engine, Health, Reply, Report};
+use run_lookups::is_live;
 use std::alloc::Global;
 use tree_base::{Memory, Text};
 
@@ -103,16 +103,6 @@ fn has_test(spec: &ContainerSpec) -> bool
     match test.as_slice() {
         [] => false,
         [first, ..] => first.as_str() != "NONE",
-    }
-}
-
-/// Whether a container is running, paused or restarting.
-fn is_live(state: ContainerState) -> bool
-    ensures { result ≡ is_live_state state }
-{
-    match state {
-        ContainerState::Running | ContainerState::Paused | ContainerState::Restarting => true,
-        _ => false,
     }
 }
 

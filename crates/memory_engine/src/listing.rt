@@ -1,9 +1,9 @@
 ghost use Rattle.std.specs.Prelude.{◌≡◌, ◌≤◌, IfOk, insert, length};
-ghost use Rattle.run_model.specs.EngineRules.{has_label as has_label_value, is_of_project};
 ghost use Rattle.memory_engine.specs.Listing.{listed_row, listing, network_names, with_name};
 
 use crate::look_ups;
-use engine_types::{ContainerRow, Engine, Listed, Pairs, Reply, label, labels};
+use engine_types::{ContainerRow, Engine, Listed, Reply};
+use run_lookups::is_of_project;
 use std::alloc::Global;
 use std::cmp::Ordering;
 use tree_base::{List, Memory, Text, TryCopy};
@@ -14,25 +14,11 @@ pub fn list(alloc: Global, engine: &Engine, project: &Text) -> Result<Reply, Mem
 {
     let mut rows = List::new(alloc);
     for row in engine.containers.as_slice() {
-        if is_of(&row.labels, project) {
+        if is_of_project(project, &row.labels) {
             rows.push(listed(alloc, engine, row)?)?;
         }
     }
     Ok(Reply::Containers(rows))
-}
-
-/// Whether labels are those of a container of a project.
-fn is_of(pairs: &Pairs, project: &Text) -> bool
-    ensures { result ≡ is_of_project project.now pairs.now }
-{
-    has_label(pairs, labels::PROJECT, project.as_str())
-        && has_label(pairs, labels::ONEOFF, labels::NOT_ONEOFF)
-}
-
-fn has_label(pairs: &Pairs, name: &str, value: &str) -> bool
-    ensures { result ≡ has_label_value pairs.now name.now value.now }
-{
-    label(pairs, name).is_some_and(|own| value == own.as_str())
 }
 
 /// A container as the listing shows it.

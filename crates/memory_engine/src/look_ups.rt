@@ -2,8 +2,7 @@ ghost use Rattle.std.specs.Prelude.{◌≡◌, find};
 ghost use Rattle.std.specs.List.{list_any};
 ghost use Rattle.std.specs.Option.{option_copied};
 ghost use Rattle.std.specs.Str.{bytes_eq};
-ghost use Rattle.run_model.specs.EngineRules.{container_at, has_container_named, has_network_named};
-ghost use Rattle.run_model.specs.EngineRules.{has_volume, is_on, network_at};
+ghost use Rattle.run_model.specs.EngineRules.{container_at, has_container_named, has_network_named, has_volume, is_on, network_at};
 
 use engine_types::{ContainerRow, Engine, ImageRow, NetRow};
 use tree_base::Text;

@@ -16,7 +16,7 @@ use Rattle.engine_types.specs.declared.SeenFault.{SeenFault}
 use Rattle.engine_types.specs.declared.VolumeSpec.{VolumeSpec}
 use Rattle.run_model.specs.EngineRules.{has_label}
 use Rattle.run_model.specs.Observation.{Ends, after_judging, first_in, is_up, judging, listing_fault, network_fault, volume_fault}
-use Rattle.run_model.specs.Tests.{by_key}
+use Rattle.tree_base.specs.ByteOrder.{by_key}
 use Rattle.outside_api.specs.Hands.{Heard}
 use Rattle.observe_project.specs.Exchanges.{HasCauseOfFault}
 use Rattle.observe_project.specs.LeastRows.{fault_by, foreign_fault, missing_fault}

@@ -3,7 +3,7 @@ use Rattle.std.proofs.Common.{◌≡◌, ℕ, ◌+◌, ◌<◌, Bool, true, fals
 use Rattle.std.proofs.Math.Seq.{drop-cons}
 use Rattle.std.specs.Str.{bytes_eq}
 use Rattle.engine_types.specs.declared.NetRow.{NetRow}
-use Rattle.run_model.specs.Tests.{by_key, is_before, placed}
+use Rattle.tree_base.specs.ByteOrder.{by_key, is_before, placed}
 use Rattle.observe_project.specs.LeastRows.{first_with, second_with, first_named, second_named}
 
 abbrev pub rows_of : List ℕ → List NetRow → List NetRow

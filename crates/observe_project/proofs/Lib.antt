@@ -5,6 +5,5 @@ pub mod Readings
 pub mod Judged
 pub mod Least
 pub mod Firsts
-pub mod Sorting
 pub mod ListTests
 pub mod Ends

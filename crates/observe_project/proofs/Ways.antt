@@ -8,11 +8,11 @@ use Rattle.engine_types.specs.declared.Exchange.{Exchange}
 use Rattle.engine_types.specs.declared.Outcome.{Outcome}
 use Rattle.engine_types.specs.declared.Request.{Request}
 use Rattle.engine_types.specs.declared.SeenFault.{SeenFault}
-use Rattle.run_model.specs.EngineRules.{Tells}
+use Rattle.run_model.specs.EngineRules.{Tells, ToldBy}
 use Rattle.run_model.specs.Logs.{GrowsBy, IsLogOf}
 use Rattle.outside_api.specs.Counts.{Rose}
 use Rattle.outside_api.specs.Hands.{Heard, HasCause, HearsEach, HearsMore, Logs}
-use Rattle.observe_project.specs.Exchanges.{HasCauseOfFault, ToldBy}
+use Rattle.observe_project.specs.Exchanges.{HasCauseOfFault}
 use Rattle.observe_project.specs.Steps.{Makes, Standing}
 
 log-append : (xs ys l m : List Exchange) → IsLogOf xs l → IsLogOf ys m → IsLogOf (xs ++ ys) (l ++ m)

@@ -10,7 +10,7 @@ use Rattle.engine_types.specs.declared.Purpose.{Purpose}
 use Rattle.engine_types.specs.declared.SeenFault.{SeenFault}
 use Rattle.run_model.specs.EngineRules.{has_label}
 use Rattle.run_model.specs.Observation.{is_up}
-use Rattle.run_model.specs.Tests.{is_before}
+use Rattle.tree_base.specs.ByteOrder.{is_before}
 
 -- the row with the least id, with one row more, which stands before those with its id
 abbrev pub first_with : NetRow → Option NetRow → Option NetRow

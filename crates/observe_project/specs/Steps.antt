@@ -10,7 +10,8 @@ use Rattle.run_model.specs.Logs.{GrowsBy}
 use Rattle.run_model.specs.Observation.{Onward, Ends, is_asked}
 use Rattle.outside_api.specs.Clock.{Clock}
 use Rattle.outside_api.specs.Hands.{Heard, HasCause, HearsEach, HearsMore}
-use Rattle.observe_project.specs.Exchanges.{HasCauseOfFault, ToldBy}
+use Rattle.observe_project.specs.Exchanges.{HasCauseOfFault}
+use Rattle.run_model.specs.EngineRules.{ToldBy}
 
 -- an observation that has come here may end with this fault: because its exchanges say so, or for want of memory
 abbrev pub MayEnd : Onward → SeenFault → Type 0

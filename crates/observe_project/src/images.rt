@@ -4,7 +4,7 @@ ghost use Rattle.std.specs.Option.{option_copied};
 ghost use Rattle.std.specs.Str.{bytes_eq};
 ghost use Rattle.std.specs.Map.{keys_of};
 ghost use Rattle.run_model.specs.Observation.{builder_of, images_of, is_always, is_missing, policy_of};
-ghost use Rattle.run_model.specs.Tests.{first_of_each};
+ghost use Rattle.tree_base.specs.ByteOrder.{first_of_each};
 
 use engine_types::{Declared, Policy, Slot};
 use std::alloc::Global;

@@ -4,12 +4,13 @@ ghost use Rattle.std.specs.Str.{bytes_eq};
 ghost use Rattle.engine_types.specs.Labels.{project_label};
 ghost use Rattle.run_model.specs.EngineRules.{has_label};
 ghost use Rattle.run_model.specs.Observation.{network_fault};
-ghost use Rattle.run_model.specs.Tests.{by_key, is_before};
+ghost use Rattle.tree_base.specs.ByteOrder.{by_key, is_before};
 ghost use Rattle.engine_types.specs.declared.SeenFault.{SeenFault};
 ghost use Rattle.observe_project.specs.LeastRows.{fault_by, first_named, first_with, foreign_fault, missing_fault, second_named, second_with};
 
 use crate::judging::is_up;
-use engine_types::{Declared, Kind, NetRow, NetworkSpec, Pairs, Purpose, SeenFault, label, labels};
+use engine_types::{Declared, Kind, NetRow, NetworkSpec, Purpose, SeenFault, labels};
+use run_lookups::has_label;
 use std::alloc::Global;
 use tree_base::{Memory, Text};
 
@@ -189,7 +190,7 @@ fn foreign(
 fn is_foreign(declared: &Declared, network: &NetworkSpec, row: &NetRow) -> bool
     ensures { result ≡ (not network.now.external && not (has_label row.now.labels project_label declared.now.project)) }
 {
-    !network.external && !has_label(&row.labels, labels::PROJECT, &declared.project)
+    !network.external && !has_label(&row.labels, labels::PROJECT, declared.project.as_str())
 }
 
 fn twice(
@@ -205,14 +206,4 @@ fn twice(
         first: first.id.copy(alloc)?,
         second: second.id.copy(alloc)?,
     }))
-}
-
-/// Whether a label has this value.
-fn has_label(pairs: &Pairs, name: &str, value: &Text) -> bool
-    ensures { result ≡ has_label pairs.now name.now value.now }
-{
-    match label(pairs, name) {
-        Some(found) => *value == *found,
-        None => false,
-    }
 }

@@ -3,7 +3,8 @@ ghost use Rattle.engine_types.specs.declared.SeenEnd.{SeenEnd};
 ghost use Rattle.run_model.specs.Logs.{GrowsBy};
 ghost use Rattle.run_model.specs.Observation.{IsObservation, after_judging, ending, judging, observed};
 ghost use Rattle.outside_api.specs.Hands.{HearsEach, HearsMore};
-ghost use Rattle.observe_project.specs.Exchanges.{HasCauseOfEnd, ToldBy};
+ghost use Rattle.observe_project.specs.Exchanges.{HasCauseOfEnd};
+ghost use Rattle.run_model.specs.EngineRules.{ToldBy};
 ghost use Rattle.observe_project.specs.Reading.{end_of};
 ghost use Rattle.observe_project.specs.Steps.{Steps, standing};
 

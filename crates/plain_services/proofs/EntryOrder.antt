@@ -12,7 +12,7 @@ use Rattle.std.proofs.lemmas.List.{length-map}
 use Rattle.std.proofs.lemmas.List.Sorted.{IsPermutation-map}
 use Rattle.std.proofs.lemmas.Option.{slice_get-map}
 use Rattle.tree_base.specs.declared.Tree.{Tree, Null}
-use Rattle.run_model.specs.Tests.{by_key, is_before}
+use Rattle.tree_base.specs.ByteOrder.{by_key, is_before}
 use Rattle.tree_base.specs.declared.Step.{Step}
 use Rattle.tree_base.specs.declared.Step.TheVariants.{Key}
 use Rattle.plain_services.specs.Marks.{below, first_of}

@@ -1,6 +1,6 @@
 -- To sort by a key what a function gives is to sort by the key of what it gives.
 use Rattle.std.proofs.Common.{◌≡◌, ℕ, Bool, true, false, cond, List, [], ◌∷◌, map, refl, ap, ◌∙◌}
-use Rattle.run_model.specs.Tests.{by_key, is_before, placed}
+use Rattle.tree_base.specs.ByteOrder.{by_key, is_before, placed}
 
 module _ {X Y : Type 0} (f : X → Y) (key : Y → List ℕ) where
   -- one more element at its place

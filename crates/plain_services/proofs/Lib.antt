@@ -8,6 +8,5 @@ pub mod Opened
 pub mod Ordering
 pub mod ReadBack
 pub mod Shapes
-pub mod Sorting
 pub mod Walks
 pub mod Words

@@ -13,9 +13,8 @@ use Rattle.std.specs.declared.cmp.Ordering.{Ordering}
 use Rattle.std.specs.declared.cmp.Ordering.TheVariants.{Less, Equal, Greater}
 use Rattle.std.specs.Cmp.Lexicographic.{slice_cmp}
 use Rattle.std.specs.Str.{bytes_eq}
-use Rattle.run_model.specs.Plans.{IsAscending}
-use Rattle.run_model.specs.Tests.{by_key, is_before, placed}
-use Rattle.plain_services.proofs.Sorting.{same_place, sorted_is}
+use Rattle.tree_base.specs.ByteOrder.{IsAscending, by_key, is_before, placed}
+use Rattle.tree_base.proofs.Sorting.{same_place, sorted_is}
 
 other_way : (s t : List ℕ) → bytes_eq s t ≡ false → bytes_eq t s ≡ false
 other_way s t e = at (bytes_eq t s) refl

@@ -4,7 +4,7 @@ use Rattle.std.specs.Prelude.{nat_lt}
 use Rattle.std.proofs.lemmas.List.{length-map}
 use Rattle.tree_base.specs.declared.tree.Tree.{out-Tree}
 use Rattle.tree_base.specs.declared.tree.Tree.TheVariants.{Scalar, outs-Map, outs-Scalar}
-use Rattle.run_model.specs.Tests.{by_key}
+use Rattle.tree_base.specs.ByteOrder.{by_key}
 use Rattle.plain_services.specs.Laws.{ServicesReadBack, entry_of}
 use Rattle.plain_services.specs.Shape.{Entries, few, in_byte_order, service_of, services_of}
 use Rattle.plain_services.specs.declared.project.PlainService.{PlainService}

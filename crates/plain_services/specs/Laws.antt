@@ -6,7 +6,7 @@ use Rattle.std.specs.Str.{bytes_eq}
 use Rattle.tree_base.specs.declared.Tree.{Tree, Map, Scalar}
 use Rattle.plain_services.specs.Shape.{Entries, services_in}
 use Rattle.plain_services.specs.declared.project.PlainService.{PlainService}
-use Rattle.run_model.specs.Tests.{by_key}
+use Rattle.tree_base.specs.ByteOrder.{by_key}
 
 -- a service as a file has it
 abbrev pub entry_of : PlainService → List ℕ × Tree

@@ -1,8 +1,7 @@
 -- Projects of services by their images.
 use Rattle.std.specs.Prelude.{List}
 use Rattle.plain_services.specs.declared.project.PlainService.{PlainService}
-use Rattle.run_model.specs.Plans.{IsAscending}
-use Rattle.run_model.specs.Tests.{is_before}
+use Rattle.tree_base.specs.ByteOrder.{IsAscending, is_before}
 
 -- services in byte order of their names, which differ
 abbrev pub IsInOrder : List PlainService → Type 0

@@ -12,7 +12,7 @@ use Rattle.plain_services.specs.declared.project.PlainService.{PlainService}
 use Rattle.refusals.specs.declared.Refusal.{Refusal}
 use Rattle.refusals.specs.declared.ProjectRefusal.{ProjectRefusal}
 use Rattle.refusals.specs.declared.Unbuilt.{Unbuilt}
-use Rattle.run_model.specs.Tests.{by_key}
+use Rattle.tree_base.specs.ByteOrder.{by_key}
 
 infixl 10 ◌>>=◌
 -- what is given goes on into the next step; a refusal ends the loading

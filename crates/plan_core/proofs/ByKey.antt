@@ -7,7 +7,7 @@ use Rattle.std.specs.List.Sorted.{ties, IsSortedBy, IsStableBy}
 use Rattle.std.proofs.lemmas.List.Sorted.{ranks_by, sorted_far}
 use Rattle.std.proofs.lemmas.Option.{get_or_from_slice_get, slice_get_within}
 use Rattle.run_model.specs.EngineRules.{Among}
-use Rattle.run_model.specs.Tests.{by_key, is_before, placed}
+use Rattle.tree_base.specs.ByteOrder.{by_key, is_before, placed}
 use Rattle.run_model.proofs.DistinctLists.{at_place, from_filter, from_placed}
 use Rattle.plan_core.proofs.Splits.{by_cases, filter-no, filter-yes}
 

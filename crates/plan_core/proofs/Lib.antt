@@ -5,7 +5,6 @@ pub mod Rising
 pub mod Rows
 pub mod Loops
 pub mod ByKey
-pub mod Least
 pub mod Ranks
 pub mod Orders
 pub mod OrderlyPlans

@@ -18,7 +18,7 @@ use Rattle.tree_base.specs.declared.place.Var.{Var}
 use Rattle.run_model.specs.EngineRules.{Among, label_in}
 use Rattle.run_model.specs.Labels.{names_service}
 use Rattle.run_model.specs.Plans.{Basis, IsOrderly, depends_on, down_basis, is_needed_by, is_wanted, planned, slot_at, slot_needs, up_basis}
-use Rattle.run_model.specs.Tests.{places}
+use Rattle.run_model.specs.Numbers.{places}
 use Rattle.run_model.proofs.DistinctLists.{among_places, at_place}
 use Rattle.run_model.proofs.PlanLaws.{some_from}
 use Rattle.plan_core.specs.Order.{HasNoCycle, HasOneSlotEach, PlansAreOrderly}

@@ -10,7 +10,7 @@ use Rattle.engine_types.specs.declared.ActionKind.TheVariants.{StartSlot}
 use Rattle.engine_types.specs.declared.Need.{Need}
 use Rattle.run_model.specs.EngineRules.{Among}
 use Rattle.run_model.specs.Plans.{Basis, IsOrderly, is_needed_by, is_start_of, is_wanted, kind_of, needed_by, needs_of, planned, planned_kinds, slot_needs, start_of}
-use Rattle.run_model.specs.Tests.{places}
+use Rattle.run_model.specs.Numbers.{places}
 use Rattle.run_model.proofs.DistinctLists.{among_numbers, from_filter, from_place}
 use Rattle.run_model.proofs.PlanLaws.{some_from}
 use Rattle.plan_core.proofs.Loops.{length-mapped, slice_get-map}

@@ -6,7 +6,7 @@ use Rattle.std.specs.List.Sorted.{IsStrictlyIncreasing}
 use Rattle.std.proofs.lemmas.Bool.{cases_lt}
 use Rattle.std.proofs.lemmas.Option.{slice_get-get_or, slice_get_within, get_or_from_slice_get}
 use Rattle.run_model.specs.EngineRules.{Among}
-use Rattle.run_model.specs.Tests.{numbers_from}
+use Rattle.run_model.specs.Numbers.{numbers_from}
 use Rattle.run_model.proofs.DistinctLists.{at_place, from_place}
 use Rattle.plan_core.proofs.Splits.{by_cases, filter-no, filter-yes}
 

@@ -4,7 +4,7 @@ use Rattle.std.specs.Prelude.{filter, flat_map}
 use Rattle.std.proofs.lemmas.List.{append-nil, map-append}
 use Rattle.std.proofs.lemmas.List.Elements.{filter-append}
 use Rattle.std.proofs.lemmas.Grind.{flat_map-append}
-use Rattle.run_model.specs.Tests.{numbers_from}
+use Rattle.run_model.specs.Numbers.{numbers_from}
 
 suc_more : (i n : ℕ) → numbers_from i (suc n) ≡ numbers_from i n ++ (i + n) ∷ []
 suc_more i zero = ap (λ (k : ℕ). k ∷ []) (sym (add-zero i))

@@ -1,4 +1,3 @@
-pub mod Keeping
 pub mod Rows
 pub mod Order
 pub mod Index

@@ -6,7 +6,7 @@ use Rattle.engine_types.specs.declared.ActionKind.TheVariants.{ConnectSlot, Remo
 use Rattle.engine_types.specs.declared.Attach.{Attach}
 use Rattle.engine_types.specs.declared.Listed.{Listed}
 use Rattle.run_model.specs.Plans.{Basis, slot_at}
-use Rattle.run_model.specs.Tests.{places}
+use Rattle.run_model.specs.Numbers.{places}
 
 -- the networks that the slot with this number attaches to
 abbrev pub attaches_of : Basis → ℕ → List Attach

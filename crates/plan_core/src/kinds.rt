@@ -6,7 +6,7 @@ ghost use Rattle.std.specs.Ordering.{nat_cmp};
 ghost use Rattle.engine_types.specs.declared.ActionKind.TheVariants.{MakeVolume, MakeNetwork, StopContainer, RemoveContainer, CreateSlot, ConnectSlot, StartSlot, RemoveNetwork, RemoveVolume};
 ghost use Rattle.plan_core.specs.Rows.{attaches_of, connects_of, ends_of, id_at};
 ghost use Rattle.run_model.specs.Plans.{is_wanted, places_by_id, planned_kinds};
-ghost use Rattle.run_model.specs.Tests.{numbers_from, places};
+ghost use Rattle.run_model.specs.Numbers.{numbers_from, places};
 
 use crate::planner::Planner;
 use engine_types::{ActionKind, Listed};

@@ -9,7 +9,6 @@ mod finding;
 mod keeping;
 mod kinds;
 mod laws;
-mod membership;
 mod needed;
 mod planner;
 mod plans;
@@ -17,7 +16,6 @@ mod refusal;
 mod text_index;
 mod wanted;
 
-pub use keeping::kept_of;
 pub use laws::plans_are_orderly;
 pub use plans::{plan_down, plan_up};
 pub use refusal::PlanRefusal;

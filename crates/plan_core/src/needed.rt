@@ -9,10 +9,10 @@ ghost use Rattle.run_model.specs.Labels.{names_service};
 ghost use Rattle.run_model.specs.Plans.{Basis, attaches_to, depends_on, is_bound_by, is_in_way, is_needed_by, needed_by, slot_at};
 
 use crate::kinds::{all_places, number_of};
-use crate::membership::{names_service, names_slot};
 use crate::planner::Planner;
 use crate::text_index::{TextIndex, places_found};
 use engine_types::{ActionKind, ContainerSpec, Declared, Listed, Need, Slot};
+use run_lookups::{names_service, names_slot};
 use std::alloc::Global;
 use tree_base::{List, Memory, Text, item_at};
 

@@ -9,9 +9,9 @@ ghost use Rattle.run_model.specs.EngineRules.{is_live as is_live_state};
 ghost use Rattle.run_model.specs.Observation.{is_up as is_up_purpose};
 ghost use Rattle.run_model.specs.Plans.{is_kept, is_network_seen, is_removed, is_unattached, is_volume_seen, is_wanted, kept_of, network_name};
 
-use crate::membership::{has_slot_service, is_of_project};
 use crate::planner::Planner;
-use engine_types::{ActionKind, Attach, ContainerState, Declared, Listed, Purpose, Seen, Slot};
+use engine_types::{ActionKind, Attach, Declared, Listed, Purpose, Seen, Slot};
+use run_lookups::{has_slot_service, is_live, is_of_project, network_name};
 use tree_base::Text;
 
 impl Planner<'_> {
@@ -188,29 +188,9 @@ fn contains(texts: &[Text], text: &str) -> bool
     texts.iter().any(|other| text == other.as_str())
 }
 
-/// The name of the network that an attach joins.
-fn network_name<'a>(declared: &'a Declared, attach: &Attach) -> &'a str
-    ensures { result.now ≡ network_name declared.now attach.now }
-{
-    match declared.networks.get(attach.network as usize) {
-        Some(network) => network.name.as_str(),
-        None => "",
-    }
-}
-
 /// Whether a container is there and live.
 fn is_live_row(row: Option<&Listed>) -> bool
     ensures { result ≡ option_map_or (λ listed. is_live_state listed.now.state) row.entry false }
 {
     row.is_some_and(|row| is_live(row.state))
-}
-
-/// Whether a container is running, paused or restarting.
-fn is_live(state: ContainerState) -> bool
-    ensures { result ≡ is_live_state state }
-{
-    match state {
-        ContainerState::Running | ContainerState::Paused | ContainerState::Restarting => true,
-        _ => false,
-    }
 }

@@ -2,7 +2,8 @@
 use Rattle.std.proofs.Common.{◌≡◌, zero, suc, Bool, List, [], ◌∷◌, arith}
 use Rattle.engine_types.specs.declared.Declared.{Declared}
 use Rattle.run_model.specs.EngineRules.{Among}
-use Rattle.run_model.specs.Plans.{IsAscending, IsWhole}
+use Rattle.run_model.specs.Plans.{IsWhole}
+use Rattle.tree_base.specs.ByteOrder.{IsAscending}
 use Rattle.serial_run.specs.Serial.{NeedsNoSlot}
 
 module _ {X : Type 0} (before : X → X → Bool) where

@@ -9,7 +9,7 @@ use Rattle.engine_types.specs.declared.RunFault.{RunFault}
 use Rattle.run_model.specs.Observation.{is_up}
 use Rattle.run_model.specs.Plans.{Aim, IsWhole}
 use Rattle.run_model.specs.Runs.{IsRun, run_exchanges, run_fault}
-use Rattle.serial_run.specs.Serial.{ToldBy}
+use Rattle.run_model.specs.EngineRules.{ToldBy}
 use Rattle.world_laws.proofs.ExactWorlds.{exact_in_each_world}
 use Rattle.world_laws.proofs.GoneWorlds.{gone_in_each_world}
 use Rattle.world_laws.proofs.ToldRuns.{told_runs_have_worlds}

@@ -15,14 +15,14 @@ use Rattle.observe_project.specs.Exchanges.{HasCauseOfEnd}
 use Rattle.observe_project.proofs.Ways.{cause-wider, fault-wider, grows-append, hears-append}
 use Rattle.outside_api.specs.Hands.{Heard, HearsMore}
 use Rattle.run_model.specs.Ending.{first_fault}
-use Rattle.run_model.specs.EngineRules.{Among}
+use Rattle.run_model.specs.EngineRules.{Among, ToldBy}
 use Rattle.run_model.specs.Journals.{Setup, seen_in}
 use Rattle.run_model.specs.Legal.{IsLegal}
 use Rattle.run_model.specs.Lines.{report_text}
 use Rattle.run_model.specs.Logs.{GrowsBy, exchanges_of}
 use Rattle.run_model.specs.Plans.{Aim, planned}
 use Rattle.run_model.specs.Runs.{IsRun, Task, run_exchanges, run_fault, run_report, run_seen, run_setup}
-use Rattle.serial_run.specs.Serial.{IsBegun, Telling, ToldBy, basis_of, exchanges_since, serial_setup}
+use Rattle.serial_run.specs.Serial.{IsBegun, Telling, basis_of, exchanges_since, serial_setup}
 use Rattle.project_run.specs.Opening.{IsCarriedOut, IsObservedBadly, Opens}
 use Rattle.project_run.specs.Whole.{IsCaused, Leaves, task_of}
 use Rattle.project_run.specs.declared.opening.Opening.{Opening}

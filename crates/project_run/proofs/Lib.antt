@@ -1,5 +1,3 @@
-pub mod FirstRows
-pub mod Observing
 pub mod Sparing
 pub mod Polling
 pub mod Joining

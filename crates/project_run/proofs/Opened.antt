@@ -7,7 +7,8 @@ use Rattle.engine_types.specs.declared.Exchange.{Exchange}
 use Rattle.engine_types.specs.declared.Observed.{Observed}
 use Rattle.engine_types.specs.declared.SeenEnd.{SeenEnd}
 use Rattle.engine_types.specs.declared.SeenFault.{SeenFault}
-use Rattle.observe_project.specs.Exchanges.{HasCauseOfEnd, ToldBy}
+use Rattle.observe_project.specs.Exchanges.{HasCauseOfEnd}
+use Rattle.run_model.specs.EngineRules.{ToldBy}
 use Rattle.outside_api.specs.Hands.{Heard, HearsEach, HearsMore}
 use Rattle.run_model.specs.Legal.{IsObserved, seen_end, whole_end}
 use Rattle.run_model.specs.Logs.{GrowsBy}

@@ -12,7 +12,7 @@ use Rattle.run_model.specs.Plans.{Basis, LeavesKept, is_kept, is_wanted, kept, k
 use Rattle.run_model.specs.Runs.{run_seen, run_setup}
 use Rattle.run_model.proofs.KeptLaws.{leaves_kept}
 use Rattle.run_model.proofs.PlanLaws.{planned_is_plan}
-use Rattle.project_run.proofs.Observing.{ids_differ, seen_by}
+use Rattle.world_laws.proofs.Observing.{ids_differ, seen_by}
 use Rattle.project_run.specs.Laws.{RunsSpareKept}
 use Rattle.project_run.specs.Whole.{IsSparing}
 

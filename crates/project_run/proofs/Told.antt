@@ -3,7 +3,7 @@ use Rattle.std.proofs.Common.{List, [], ◌∷◌, ◌++◌, Option, subst}
 use Rattle.engine_types.specs.declared.Engine.{Engine}
 use Rattle.engine_types.specs.declared.Exchange.{Exchange}
 use Rattle.observe_project.specs.Exchanges as exchanges
-use Rattle.serial_run.specs.Serial.{ToldBy}
+use Rattle.run_model.specs.EngineRules.{ToldBy}
 
 -- an observation's exchanges are told in the same words as a plan's
 pub told_same : (es : List Exchange) (old new : Option Engine) → exchanges.ToldBy es old new → ToldBy es old new

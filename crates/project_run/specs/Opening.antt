@@ -15,7 +15,8 @@ use Rattle.run_model.specs.Ending.{IsRunOver}
 use Rattle.run_model.specs.Legal.{IsLegal, IsObserved, whole_end}
 use Rattle.run_model.specs.Logs.{GrowsBy}
 use Rattle.run_model.specs.Plans.{Aim, is_too_long, planned}
-use Rattle.serial_run.specs.Serial.{AllCaused, GoesOn, Telling, ToldBy, basis_of, exchanges_since, serial_setup}
+use Rattle.serial_run.specs.Serial.{AllCaused, GoesOn, Telling, basis_of, exchanges_since, serial_setup}
+use Rattle.run_model.specs.EngineRules.{ToldBy}
 
 -- an end is the whole one of what was observed, or want of memory stands in its place
 abbrev pub IsWholeEnd : Declared → Aim → SeenEnd → SeenEnd → Type 0

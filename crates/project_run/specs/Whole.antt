@@ -9,11 +9,11 @@ use Rattle.engine_types.specs.declared.RunFault.{RunFault}
 use Rattle.engine_types.specs.declared.Seen.{Seen}
 use Rattle.observe_project.specs.Exchanges.{HasCauseOfEnd}
 use Rattle.outside_api.specs.Hands.{Heard, HearsEach, HearsMore}
-use Rattle.run_model.specs.EngineRules.{Among}
+use Rattle.run_model.specs.EngineRules.{Among, ToldBy}
 use Rattle.run_model.specs.Logs.{GrowsBy}
 use Rattle.run_model.specs.Plans.{Aim, is_kept, kept, kind_of}
 use Rattle.run_model.specs.Runs.{IsRun, Task, run_exchanges, run_seen, run_setup}
-use Rattle.serial_run.specs.Serial.{AllCaused, Telling, ToldBy, one_worker}
+use Rattle.serial_run.specs.Serial.{AllCaused, Telling, one_worker}
 
 -- to carry out for a declared set what an aim asks for, with one worker
 abbrev pub task_of : Declared → Aim → Task

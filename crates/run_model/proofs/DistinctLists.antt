@@ -4,7 +4,8 @@ use Rattle.std.proofs.lemmas.Bool.{eqb-true, eqb-false}
 use Rattle.std.proofs.lemmas.Option.{slice_get_within}
 use Rattle.std.specs.Prelude.{filter, flat_map, if◌then◌else◌}
 use Rattle.run_model.specs.EngineRules.{Among}
-use Rattle.run_model.specs.Tests.{by_key, is_before, numbers_from, placed, places}
+use Rattle.tree_base.specs.ByteOrder.{by_key, is_before, placed}
+use Rattle.run_model.specs.Numbers.{numbers_from, places}
 
 -- no element stands in the list twice
 abbrev pub Distinct : {X : Type 0} → List X → Type 0

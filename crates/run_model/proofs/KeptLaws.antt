@@ -14,7 +14,7 @@ use Rattle.run_model.specs.EngineRules.{Among, is_of_project}
 use Rattle.run_model.specs.Labels.{agrees, has_slot_service, names_service}
 use Rattle.run_model.specs.Observation.{is_up}
 use Rattle.run_model.specs.Plans.{Basis, LeavesKept, agrees_seen, is_kept, is_removed, is_wanted, kept, kept_of, seen_image, slot_at}
-use Rattle.run_model.specs.Tests.{is_before, least_by}
+use Rattle.tree_base.specs.ByteOrder.{is_before, least_by}
 use Rattle.run_model.proofs.DistinctLists.{from_filter, from_place}
 use Rattle.run_model.proofs.PlanLaws.{both, some_from}
 

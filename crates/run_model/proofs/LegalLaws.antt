@@ -8,7 +8,7 @@ use Rattle.run_model.specs.Journals.{Setup, is_ending}
 use Rattle.run_model.specs.Legal.{Decision, Full, Go, IsLegal, IsReady, Look, Pause, Take, answer_to, decision, entries_limit, is_other_out, next_action, next_poll}
 use Rattle.run_model.specs.Logs.{asker}
 use Rattle.run_model.specs.Plans.{Aim}
-use Rattle.run_model.specs.Tests.{places}
+use Rattle.run_model.specs.Numbers.{places}
 
 -- what is found passes the test
 pub found_passes : {X : Type 0} (test : X → Bool) (xs : List X) (x : X) → find test xs ≡ Some x → test x ≡ true

@@ -11,7 +11,7 @@ use Rattle.engine_types.specs.declared.Slot.{Slot}
 use Rattle.run_model.specs.EngineRules.{Among}
 use Rattle.run_model.specs.Observation.{is_up}
 use Rattle.run_model.specs.Plans.{Basis, IsPlanOf, is_needed_by, is_removed, is_unattached, is_unstarted, is_wanted, kind_of, needed_by, needs_of, places_by_id, planned, planned_kinds, possible, slot_at}
-use Rattle.run_model.specs.Tests.{places}
+use Rattle.run_model.specs.Numbers.{places}
 use Rattle.run_model.proofs.DistinctLists.{Distinct, among_by_key, among_filter, among_flat_map, among_left, among_map, among_places, among_right, at_place, distinct_append, distinct_by_key, distinct_filter, distinct_flat_map, distinct_map, distinct_places, from_append, from_filter, from_flat_map, from_map, from_place, same_place}
 
 module _ {X : Type 0} where

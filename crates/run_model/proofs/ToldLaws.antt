@@ -22,7 +22,7 @@ use Rattle.engine_types.specs.declared.SeenFault.{SeenFault}
 use Rattle.engine_types.specs.declared.Slot.{Slot}
 use Rattle.run_model.specs.EngineRules.{Among}
 use Rattle.run_model.specs.Observation.{Ends, Onward, Strays, after_containers, after_first_look, after_judging, after_look, after_networks, after_pull, after_volumes, asking, builder_of, by_policy, ending, failing, fault_in, fetching, images_of, inspecting, is_request, is_up, judging, listing_fault, listing_networks, listing_volumes, observed, policy_of, pulling, seeing_images, seen_containers, wanting, with_image}
-use Rattle.run_model.specs.Tests.{first_of_each}
+use Rattle.tree_base.specs.ByteOrder.{first_of_each}
 use Rattle.run_model.specs.Told.{IsTold, answered, id_after, id_told, is_look}
 use Rattle.run_model.proofs.DistinctLists.{Distinct, among_by_key, among_filter, among_map, distinct_by_key, distinct_filter, from_filter}
 use Rattle.run_model.proofs.RequestLemmas.{request_is, same_text}

@@ -13,7 +13,7 @@ use Rattle.engine_types.specs.declared.Report.{Report}
 use Rattle.run_model.specs.declared.verdict.Verdict.{Verdict}
 use Rattle.run_model.specs.Journals.{Setup, holding, is_badly, is_free, is_watch_of, is_well, standing}
 use Rattle.run_model.specs.Plans.{kind_of, needs_of, slot_at, slot_needs, start_of}
-use Rattle.run_model.specs.Tests.{places}
+use Rattle.run_model.specs.Numbers.{places}
 
 -- an exit code of 0
 abbrev pub is_zero : ℤ → Bool

@@ -17,7 +17,7 @@ use Rattle.run_model.specs.Journals.{Holding, Nothing, Setup, Watch, Work, ended
 use Rattle.run_model.specs.Legal.{workers}
 use Rattle.run_model.specs.Plans.{kind_of, slot_at, slot_needs}
 use Rattle.run_model.specs.Requests.{request_out}
-use Rattle.run_model.specs.Tests.{places}
+use Rattle.run_model.specs.Numbers.{places}
 
 -- whether an action ended, well or otherwise, or is blocked
 abbrev pub is_over : Setup → List Entry → ℕ → Bool

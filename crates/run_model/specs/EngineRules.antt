@@ -14,6 +14,7 @@ use Rattle.engine_types.specs.declared.Report.{Report}
 use Rattle.engine_types.specs.declared.Listed.{Listed}
 use Rattle.engine_types.specs.declared.NetRow.{NetRow}
 use Rattle.engine_types.specs.declared.Engine.{Engine}
+use Rattle.engine_types.specs.declared.Exchange.{Exchange}
 use Rattle.engine_types.specs.declared.Request.{Request}
 use Rattle.engine_types.specs.declared.Reply.{Reply}
 use Rattle.engine_types.specs.declared.Outcome.{Outcome}
@@ -329,6 +330,11 @@ Tells (Some old) request (Outcome.Answered reply) new = IsSomeAnd new (λ engine
 Tells (Some old) request Outcome.NotSent new = new ≡ Some old
 Tells (Some old) request _ new =
     (new ≡ Some old) ⊎ IsSomeAnd new (λ engine. (reply : Reply) × Answers old request reply engine)
+
+-- the Engine that a hand tells went through these exchanges, in order: an answer is one step of the Engine with that reply
+abbrev pub ToldBy : List Exchange → Option Engine → Option Engine → Type 0
+ToldBy [] old new = new ≡ old
+ToldBy (exchange ∷ rest) old new = (mid : Option Engine) × Tells old exchange.request exchange.outcome mid × ToldBy rest mid new
 
 -- how a pause changes the Engine that a hand tells: by own changes alone
 abbrev pub DriftsTold : Option Engine → Option Engine → Type 0

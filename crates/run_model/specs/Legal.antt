@@ -13,7 +13,7 @@ use Rattle.run_model.specs.Conditions.{is_allowed, is_watched}
 use Rattle.run_model.specs.Journals.{Nothing, Setup, has_left, has_stopped, holding, is_ending, is_open, is_watch_of, polls, seen_in}
 use Rattle.run_model.specs.Observation.{Asks, Ends, Onward, Strays, is_asked, observed}
 use Rattle.run_model.specs.Plans.{Aim, Basis, action_count, is_too_long}
-use Rattle.run_model.specs.Tests.{numbers_from, places}
+use Rattle.run_model.specs.Numbers.{numbers_from, places}
 
 -- what an ask is answered: the journal is full, there is nothing left, an action, a poll of a slot, or there is nothing to do yet
 pub data Decision : Type 0 where

@@ -1,4 +1,4 @@
-pub mod Tests
+pub mod Numbers
 pub mod EngineRules
 pub mod Labels
 pub mod Observation

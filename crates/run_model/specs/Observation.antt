@@ -22,7 +22,7 @@ use Rattle.engine_types.specs.declared.Seen.{Seen}
 use Rattle.engine_types.specs.declared.SeenEnd.{SeenEnd}
 use Rattle.engine_types.specs.declared.SeenFault.{SeenFault}
 use Rattle.run_model.specs.EngineRules.{has_label}
-use Rattle.run_model.specs.Tests.{by_key, first_of_each}
+use Rattle.tree_base.specs.ByteOrder.{by_key, first_of_each}
 
 -- where exchanges have led an observation: a request comes next, or it has ended, or they aren't its exchanges
 pub data Onward : Type 0 where

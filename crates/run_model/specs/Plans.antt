@@ -18,7 +18,8 @@ use Rattle.engine_types.specs.declared.Slot.{Slot}
 use Rattle.run_model.specs.EngineRules.{Among, is_live, is_of_project}
 use Rattle.run_model.specs.Labels.{agrees, has_slot_service, names_service, names_slot}
 use Rattle.run_model.specs.Observation.{is_up}
-use Rattle.run_model.specs.Tests.{by_key, is_before, least_by, places}
+use Rattle.tree_base.specs.ByteOrder.{by_key, is_before, least_by}
+use Rattle.run_model.specs.Numbers.{places}
 
 -- what a run is for: to bring a project up or down, and whether orphans go, and whether `down` takes volumes too
 pub record Aim : Type 0 where
@@ -274,10 +275,6 @@ is_slot_before slot other =
 abbrev pub is_running : Condition → Bool
 is_running Condition.Running = true
 is_running _ = false
-
--- each element stands before all later ones
-abbrev pub IsAscending : {X : Type 0} → (X → X → Bool) → List X → Type 0
-IsAscending {X} before xs = (i j : ℕ) (x y : X) → i < j → slice_get xs i ≡ Some x → slice_get xs j ≡ Some y → before x y ≡ true
 
 -- a whole declared set: slots in byte order of service, then by number, networks and volumes in byte order of name;
 -- attaches and needs name networks and slots that are there, and no need asks for Running

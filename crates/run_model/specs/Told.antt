@@ -14,7 +14,7 @@ use Rattle.engine_types.specs.declared.Slot.{Slot}
 use Rattle.run_model.specs.EngineRules.{Among}
 use Rattle.run_model.specs.Observation.{is_up, listing_fault}
 use Rattle.run_model.specs.Plans.{seen_image}
-use Rattle.run_model.specs.Tests.{first_of_each}
+use Rattle.tree_base.specs.ByteOrder.{first_of_each}
 
 -- whether an exchange was answered and its request changes nothing but, by a pull, one image
 abbrev pub is_look : Request → Outcome → Bool

@@ -1,7 +1,7 @@
 -- A search through numbers goes on past one that fails the test.
 use Rattle.std.proofs.Common.{◌≡◌, ◌∙◌, ℕ, suc, ◌+◌, ◌-◌, ◌<◌, Bool, false, refl, ap, arith}
 use Rattle.std.specs.Prelude.{find}
-use Rattle.run_model.specs.Tests.{numbers_from}
+use Rattle.run_model.specs.Numbers.{numbers_from}
 
 pub passed : (p : ℕ → Bool) (i n : ℕ) → i < n → p i ≡ false → find p (numbers_from i (n - i)) ≡ find p (numbers_from (i + 1) (n - (i + 1)))
 passed p i n within e =

@@ -11,10 +11,9 @@ ghost use Rattle.run_outcome.specs.Telling.{decides, standing_by};
 
 use crate::actions::{create_of, kind_of, make_of};
 use crate::held::{earlier, held};
-use crate::keeping::kept_of;
 use crate::run::Run;
-use crate::well::is_good;
 use engine_types::{ActionKind, Entry, Outcome, Plan, Reply, Seen};
+use run_lookups::{is_good, kept_of};
 use std::alloc::Global;
 use tree_base::{Memory, Text};
 

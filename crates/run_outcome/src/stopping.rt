@@ -2,8 +2,8 @@ ghost use Rattle.std.specs.Prelude.{◌≡◌, IfOk, find};
 ghost use Rattle.std.specs.Option.{option_map_or};
 ghost use Rattle.run_model.specs.Labels.{names_slot};
 
-use crate::membership::names_slot;
 use engine_types::{Declared, Listed};
+use run_lookups::names_slot;
 use std::alloc::Global;
 use tree_base::Memory;
 

@@ -18,7 +18,7 @@ use Rattle.run_model.specs.EngineRules.{Among}
 use Rattle.run_model.specs.Journals.{Badly, Free, Setup, Standing, Well, is_badly, is_ending, is_free, is_well, standing}
 use Rattle.run_model.specs.Legal.{Go, Take, decision, entries_limit, has_fewest_polls, is_looked_at, may_poll, next_action, next_poll}
 use Rattle.run_model.specs.Plans.{kind_of, needs_of, slot_at, slot_needs}
-use Rattle.run_model.specs.Tests.{places}
+use Rattle.run_model.specs.Numbers.{places}
 use Rattle.run_model.proofs.DistinctLists.{from_numbers, from_place}
 use Rattle.serial_run.proofs.Lists.{all_each, all_from, any_at, any_none, find_none, find_number}
 use Rattle.serial_run.specs.Serial.{NeedsNoSlot, is_clear, is_well_mark, serial_setup}

@@ -5,7 +5,7 @@ use Rattle.std.proofs.lemmas.List.{reverse-append}
 use Rattle.std.specs.List.{list_any, list_all}
 use Rattle.std.specs.Prelude.{filter, find}
 use Rattle.run_model.specs.EngineRules.{Among}
-use Rattle.run_model.specs.Tests.{numbers_from}
+use Rattle.run_model.specs.Numbers.{numbers_from}
 
 -- the newest element of a reversed list
 pub reverse_push : {X : Type 0} (xs : List X) (x : X) → reverse (xs ++ x ∷ []) ≡ x ∷ reverse xs

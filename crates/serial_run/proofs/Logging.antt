@@ -11,14 +11,14 @@ use Rattle.engine_types.specs.declared.Outcome.{Outcome}
 use Rattle.engine_types.specs.declared.Request.{Request}
 use Rattle.outside_api.specs.Counts.{Rose}
 use Rattle.outside_api.specs.Hands.{HasCause, Heard, HearsMore, Logs}
-use Rattle.run_model.specs.EngineRules.{Tells}
+use Rattle.run_model.specs.EngineRules.{Tells, ToldBy}
 use Rattle.run_model.specs.Journals.{Setup}
 use Rattle.run_model.specs.Logs.{GrowsBy, IsLogOf, exchanges_of}
 use Rattle.run_model.specs.Plans.{kind_of}
 use Rattle.run_model.specs.Requests.{request_of, request_out}
 use Rattle.serial_run.proofs.Lists.{reverse_push}
 use Rattle.serial_run.proofs.Stepping.{newest}
-use Rattle.serial_run.specs.Serial.{ToldBy, exchanges_since}
+use Rattle.serial_run.specs.Serial.{exchanges_since}
 
 -- a log of two lists of exchanges is one of both
 logs_append : (es fs log more : List Exchange) → IsLogOf es log → IsLogOf fs more → IsLogOf (es ++ fs) (log ++ more)

@@ -14,7 +14,7 @@ use Rattle.run_model.specs.EngineRules.{Among}
 use Rattle.run_model.specs.Labels.{names_service}
 use Rattle.run_model.specs.Observation.{is_up}
 use Rattle.run_model.specs.Plans.{Aim, Basis, depends_on, is_needed_by, is_wanted, needed_by, needs_of, places_by_id, planned, planned_kinds, possible, slot_at}
-use Rattle.run_model.specs.Tests.{places}
+use Rattle.run_model.specs.Numbers.{places}
 use Rattle.run_model.proofs.DistinctLists.{Distinct, distinct_by_key, distinct_places, from_append, from_filter, from_flat_map, from_map}
 use Rattle.run_model.proofs.PlanLaws.{some_from}
 use Rattle.serial_run.proofs.InOrder.{InOrder, all_apart, appended, filtered, needed_before}

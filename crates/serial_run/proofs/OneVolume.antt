@@ -6,7 +6,7 @@ use Rattle.engine_types.specs.declared.Entry.{Entry}
 use Rattle.engine_types.specs.declared.Seen.{Seen}
 use Rattle.engine_types.specs.declared.VolumeSpec.{VolumeSpec}
 use Rattle.run_model.specs.Plans.{IsWhole, is_too_long, planned}
-use Rattle.run_model.specs.Tests.{is_before}
+use Rattle.tree_base.specs.ByteOrder.{is_before}
 use Rattle.serial_run.specs.OneVolume.{look, making, nothing, shop, volume}
 use Rattle.serial_run.specs.Serial.{IsBegun, NeedsNoSlot, basis_of, up_aim}
 

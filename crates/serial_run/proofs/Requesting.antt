@@ -27,7 +27,8 @@ use Rattle.run_model.specs.Journals.{Badly, Out, Setup, Well, ended_as, holding,
 use Rattle.run_model.specs.Observation.{first_in, is_up, network_fault}
 use Rattle.run_model.specs.Plans.{Aim, Basis, create_of, is_create_of, is_make_of, is_needed_by, is_network_seen, is_removed, is_unattached, is_unstarted, is_wanted, kept, kept_of, kind_of, make_of, needed_by, needs_of, planned_kinds, slot_at}
 use Rattle.run_model.specs.Requests.{connect_request, made_id, network_id, request_of, seen_network_id, slot_id, stop_seconds}
-use Rattle.run_model.specs.Tests.{by_key, placed, places}
+use Rattle.tree_base.specs.ByteOrder.{by_key, placed}
+use Rattle.run_model.specs.Numbers.{places}
 use Rattle.run_model.proofs.DistinctLists.{among_places, from_filter, from_place}
 use Rattle.run_model.proofs.PlanLaws.{planned_is_plan, some_from}
 use Rattle.serial_run.proofs.Lists.{all_each, find_filter, find_passes, some_below}
@@ -166,7 +167,7 @@ module _ (declared : Declared) (seen : Seen) (actions : List Action) (aim : Aim)
   needs_at a kind e = rw g.is_planned (needs_listed (needed_by basis ks) ks a kind e)
 
   places_are : places actions ≡ places ks
-  places_are = ap (λ (n : ℕ). Rattle.run_model.specs.Tests.numbers_from 0 n) (ap length g.is_planned ∙ length_listed (needed_by basis ks) ks)
+  places_are = ap (λ (n : ℕ). Rattle.run_model.specs.Numbers.numbers_from 0 n) (ap length g.is_planned ∙ length_listed (needed_by basis ks) ks)
 
   wanted_at : (a : ℕ) (kind : ActionKind) → kind_of actions a ≡ Some kind → is_wanted basis kind ≡ true
   wanted_at a kind e = (planned_is_plan basis).wanted a kind (ap (λ (xs : List Action). kind_of xs a) (sym g.is_planned) ∙ e)

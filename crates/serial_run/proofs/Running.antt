@@ -14,7 +14,7 @@ use Rattle.engine_types.specs.declared.SeenEnd.{SeenEnd}
 use Rattle.engine_types.specs.declared.SeenFault.{SeenFault}
 use Rattle.outside_api.specs.Hands.{HasCause}
 use Rattle.run_model.specs.Ending.{IsRunOver}
-use Rattle.run_model.specs.EngineRules.{Among}
+use Rattle.run_model.specs.EngineRules.{Among, ToldBy}
 use Rattle.run_model.specs.Journals.{Setup}
 use Rattle.run_model.specs.Legal.{IsLegal, IsObserved, entries_limit, next_action, whole_end}
 use Rattle.run_model.specs.Logs.{GrowsBy, exchanges_of}
@@ -26,7 +26,7 @@ use Rattle.run_model.proofs.ToldLaws.{seen_is_told}
 use Rattle.serial_run.proofs.Deciding.{Stand, goals_over, next_is, none_next, over}
 use Rattle.serial_run.proofs.Logging.{Since, cause_within, grows_more, grows_not, hears_same, hears_through, since_is, since_left, since_made, since_short, since_start, told_more}
 use Rattle.serial_run.proofs.Stepping.{between_start, between_step, falls_short, leaves, marks_made, marks_skip, marks_start, stand}
-use Rattle.serial_run.specs.Serial.{AllCaused, AreMarks, Exchanged, GoesOn, IsBegun, IsDone, IsMade, IsOnItsWay, IsSkipped, NeedsNoSlot, Telling, ToldBy, exchanges_since, is_clear, serial_setup}
+use Rattle.serial_run.specs.Serial.{AllCaused, AreMarks, Exchanged, GoesOn, IsBegun, IsDone, IsMade, IsOnItsWay, IsSkipped, NeedsNoSlot, Telling, exchanges_since, is_clear, serial_setup}
 use Rattle.serial_run.specs.declared.mark.Mark.{Mark}
 
 -- there is no fault in the listings of an observation that ended well

@@ -25,7 +25,7 @@ use Rattle.run_model.specs.Legal.{IsLegal, IsObserved, entries_limit, next_actio
 use Rattle.run_model.specs.Logs.{GrowsBy, exchanges_of}
 use Rattle.run_model.specs.Observation.{listing_fault}
 use Rattle.run_model.specs.Plans.{Aim, Basis, IsWhole, is_too_long, needs_of, planned}
-use Rattle.run_model.specs.Tests.{places}
+use Rattle.run_model.specs.Numbers.{places}
 use Rattle.serial_run.specs.declared.mark.Mark.{Mark}
 use Rattle.serial_run.specs.declared.plan_aim as given
 
@@ -67,11 +67,6 @@ GoesOn old new = (added : List Entry) × (new ≡ old ++ added)
 -- the only worker's exchanges in the second journal, after those in the first
 abbrev pub exchanges_since : Setup → List Entry → List Entry → List Exchange
 exchanges_since setup old new = drop (length (exchanges_of setup (reverse old) 0)) (exchanges_of setup (reverse new) 0)
-
--- the Engine that a hand tells went through these exchanges, in order: an answer is one step of the Engine with that reply
-abbrev pub ToldBy : List Exchange → Option Engine → Option Engine → Type 0
-ToldBy [] old new = new ≡ old
-ToldBy (exchange ∷ rest) old new = (mid : Option Engine) × Tells old exchange.request exchange.outcome mid × ToldBy rest mid new
 
 -- each end of the only worker's that tells of a fault has its cause: the count of faults rose, or, where the hand tells what
 -- it heard, the response may be broken

@@ -4,9 +4,9 @@ ghost use Rattle.std.specs.Str.{bytes_eq};
 ghost use Rattle.run_model.specs.Plans.{is_create_of, is_make_of, kind_of};
 ghost use Rattle.serial_run.specs.Asking.{course, create_in, id_in, id_of, make_in, network_id_by, slot_id_by, told_id};
 
-use crate::kept::kept;
 use crate::mark::Mark;
 use engine_types::{Action, ActionKind, Declared, Entry, Outcome, Plan, Reply, Seen};
+use run_lookups::kept_of;
 use std::alloc::Global;
 use tree_base::{Memory, Text};
 
@@ -26,7 +26,7 @@ pub(crate) fn slot_id<'a>(
     let Some(row) = declared.slots.get(slot as usize) else {
         return Ok(created_id(plan, marks, journal, needs, slot));
     };
-    match kept(alloc, declared, seen, row)? {
+    match kept_of(alloc, declared, seen, row)? {
         Some(row) => Ok(Some(&row.id)),
         None => Ok(created_id(plan, marks, journal, needs, slot)),
     }

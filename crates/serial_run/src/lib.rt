@@ -7,13 +7,11 @@
 #![tactic(auto)]
 
 mod ids;
-mod kept;
 mod laws;
 mod mark;
 mod plan_aim;
 mod requests;
 mod run;
-mod slot_labels;
 
 pub use laws::needs_are_lower;
 pub use plan_aim::Aim;

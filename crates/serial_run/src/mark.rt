@@ -1,8 +1,8 @@
 ghost use Rattle.std.specs.Prelude.{◌≡◌, slice_get};
-ghost use Rattle.run_model.specs.Journals.{is_good};
 ghost use Rattle.serial_run.specs.Serial.{is_clear, is_well_mark, mark_of};
 
-use engine_types::{ActionKind, Outcome, Reply};
+use engine_types::{ActionKind, Outcome};
+use run_lookups::is_good;
 
 /// How an action of the run stands.
 #[derive(Debug, Clone, Copy, PartialEq, Eq)]
@@ -43,24 +43,5 @@ pub(crate) fn mark_of(kind: ActionKind, outcome: &Outcome, entry: usize) -> Mark
             }
         }
         _ => Mark::Badly,
-    }
-}
-
-fn is_good(kind: ActionKind, reply: &Reply) -> bool
-    ensures { result ≡ is_good kind reply.now }
-{
-    match (kind, reply) {
-        (ActionKind::MakeVolume { .. }, Reply::Done) => true,
-        (ActionKind::MakeNetwork { .. }, Reply::Made(_)) => true,
-        (ActionKind::StopContainer { .. }, Reply::Done) => true,
-        (ActionKind::StopContainer { .. }, Reply::Already) => true,
-        (ActionKind::RemoveContainer { .. }, Reply::Done) => true,
-        (ActionKind::CreateSlot { .. }, Reply::Made(_)) => true,
-        (ActionKind::ConnectSlot { .. }, Reply::Done) => true,
-        (ActionKind::StartSlot { .. }, Reply::Done) => true,
-        (ActionKind::StartSlot { .. }, Reply::Already) => true,
-        (ActionKind::RemoveNetwork { .. }, Reply::Done) => true,
-        (ActionKind::RemoveVolume { .. }, Reply::Done) => true,
-        _ => false,
     }
 }

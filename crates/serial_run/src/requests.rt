@@ -7,8 +7,8 @@ ghost use Rattle.engine_types.specs.declared.ActionKind.TheVariants.{MakeVolume,
 
 use crate::ids::{network_id, slot_id};
 use crate::mark::Mark;
-use crate::slot_labels::names_slot;
 use engine_types::{Action, ActionKind, Attach, Declared, Entry, Listed, Plan, Request, Seen};
+use run_lookups::names_slot;
 use std::alloc::Global;
 use tree_base::{Memory, TryCopy};
 

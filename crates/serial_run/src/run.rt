@@ -6,7 +6,8 @@ ghost use Rattle.run_model.specs.Logs.{GrowsBy};
 ghost use Rattle.run_model.specs.Plans.{IsWhole, is_too_long, planned};
 ghost use Rattle.serial_run.specs.Asking.{course, request_by};
 ghost use Rattle.serial_run.specs.LastEntries.{last_entry};
-ghost use Rattle.serial_run.specs.Serial.{AllCaused, GoesOn, IsBegun, IsDone, IsGrounded, IsLeftAlone, IsMade, IsOnItsWay, IsSkipped, NeedsNoSlot, ToldBy, aim_of, basis_of, exchanges_since, is_clear, serial_setup, telling};
+ghost use Rattle.serial_run.specs.Serial.{AllCaused, GoesOn, IsBegun, IsDone, IsGrounded, IsLeftAlone, IsMade, IsOnItsWay, IsSkipped, NeedsNoSlot, aim_of, basis_of, exchanges_since, is_clear, serial_setup, telling};
+ghost use Rattle.run_model.specs.EngineRules.{ToldBy};
 
 use crate::mark::{Mark, is_clear, mark_of};
 use crate::plan_aim::Aim;

@@ -1,5 +1,6 @@
 pub mod formers
 pub mod Answers
+pub mod ByteOrder
 pub mod Entries
 pub mod Lending
 pub mod Paths

@@ -32,7 +32,7 @@ use Rattle.run_model.specs.Journals.{Holding, Nothing, is_ending}
 use Rattle.run_model.specs.Observation.{first_in, is_up, listing_fault, network_fault}
 use Rattle.run_model.specs.Plans.{Aim, Basis, IsPlanOf, IsWhole, is_create_of, is_make_of, is_needed_by, is_network_seen, is_removed, is_start_of, is_unattached, is_unstarted, is_wanted, kept, kept_of, kind_of, make_of, planned, slot_at, slot_needs, start_of}
 use Rattle.run_model.specs.Requests.{OfAction, OfPoll, Source, action_request, asked, connect_request, made_id, network_id, poll_place, poll_request, request_of, request_out, seen_network_id, slot_id, source_of, stop_seconds}
-use Rattle.run_model.specs.Tests.{places}
+use Rattle.run_model.specs.Numbers.{places}
 use Rattle.run_model.proofs.DistinctLists.{among_places, from_filter, from_numbers, from_place}
 use Rattle.run_model.proofs.KeptLaws.{any_from_list}
 use Rattle.run_model.proofs.LegalLaws.{decision_take}

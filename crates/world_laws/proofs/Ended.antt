@@ -20,7 +20,7 @@ use Rattle.run_model.specs.Ending.{Failing, IsFinal, exchange_fault, fails_now, 
 use Rattle.run_model.specs.Journals.{Badly, Free, Holding, Nothing, Out, Setup, Standing, Watch, Well, Work, ended_as, holding, is_badly, is_ending, is_free, is_good, is_watch_of, is_well, is_work_on, standing}
 use Rattle.run_model.specs.Plans.{kind_of, needs_of, slot_needs, start_of}
 use Rattle.run_model.specs.Requests.{request_out}
-use Rattle.run_model.specs.Tests.{places}
+use Rattle.run_model.specs.Numbers.{places}
 use Rattle.world_laws.specs.Laws.{EveryActionEndedWell}
 use Rattle.run_model.proofs.DistinctLists.{among_flat_map, among_left, among_numbers, among_places}
 use Rattle.run_model.proofs.KeptLaws.{any_from_list}

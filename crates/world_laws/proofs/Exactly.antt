@@ -21,7 +21,7 @@ use Rattle.engine_types.specs.declared.VolumeSpec.{VolumeSpec}
 use Rattle.run_model.specs.EngineRules.{Among, container_at, has_volume, image_at, is_of_project, network_at, network_has_name}
 use Rattle.run_model.specs.Exact.{IsExact, IsExactNetwork, IsExactSlot, agrees_in, is_attached}
 use Rattle.run_model.specs.Labels.{agrees, is_of_slot, is_orphan}
-use Rattle.run_model.specs.Tests.{first_of_each}
+use Rattle.tree_base.specs.ByteOrder.{first_of_each}
 use Rattle.run_model.proofs.DistinctLists.{Distinct, among_filter, distinct_filter, from_filter}
 use Rattle.world_laws.specs.Exactly.{fits, found_containers, found_networks, holds_network, holds_slot, may_be_there, only_of}
 

@@ -3,7 +3,7 @@ use Rattle.std.proofs.Common.{◌≡◌, Bool, true, false, cond, List, [], ◌�
 use Rattle.std.specs.List.{AllByRecursion, IsDistinct}
 use Rattle.std.specs.Prelude.{ℕ, filter, not}
 use Rattle.std.specs.Str.{bytes_eq}
-use Rattle.run_model.specs.Tests.{first_of_each}
+use Rattle.tree_base.specs.ByteOrder.{first_of_each}
 
 module _ {X : Type 0} (key : X → List ℕ) where
   -- what doesn't equal a key, and is kept by a test, still doesn't

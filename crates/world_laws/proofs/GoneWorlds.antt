@@ -24,7 +24,7 @@ use Rattle.run_model.specs.Observation.{first_in, is_up, network_fault}
 use Rattle.run_model.specs.Plans.{Aim, Basis, IsPlanOf, is_kept, is_network_seen, is_removed, is_volume_seen, is_wanted}
 use Rattle.run_model.specs.Requests.{seen_network_id}
 use Rattle.run_model.specs.Runs.{run_setup}
-use Rattle.run_model.specs.Tests.{by_key}
+use Rattle.tree_base.specs.ByteOrder.{by_key}
 use Rattle.run_model.specs.Worlds.{Move}
 use Rattle.run_model.proofs.DistinctLists.{among_by_key, among_filter, at_place}
 use Rattle.run_model.proofs.KeptLaws.{any_of_list}

@@ -17,7 +17,7 @@ use Rattle.run_model.specs.EngineRules.{Among}
 use Rattle.run_model.specs.Journals.{Setup, standing}
 use Rattle.run_model.specs.Plans.{Aim, agrees_seen, create_of, is_create_of, is_kept, kept, kept_of, kind_of, slot_at}
 use Rattle.run_model.specs.Requests.{made_id, slot_id}
-use Rattle.run_model.specs.Tests.{places}
+use Rattle.run_model.specs.Numbers.{places}
 use Rattle.run_model.specs.Worlds.{Move, entries_of}
 use Rattle.run_model.proofs.DistinctLists.{at_place, from_filter}
 use Rattle.run_model.proofs.KeptLaws.{any_of_list, from_least}

@@ -6,7 +6,8 @@ use Rattle.engine_types.specs.declared.Need.{Need}
 use Rattle.engine_types.specs.declared.Slot.{Slot}
 use Rattle.run_model.specs.EngineRules.{Among}
 use Rattle.run_model.specs.OneService.{shop, web}
-use Rattle.run_model.specs.Plans.{IsAscending, IsWhole}
+use Rattle.run_model.specs.Plans.{IsWhole}
+use Rattle.tree_base.specs.ByteOrder.{IsAscending}
 use Rattle.world_laws.specs.OwnSpecs.{HasOwnSpecs, IsOwnSpec}
 
 module _ {X : Type 0} (before : X → X → Bool) where

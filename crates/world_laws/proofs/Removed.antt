@@ -18,7 +18,7 @@ use Rattle.run_model.specs.Legal.{IsLegal}
 use Rattle.run_model.specs.Observation.{is_up}
 use Rattle.run_model.specs.Plans.{Aim, IsPlanOf, is_make_of, kind_of, make_of}
 use Rattle.run_model.specs.Requests.{OfAction, request_of, seen_network_id}
-use Rattle.run_model.specs.Tests.{places}
+use Rattle.run_model.specs.Numbers.{places}
 use Rattle.run_model.specs.Worlds.{Did, Move, Took, entries_of}
 use Rattle.run_model.proofs.LegalLaws.{found_passes}
 use Rattle.run_model.proofs.PlanLaws.{planned_is_plan}

@@ -31,9 +31,10 @@ use Rattle.run_model.specs.Exact.{IsExactNetwork}
 use Rattle.run_model.specs.Journals.{Setup, is_good, standing}
 use Rattle.run_model.specs.Legal.{IsLegal}
 use Rattle.run_model.specs.Observation.{first_in, is_up, network_fault, volume_fault}
-use Rattle.run_model.specs.Plans.{Aim, Basis, IsAscending, IsPlanOf, is_make_of, is_network_seen, is_volume_seen, is_wanted, kind_of, make_of, seen_image}
+use Rattle.run_model.specs.Plans.{Aim, Basis, IsPlanOf, is_make_of, is_network_seen, is_volume_seen, is_wanted, kind_of, make_of, seen_image}
+use Rattle.tree_base.specs.ByteOrder.{IsAscending, by_key, is_before}
 use Rattle.run_model.specs.Requests.{OfAction, OfPoll, made_id, network_id, seen_network_id}
-use Rattle.run_model.specs.Tests.{by_key, is_before, places}
+use Rattle.run_model.specs.Numbers.{places}
 use Rattle.run_model.specs.Worlds.{Changed, Did, Move, Took, effect_of, entries_of}
 use Rattle.run_model.proofs.DistinctLists.{among_by_key, among_filter, at_place, from_by_key, from_filter}
 use Rattle.run_model.proofs.KeptLaws.{any_from_list, any_of_list}

@@ -15,7 +15,7 @@ use Rattle.engine_types.specs.declared.Slot.{Slot}
 use Rattle.run_model.specs.EngineRules.{Among, has_label, is_of_project, label_in}
 use Rattle.run_model.specs.Labels.{agrees, is_lost_state, is_of_slot, names_service}
 use Rattle.run_model.specs.Plans.{IsWhole, is_slot_before, slot_at}
-use Rattle.run_model.specs.Tests.{is_before}
+use Rattle.tree_base.specs.ByteOrder.{is_before}
 use Rattle.run_model.proofs.DistinctLists.{from_place}
 use Rattle.run_model.proofs.PlanLaws.{both, some_from}
 use Rattle.world_laws.specs.OwnSpecs.{HasOwnSpecs}

@@ -11,7 +11,7 @@ use Rattle.engine_types.specs.declared.Observed.{Observed}
 use Rattle.engine_types.specs.declared.Outcome.{Outcome}
 use Rattle.engine_types.specs.declared.Reply.{Reply}
 use Rattle.engine_types.specs.declared.Request.{Request}
-use Rattle.run_model.specs.EngineRules.{Answers, Tells}
+use Rattle.run_model.specs.EngineRules.{Answers, Tells, ToldBy}
 use Rattle.run_model.specs.Journals.{Holding, Nothing, Setup, Watch, Work, holding, is_open}
 use Rattle.run_model.specs.Legal.{IsLegal}
 use Rattle.run_model.specs.Logs.{exchanges_of}
@@ -21,7 +21,6 @@ use Rattle.run_model.specs.Requests.{OfAction, OfPoll, OfSeen, Source, asked, po
 use Rattle.run_model.specs.Runs.{run_setup}
 use Rattle.run_model.specs.Worlds.{Did, Effect, Fits, FitsLast, FitsOutcome, FitsSeen, IsLeft, IsWorldOf, MayAct, Move, Took, World, effect_of, entries_of, is_source, is_unsure, outcome_of, seen_effects}
 use Rattle.world_laws.specs.Laws.{ToldRunsHaveWorlds}
-use Rattle.world_laws.specs.Told.{ToldBy}
 use Rattle.world_laws.proofs.Asked.{out_asked}
 use Rattle.world_laws.proofs.Finished.{basis_of}
 use Rattle.world_laws.proofs.OneWorker.{eqb_back, not_ended, only_holder, source_for, source_is}

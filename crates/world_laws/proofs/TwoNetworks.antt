@@ -6,8 +6,8 @@ use Rattle.engine_types.specs.declared.Attach.{Attach}
 use Rattle.engine_types.specs.declared.NetworkSpec.{NetworkSpec}
 use Rattle.engine_types.specs.declared.Slot.{Slot}
 use Rattle.run_model.specs.EngineRules.{Among}
-use Rattle.run_model.specs.Plans.{IsAscending, IsWhole}
-use Rattle.run_model.specs.Tests.{is_before}
+use Rattle.run_model.specs.Plans.{IsWhole}
+use Rattle.tree_base.specs.ByteOrder.{IsAscending, is_before}
 use Rattle.run_model.specs.TwoNetworks as two
 use Rattle.world_laws.proofs.OneService.{none_ascends, one_ascends}
 use Rattle.world_laws.specs.OwnSpecs.{HasOwnSpecs, IsOwnSpec}

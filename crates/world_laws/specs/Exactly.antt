@@ -12,7 +12,7 @@ use Rattle.engine_types.specs.declared.Slot.{Slot}
 use Rattle.run_model.specs.EngineRules.{is_of_project}
 use Rattle.run_model.specs.Exact.{agrees_in, is_attached}
 use Rattle.run_model.specs.Labels.{is_of_slot, is_orphan}
-use Rattle.run_model.specs.Tests.{first_of_each}
+use Rattle.tree_base.specs.ByteOrder.{first_of_each}
 
 -- the containers that look-ups by id find: of several rows with one id the first
 abbrev pub found_containers : Engine → List ContainerRow

@@ -13,7 +13,7 @@ use Rattle.run_model.specs.Runs.{IsRun, IsWorldOfRun, Task, run_exchanges, run_f
 use Rattle.run_model.specs.Worlds.{Did, Move, World, entries_of}
 use Rattle.world_laws.specs.OwnSpecs.{HasOwnSpecs}
 use Rattle.world_laws.specs.Sights.{IsSightOf}
-use Rattle.world_laws.specs.Told.{ToldBy}
+use Rattle.run_model.specs.EngineRules.{ToldBy}
 
 -- in a legal, final journal without a failing entry every action ended well
 abbrev pub EveryActionEndedWell : Type 0

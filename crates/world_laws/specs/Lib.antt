@@ -1,6 +1,5 @@
 pub mod OwnSpecs
 pub mod Sights
-pub mod Told
 pub mod Laws
 pub mod Exactly
 pub mod OneDown

@@ -4,12 +4,11 @@ ghost use Rattle.std.specs.Option.{option_copied};
 ghost use Rattle.run_model.specs.EngineRules.{has_volume, network_has_name};
 ghost use Rattle.run_model.specs.Exact.{IsExact, agrees_in, is_attached};
 ghost use Rattle.run_model.specs.Labels.{is_of_slot};
-ghost use Rattle.run_model.specs.Plans.{network_name};
 ghost use Rattle.world_laws.specs.Exactly.{fits, found_containers, found_networks, holds_network, holds_slot, may_be_there, only_container};
 
 use crate::look_ups::{found_containers, found_networks, has_volume, image_at, network_has_name};
-use engine_types::{Attach, ContainerRow, Declared, Engine, NetRow, Pairs, Slot};
-use membership::{agrees, has_slot_service, is_of_project, is_of_slot};
+use engine_types::{ContainerRow, Declared, Engine, NetRow, Pairs, Slot};
+use run_lookups::{agrees, has_slot_service, is_of_project, is_of_slot, network_name};
 use std::alloc::Global;
 use tree_base::{Memory, Text};
 
@@ -198,16 +197,6 @@ fn is_on(engine: &Engine, name: &str, row: &ContainerRow) -> bool
         .as_slice()
         .iter()
         .any(|id| network_has_name(engine, name, id))
-}
-
-/// The name of the network that an attach joins. No memory.
-fn network_name<'a>(declared: &'a Declared, attach: &Attach) -> &'a str
-    ensures { result.now ≡ network_name declared.now attach.now }
-{
-    match declared.networks.get(attach.network as usize) {
-        Some(network) => network.name.as_str(),
-        None => "",
-    }
 }
 
 /// Whether each of these containers may be there.

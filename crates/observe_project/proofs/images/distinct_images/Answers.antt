@@ -1,7 +1,7 @@
 use Rattle.std.proofs.Common.{◌≡◌, ℕ, List, [], ◌∷◌, ◌++◌, ◌+◌, map, take, sym, ap, ◌∙◌, arith}
 use Rattle.std.proofs.lemmas.List.{map-append, take_all, take_more}
 use Rattle.engine_types.specs.declared.Slot.{Slot}
-use Rattle.run_model.specs.Tests.{first_of_each}
+use Rattle.tree_base.specs.ByteOrder.{first_of_each}
 use Rattle.observe_project.proofs.images.distinct_images.Goals as goal
 
 pub loop-slot-preserved : goal.loop-slot-preserved

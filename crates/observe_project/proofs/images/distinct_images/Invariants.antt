@@ -1,7 +1,7 @@
 use Rattle.std.proofs.Common.{◌≡◌, ℕ, List, map, take}
 use Rattle.std.specs.Map.{keys_of}
 use Rattle.engine_types.specs.declared.Slot.{Slot}
-use Rattle.run_model.specs.Tests.{first_of_each}
+use Rattle.tree_base.specs.ByteOrder.{first_of_each}
 use Rattle.observe_project.proofs.images.distinct_images.Given as goal
 
 abbrev pub invariant-loop-slot : goal.invariant-loop-slot

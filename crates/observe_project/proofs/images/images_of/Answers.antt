@@ -1,7 +1,7 @@
 use Rattle.std.proofs.Common.{ℕ, List, map, ap, ◌∙◌}
 use Rattle.engine_types.specs.declared.Slot.{Slot}
-use Rattle.run_model.specs.Tests.{by_key, first_of_each}
-use Rattle.observe_project.proofs.Sorting.{sorted_is}
+use Rattle.tree_base.specs.ByteOrder.{by_key, first_of_each}
+use Rattle.tree_base.proofs.Sorting.{sorted_is}
 use Rattle.observe_project.proofs.images.images_of.Goals as goal
 
 pub returns : goal.returns

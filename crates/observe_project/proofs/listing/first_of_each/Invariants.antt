@@ -1,7 +1,7 @@
 use Rattle.std.proofs.Common.{◌≡◌, map, take}
 use Rattle.std.specs.Map.{keys_of}
 use Rattle.engine_types.specs.declared.Listed.{Listed}
-use Rattle.run_model.specs.Tests.{first_of_each}
+use Rattle.tree_base.specs.ByteOrder.{first_of_each}
 use Rattle.observe_project.proofs.listing.first_of_each.Given as goal
 
 abbrev pub invariant-loop-row : goal.invariant-loop-row

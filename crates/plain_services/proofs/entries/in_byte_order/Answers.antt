@@ -1,7 +1,7 @@
 use Rattle.std.proofs.Common.{rules}
 use Rattle.std.proofs.lemmas.Cmp.{nat_list_cmp_total}
 use Rattle.std.proofs.lemmas.List.Sorted.{answers_always, ranks_by}
-use Rattle.run_model.specs.Tests.{is_before}
+use Rattle.tree_base.specs.ByteOrder.{is_before}
 use Rattle.plain_services.specs.declared.entries.Entry.{Entry}
 use Rattle.plain_services.proofs.EntryOrder.{entries_sorted}
 use Rattle.plain_services.proofs.entries.in_byte_order.Goals as goal

@@ -2,7 +2,7 @@
 use Rattle.std.proofs.Common.{◌≡◌, ◌∙◌, ℕ, List, ap, is_lt, nat_cmp, rules}
 use Rattle.std.specs.Cmp.Lexicographic.{slice_cmp}
 use Rattle.std.proofs.lemmas.Fn.{always_returns_same}
-use Rattle.run_model.specs.Tests.{by_key}
+use Rattle.tree_base.specs.ByteOrder.{by_key}
 use Rattle.plan_core.specs.Rows.{id_at}
 use Rattle.plan_core.proofs.ByKey.{less, order, sorted_is_by_key}
 use Rattle.plan_core.proofs.kinds.places_by_id.Goals as goal

@@ -1,7 +1,7 @@
 use Rattle.std.proofs.Common.{◌≡◌, ℕ, ◌-◌, length}
 use Rattle.std.specs.Prelude.{find}
 use Rattle.run_model.specs.Plans.{is_create_of, kind_of, create_of}
-use Rattle.run_model.specs.Tests.{numbers_from}
+use Rattle.run_model.specs.Numbers.{numbers_from}
 use Rattle.run_outcome.proofs.actions.create_of.Given as goal
 
 abbrev pub invariant-loop-at : goal.invariant-loop-at

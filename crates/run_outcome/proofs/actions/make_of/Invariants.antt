@@ -1,7 +1,7 @@
 use Rattle.std.proofs.Common.{◌≡◌, ℕ, ◌-◌, length}
 use Rattle.std.specs.Prelude.{find}
 use Rattle.run_model.specs.Plans.{is_make_of, kind_of, make_of}
-use Rattle.run_model.specs.Tests.{numbers_from}
+use Rattle.run_model.specs.Numbers.{numbers_from}
 use Rattle.run_outcome.proofs.actions.make_of.Given as goal
 
 abbrev pub invariant-loop-at : goal.invariant-loop-at

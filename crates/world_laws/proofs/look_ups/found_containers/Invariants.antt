@@ -1,7 +1,7 @@
 use Rattle.std.proofs.Common.{◌≡◌, map, take, Bor}
 use Rattle.std.specs.Map.{keys_of}
 use Rattle.engine_types.specs.declared.ContainerRow.{ContainerRow}
-use Rattle.run_model.specs.Tests.{first_of_each}
+use Rattle.tree_base.specs.ByteOrder.{first_of_each}
 use Rattle.world_laws.proofs.look_ups.found_containers.Given as goal
 
 abbrev pub invariant-loop-row : goal.invariant-loop-row

@@ -1,7 +1,7 @@
 -- The connects of one slot more.
 use Rattle.std.proofs.Common.{ap}
 use Rattle.run_model.specs.Plans.{is_wanted}
-use Rattle.run_model.specs.Tests.{numbers_from}
+use Rattle.run_model.specs.Numbers.{numbers_from}
 use Rattle.plan_core.specs.Rows.{connects_of}
 use Rattle.plan_core.proofs.Rows.{lists_turn, numbers_more}
 use Rattle.plan_core.proofs.planner.Planner.push_connects.Goals as goal

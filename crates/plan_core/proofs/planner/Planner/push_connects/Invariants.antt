@@ -1,7 +1,7 @@
 use Rattle.std.proofs.Common.{◌≡◌, ◌++◌}
 use Rattle.std.specs.Prelude.{filter, flat_map}
 use Rattle.run_model.specs.Plans.{is_wanted}
-use Rattle.run_model.specs.Tests.{numbers_from}
+use Rattle.run_model.specs.Numbers.{numbers_from}
 use Rattle.plan_core.specs.Rows.{connects_of}
 use Rattle.plan_core.proofs.planner.Planner.push_connects.Given as goal
 

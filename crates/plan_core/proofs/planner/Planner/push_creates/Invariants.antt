@@ -2,7 +2,7 @@ use Rattle.std.proofs.Common.{◌≡◌, ℕ, ◌++◌, map}
 use Rattle.std.specs.Prelude.{filter}
 use Rattle.engine_types.specs.declared.ActionKind.TheVariants.{CreateSlot}
 use Rattle.run_model.specs.Plans.{is_wanted}
-use Rattle.run_model.specs.Tests.{numbers_from}
+use Rattle.run_model.specs.Numbers.{numbers_from}
 use Rattle.plan_core.proofs.planner.Planner.push_creates.Given as goal
 
 abbrev pub invariant-loop-at : goal.invariant-loop-at

@@ -1,0 +1,21 @@
+//! Questions to what a run sees, each answered here and nowhere else: whose a container is, by its labels; whether it agrees
+//! with what is declared; which container a slot keeps; what a state and a reply mean.
+//!
+//! Contracts say that each answer is the defined one, for any labels and anything seen.
+#![tactic(auto)]
+
+mod agreement;
+mod kept;
+mod labels;
+mod names;
+mod replies;
+mod states;
+
+pub use agreement::agrees;
+pub use kept::kept_of;
+pub use labels::{
+    has_label, has_slot_service, is_of_project, is_of_slot, names_service, names_slot,
+};
+pub use names::network_name;
+pub use replies::is_good;
+pub use states::is_live;
