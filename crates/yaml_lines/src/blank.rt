@@ -73,10 +73,7 @@ pub fn tab_indent(chars: &[char]) -> Option<usize>
     ensures is { result ≡ tab_indent chars.now }
     ensures within { IfSome result (λ at. at ≤ length chars.now) }
 {
-    if is_blank(chars) {
-        return None;
-    }
-    if is_tab_first(chars) {
+    if is_tab_first(chars) && !is_blank(chars) {
         Some(spaces(chars))
     } else {
         None

@@ -1,10 +1,11 @@
-ghost use Rattle.std.specs.Prelude.{◌≡◌, ◌≤◌, ◌++◌, ◌<◌, ◌^◌, ◌+◌, length, drop, map, take, IfOk, OnOk, IfSome, None, Some};
+ghost use Rattle.std.specs.Prelude.{◌≡◌, ◌≤◌, ◌++◌, ◌<◌, ◌^◌, ◌+◌, Bool, length, drop, map, take, IfOk, OnOk, IfSome, None, Some};
 ghost use Rattle.std.specs.Str.{encode_utf8_all};
 ghost use Rattle.yaml_lines.specs.Block.{is_all_spaces, content_indent, content_len, empty_len, line_ends, begins_white, gap, joined, trailing, ending, ending_alone, content_text, block_of, with_text, lines_of_rows, is_deeper, deeper, block_at};
 ghost use Rattle.yaml_lines.specs.Rows.{row_of};
 
 use crate::blank::{is_white, spaces};
 use crate::lines::{Line, Lines};
+use crate::plain::with_room;
 use crate::row::{Row, row_of, text_at};
 use std::alloc::Global;
 use tree_base::{List, Memory, Text};
@@ -29,8 +30,8 @@ fn content_indent(rows: &[Row], parent: usize) -> Option<usize>
 {
     for row in rows {
         let line = row.chars.as_slice();
-        if !is_all_spaces(line) {
-            let indent = spaces(line);
+        let indent = spaces(line);
+        if indent != line.len() {
             return if parent < indent { Some(indent) } else { None };
         }
     }
@@ -44,7 +45,8 @@ fn content_len(rows: &[Row], indent: usize) -> usize
 {
     for (at, row) in rows.iter().enumerate() {
         let line = row.chars.as_slice();
-        if !(is_all_spaces(line) || indent <= spaces(line)) {
+        let depth = spaces(line);
+        if !(depth == line.len() || indent <= depth) {
             return at;
         }
     }
@@ -118,13 +120,22 @@ fn push_gap(
     }
 }
 
+/// How many bytes the text of lines has that lose an indentation, where each of their characters is one byte.
+fn room_of(rows: &[Row], indent: usize) -> usize {
+    let mut room = 0usize;
+    for row in rows {
+        room = room.saturating_add(row.chars.len().saturating_sub(indent).saturating_add(1));
+    }
+    room
+}
+
 /// The lines of the content joined, and how many empty ones stand at the end.
 fn joined(alloc: Global, folded: bool, indent: usize, rows: &[Row]) -> Result<(Text, usize), Memory>
     ensures text { IfOk result (λ r. r.0 ≡ encode_utf8_all (joined folded None 0 (map (drop indent) (lines_of_rows rows.now)))) }
     ensures empties { IfOk result (λ r. r.1 ≡ trailing 0 (map (drop indent) (lines_of_rows rows.now))) }
     ensures few { IfOk result (λ r. r.1 ≤ length rows.now) }
 {
-    let mut text = Text::new(alloc);
+    let mut text = with_room(alloc, room_of(rows, indent))?;
     let mut before = None;
     let mut empties = 0;
     for row in rows {
@@ -179,6 +190,18 @@ fn no_content(alloc: Global, chomp: Chomp, empties: usize) -> Result<Text, Memor
         Chomp::Keep => push_line_ends(&mut text, empties)?,
     }
     Ok(text)
+}
+
+/// How many rows a block scalar takes whose lines begin with the first row and are deeper than `parent` spaces. Its
+/// header tells nothing of that.
+pub fn block_len(rows: &[Row], parent: usize) -> usize
+    ensures is { (folded : Bool) (chomp : Chomp) → result ≡ (block_of folded chomp parent (lines_of_rows rows.now)).1 }
+    ensures within { result ≤ length rows.now }
+{
+    match content_indent(rows, parent) {
+        None => empty_len(rows),
+        Some(indent) => content_len(rows, indent),
+    }
 }
 
 /// The text of a block scalar whose lines begin with the first row and are deeper than `parent` spaces, and

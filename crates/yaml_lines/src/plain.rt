@@ -1,6 +1,6 @@
-ghost use Rattle.std.specs.Prelude.{◌≡◌, ◌≤◌, ◌<◌, length, take, false, IfOk, IfSome};
+ghost use Rattle.std.specs.Prelude.{◌≡◌, ◌≤◌, ◌<◌, [], length, take, IfOk, IfSome};
 ghost use Rattle.std.specs.Str.{encode_utf8_all};
-ghost use Rattle.yaml_lines.specs.Plain.{is_space_or_end, is_colon, is_flow_mark, is_indicator, is_mark_before_space, begins_plain, ends_item, ends_plain, plain_run, trimmed_len, plain_len, plain_of};
+ghost use Rattle.yaml_lines.specs.Plain.{is_space_or_end, is_colon, is_flow_mark, is_indicator, is_mark_before_space, begins_plain, ends_item, ends_plain, plain_len, plain_of};
 ghost use Rattle.yaml_lines.specs.Spelling.{spelled};
 
 use crate::blank::is_white;
@@ -82,45 +82,18 @@ fn ends_item(context: Context, c: char) -> bool
     }
 }
 
-/// Whether a plain scalar ends before these characters, where `white` says whether white space precedes.
+/// Whether a plain scalar ends before these characters, where `white` says whether white space precedes. Most characters
+/// are past the colon, which one comparison tells.
 fn ends_plain(chars: &[char], context: Context, white: bool) -> bool
     ensures { result ≡ ends_plain context white chars.now }
 {
     match chars {
         [] => true,
         [c, ..] => {
-            is_colon(chars) || (*c == '#' && white) || *c == '\n' || ends_item(context, *c)
+            (*c <= ':' && (is_colon(chars) || (*c == '#' && white) || *c == '\n'))
+                || ends_item(context, *c)
         }
     }
-}
-
-/// How many characters stand before the end of a plain scalar, with the white space before it.
-fn plain_run(chars: &[char], context: Context) -> usize
-    ensures is { result ≡ plain_run context false chars.now }
-    ensures within { result ≤ length chars.now }
-{
-    let mut white = false;
-    for (at, c) in chars.iter().enumerate() {
-        if ends_plain(&chars[at..], context, white) {
-            return at;
-        }
-        white = is_white(*c);
-    }
-    chars.len()
-}
-
-/// How long characters are without the white space at their end.
-fn trimmed_len(chars: &[char]) -> usize
-    ensures is { result ≡ trimmed_len chars.now }
-    ensures within { result ≤ length chars.now }
-{
-    let mut end = 0;
-    for (at, c) in chars.iter().enumerate() {
-        if !is_white(*c) {
-            end = at + 1;
-        }
-    }
-    end
 }
 
 /// How long the plain scalar is that begins here, without the white space at its end.
@@ -128,8 +101,18 @@ pub fn plain_len(chars: &[char], context: Context) -> usize
     ensures is { result ≡ plain_len context chars.now }
     ensures within { result ≤ length chars.now }
 {
-    let run = plain_run(chars, context);
-    trimmed_len(&chars[..run])
+    let mut white = false;
+    let mut end = 0;
+    for (at, c) in chars.iter().enumerate() {
+        if ends_plain(&chars[at..], context, white) {
+            return end;
+        }
+        white = is_white(*c);
+        if !white {
+            end = at + 1;
+        }
+    }
+    end
 }
 
 /// The plain scalar that begins here, and how many characters spell it. None exactly where none may begin.
@@ -152,9 +135,16 @@ pub fn plain_scalar(
 pub fn text_of(alloc: Global, chars: &[char]) -> Result<Text, Memory>
     ensures { IfOk result (λ text. text ≡ encode_utf8_all chars.now) }
 {
-    let mut text = Text::new(alloc);
+    let mut text = with_room(alloc, chars.len())?;
     for c in chars {
         text.push(*c)?;
     }
     Ok(text)
+}
+
+/// An empty text with room for so many bytes.
+pub(crate) fn with_room(alloc: Global, bytes: usize) -> Result<Text, Memory>
+    ensures { IfOk result (λ text. text ≡ []) }
+{
+    Ok(Text::from_string(String::with_capacity(alloc, bytes)?))
 }

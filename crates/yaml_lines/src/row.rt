@@ -33,6 +33,7 @@ pub fn rows_of(alloc: Global, lines: &Lines) -> Result<List<Row>, Memory>
     ensures { IfOk result (λ rows. rows ≡ map row_of lines.now.lines) }
 {
     let mut rows = List::new(alloc);
+    rows.reserve(lines.lines.len())?;
     for line in lines.lines.as_slice() {
         rows.push(row_of(alloc, line)?)?;
     }
@@ -43,8 +44,12 @@ pub fn rows_of(alloc: Global, lines: &Lines) -> Result<List<Row>, Memory>
 fn characters(alloc: Global, text: &Text) -> Result<List<char>, Memory>
     ensures { IfOk result (λ l. l ≡ chars text.now) }
 {
-    let chars = text.as_str().chars().collect::<Vec<char>>(alloc)?;
-    Ok(List::from_vec(chars))
+    let mut chars = List::new(alloc);
+    chars.reserve(text.len())?;
+    for c in text.as_str().chars() {
+        chars.push(c)?;
+    }
+    Ok(chars)
 }
 
 /// The place of a character of a row; one past the end has the place that would come next. A number past
