@@ -1,5 +1,5 @@
 -- Steps of the calls that read block scalars.
-use Rattle.std.proofs.Common.{◌≡◌, ◌∙◌, ℕ, ◌+◌, ◌<◌, ◌≤◌, List, [], ◌∷◌, ◌++◌, Bool, true, false, cond, eqb, ltb, leb, Option, Some, None, take, drop, length, map, get_or, refl, sym, ap, inl, inr, append_assoc, add-one, if◌then◌else◌, arith}
+use Rattle.std.proofs.Common.{◌≡◌, ◌∙◌, ℕ, ◌+◌, ◌<◌, List, [], ◌∷◌, ◌++◌, Bool, true, false, cond, eqb, ltb, leb, Option, Some, None, take, drop, length, map, get_or, refl, sym, ap, inl, inr, append_assoc, add-one, if◌then◌else◌, arith}
 use Rattle.std.proofs.lemmas.Bool.{cases_Bool}
 use Rattle.std.proofs.lemmas.List.{at_drop_more, take-map}
 use Rattle.std.proofs.lemmas.Str.{encodes-append}

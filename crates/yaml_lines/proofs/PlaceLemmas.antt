@@ -1,10 +1,10 @@
 -- Places of bytes and of characters.
 use lib.Utf8.{encode, next}
-use Rattle.std.proofs.Common.{◌≡◌, ◌∙◌, ℕ, ◌+◌, ◌/◌, ◌%◌, ◌<◌, ◌≤◌, List, [], ◌∷◌, ◌++◌, true, false, cond, eqb, ltb, ◌&&◌, if◌then◌else◌, refl, sym, ap, inl, inr, arith}
+use Rattle.std.proofs.Common.{◌≡◌, ◌∙◌, ℕ, ◌+◌, ◌/◌, ◌%◌, ◌≤◌, List, [], ◌∷◌, ◌++◌, true, false, eqb, ltb, if◌then◌else◌, refl, ap, inl, inr, arith}
 use Rattle.std.proofs.lemmas.Bool.{cases_Bool}
 use Rattle.std.specs.Str.{encode_utf8_all}
-use Rattle.yaml_lines.specs.Rows.{one_more, place_after}
-use Rattle.yaml_lines.specs.Scan.{is_continuation, place_after_bytes}
+use Rattle.yaml_lines.specs.Rows.{one_more}
+use Rattle.yaml_lines.specs.Scan.{place_after_bytes}
 use Rattle.yaml_lines.specs.Laws.{PlacesCountCharacters}
 
 -- a byte that begins no character counts nothing

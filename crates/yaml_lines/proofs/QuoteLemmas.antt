@@ -1,7 +1,7 @@
 -- What stands in double quotes reads back.
-use Rattle.std.proofs.Common.{◌≡◌, ◌∙◌, ℕ, zero, suc, ◌+◌, List, [], ◌∷◌, ◌++◌, true, false, eqb, Option, Some, None, length, refl, sym, ap, inl, inr, append_assoc, length-append, arith}
+use Rattle.std.proofs.Common.{◌≡◌, ◌∙◌, ℕ, ◌+◌, List, [], ◌∷◌, ◌++◌, false, eqb, Some, length, refl, sym, ap, inl, inr, append_assoc, length-append, arith}
 use Rattle.std.proofs.lemmas.Bool.{cases_Bool, eqb-true}
-use Rattle.yaml_lines.specs.Quoted.{double_of, escape_of, quoted_of}
+use Rattle.yaml_lines.specs.Quoted.{double_of, escape_of}
 use Rattle.yaml_lines.specs.Spelling.{after}
 use Rattle.yaml_lines.specs.Laws.{escaped, closed, in_double_quotes, DoubleQuotesReadBack}
 

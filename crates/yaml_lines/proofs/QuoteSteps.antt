@@ -1,11 +1,11 @@
 -- Steps of the loops over scalars in quotes.
-use Rattle.std.proofs.Common.{◌≡◌, ◌≢◌, ◌∙◌, ℕ, zero, suc, ◌+◌, ◌-◌, ◌*◌, ◌<◌, ◌≤◌, List, [], ◌∷◌, ◌++◌, ◌&&◌, Bool, true, false, cond, eqb, ltb, Option, Some, None, get_or, drop, length, refl, sym, ap, append_assoc, arith}
+use Rattle.std.proofs.Common.{◌≡◌, ◌≢◌, ◌∙◌, ℕ, zero, suc, ◌+◌, ◌-◌, ◌*◌, ◌<◌, ◌≤◌, List, [], ◌∷◌, ◌++◌, Bool, true, false, cond, eqb, ltb, Option, Some, None, get_or, drop, length, refl, sym, ap, append_assoc, arith}
 use Rattle.std.proofs.lemmas.List.{at_drop_more, at_drop_all, append-nil, drop-drop}
 use Rattle.std.proofs.lemmas.Str.{encodes-append}
 use Rattle.std.specs.Char.{encode_utf8, digit_value}
 use Rattle.std.specs.Option.{option_map}
 use Rattle.std.specs.Str.{encode_utf8_all}
-use Rattle.yaml_lines.specs.Quoted.{single_of, escape_of, double_of, behind_quote, quoted_of, hex_of, scalar_value}
+use Rattle.yaml_lines.specs.Quoted.{single_of, escape_of, double_of, behind_quote, quoted_of, hex_of}
 use Rattle.yaml_lines.specs.Spelling.{after, spelled}
 
 -- a text and how many characters spell it, with what was read behind it

@@ -1,4 +1,4 @@
-use Rattle.std.proofs.Common.{◌≡◌, ◌∙◌, ◌+◌, ap, List, ℕ, map, drop}
+use Rattle.std.proofs.Common.{◌∙◌, ◌+◌, ap, List, ℕ, map, drop}
 use Rattle.yaml_lines.specs.Block.{with_text, block_of, lines_of_rows, deeper}
 use Rattle.yaml_lines.specs.Rows.{row_of}
 use Rattle.yaml_lines.proofs.BlockSteps.{block_deeper}

@@ -1,4 +1,4 @@
-use Rattle.std.proofs.Common.{◌≡◌, ◌∙◌, ◌-◌, ◌≤◌, ◌+◌, ◌*◌, ℕ, drop, refl, sym, ap, rules, arith}
+use Rattle.std.proofs.Common.{◌∙◌, ◌-◌, ◌≤◌, ◌+◌, ◌*◌, drop, sym, ap, arith}
 use Rattle.yaml_lines.proofs.QuoteSteps.{hex_more, hex_short, hex_bad, hex_large}
 use Rattle.std.specs.Char.{digit_value}
 use Rattle.yaml_lines.specs.Quoted.{hex_of}

@@ -1,4 +1,4 @@
-use Rattle.std.proofs.Common.{◌≡◌, ◌∙◌, ◌<◌, ◌≤◌, sym, ap, List, ℕ, length, take, Ok, Err, arith}
+use Rattle.std.proofs.Common.{◌≡◌, ◌∙◌, ◌<◌, ◌≤◌, sym, ap, List, ℕ, length, Ok, Err, arith}
 use Rattle.std.proofs.lemmas.List.{take_all}
 use Rattle.std.proofs.lemmas.Str.{utf8_valid_len-IsUtf8}
 use Rattle.std.specs.Str.{IsUtf8}
@@ -7,7 +7,6 @@ use Rattle.std.specs.Str.Lossy.{utf8_valid_len}
 use Rattle.yaml_lines.specs.declared.lines.Line.{Line}
 use Rattle.yaml_lines.specs.declared.lines.Lines.{Lines}
 use Rattle.yaml_lines.specs.declared.refusal.YamlFault.TheVariants.{BadScalar}
-use Rattle.yaml_lines.specs.declared.refusal.YamlRefusal.{YamlRefusal}
 use Rattle.yaml_lines.specs.declared.refusal.YamlRefusal.TheVariants.{Bad}
 use Rattle.yaml_lines.specs.Scan.{scanned, scan_of, without_mark, clean_len, place_of_byte, numbered}
 use Rattle.yaml_lines.proofs.lines.scan.Goals as goal

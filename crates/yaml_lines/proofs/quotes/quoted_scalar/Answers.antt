@@ -1,4 +1,4 @@
-use Rattle.std.proofs.Common.{◌≡◌, ◌∙◌, sym, ap, drop, arith}
+use Rattle.std.proofs.Common.{◌∙◌, sym, ap, drop, arith}
 use Rattle.std.proofs.lemmas.List.{take_rest}
 use Rattle.yaml_lines.specs.Quoted.{behind_quote}
 use Rattle.yaml_lines.specs.Spelling.{spelled}

@@ -1,4 +1,4 @@
-use Rattle.std.proofs.Common.{◌≡◌, ◌∙◌, eqb, sym, ap, true, false, drop, arith}
+use Rattle.std.proofs.Common.{◌≡◌, ◌∙◌, eqb, sym, ap, true, arith}
 use Rattle.yaml_lines.specs.Quoted.{single_of}
 use Rattle.yaml_lines.proofs.QuoteSteps.{more, moves, differs, single_char, single_pair, single_line_end}
 use Rattle.yaml_lines.proofs.quotes.single.Goals as goal
