@@ -24,6 +24,10 @@ pub record Heard : Type 0 where
 abbrev pub HearsEach : List Exchange → Option (List Heard) → Type 0
 HearsEach log heard = IfSome heard (λ items. length items ≡ length log)
 
+-- nothing was heard yet, where it is told
+abbrev pub HeardNothing : Option (List Heard) → Type 0
+HeardNothing heard = IfSome heard (λ items. items ≡ [])
+
 -- what was heard before stays
 abbrev pub HearsMore : Option (List Heard) → Option (List Heard) → Type 0
 HearsMore None new = new ≡ None

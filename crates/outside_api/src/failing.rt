@@ -1,9 +1,11 @@
-ghost use Rattle.std.specs.Prelude.{◌≡◌, ◌≤◌, [], false, MatchBool};
-ghost use Rattle.outside_api.specs.Counts.{Rose};
+ghost use Rattle.std.specs.Prelude.{◌≡◌, ◌≤◌, if◌then◌else◌};
+ghost use Rattle.outside_api.specs.Counts.{Rose, one_more};
+ghost use Rattle.outside_api.specs.Failures.{next_fails};
 
 use tree_base::List;
 
-/// Which calls of an object in memory are to fail, and how many did.
+/// Which calls of an object in memory are to fail, how many were made, and how many failed. Both counts stand still
+/// at the greatest `u64`.
 #[derive(Drop)]
 pub struct Failing {
     /// The numbers of the calls that are to fail, from 1.
@@ -16,6 +18,7 @@ impl Failing {
     /// No call was made yet. No memory.
     pub fn new(fails: List<u64>) -> Failing
         ensures fails { result.fails ≡ fails }
+        ensures calls { result.calls ≡ 0 }
         ensures failed { result.failed ≡ 0 }
     {
         Failing {
@@ -25,12 +28,13 @@ impl Failing {
         }
     }
 
-    /// Counts a call, and whether it is to fail. No memory.
+    /// Counts a call, and whether it is to fail: exactly where its number is among those that are. No memory.
     pub fn next_fails(&mut self) -> bool
         ensures fails { self.new.fails ≡ self.old.fails }
-        ensures counted { MatchBool result (Rose self.old.failed self.new.failed) (self.new.failed ≡ self.old.failed) }
+        ensures calls { self.new.calls ≡ one_more self.old.calls }
+        ensures told { result ≡ next_fails self.old.fails self.old.calls }
+        ensures failed { self.new.failed ≡ (if result then one_more self.old.failed else self.old.failed) }
         ensures never_falls { self.old.failed ≤ self.new.failed }
-        ensures none { self.old.fails ≡ [] → result ≡ false }
     {
         self.calls = self.calls.saturating_add(1);
         let fails = self.fails.as_slice().contains(&self.calls);
@@ -43,6 +47,8 @@ impl Failing {
     /// Counts a fault beside those that were asked for. No memory.
     pub fn count_fault(&mut self)
         ensures fails { self.new.fails ≡ self.old.fails }
+        ensures calls { self.new.calls ≡ self.old.calls }
+        ensures failed { self.new.failed ≡ one_more self.old.failed }
         ensures counted { Rose self.old.failed self.new.failed }
         ensures never_falls { self.old.failed ≤ self.new.failed }
     {

@@ -25,10 +25,14 @@ pub trait Hand: Drop {
     ghost clock: { Self → Clock };
 
     /// Sends a request and waits for what comes of it. Room in the log is taken first: where there is none,
-    /// the answer is Memory, and nothing is sent. After Lost or Memory the request may have taken effect.
+    /// the answer is Memory, nothing is sent, and the log stays. After Lost, or a Memory that is logged, the
+    /// request may have taken effect.
     fn exchange(&mut self, alloc: Global, request: Request) -> Outcome
         ensures log { Logs (log self.old) request result (log self.new) }
         ensures told { Tells (engine self.old) request result (engine self.new) }
+        ensures unsent { log self.new ≡ log self.old → engine self.new ≡ engine self.old }
+        ensures unsent_heard { log self.new ≡ log self.old → heard self.new ≡ heard self.old }
+        ensures unsent_faults { log self.new ≡ log self.old → faults self.new ≡ faults self.old }
         ensures heard { HearsMore (heard self.old) (heard self.new) }
         ensures heard_each { HearsEach (log self.old) (heard self.old) → HearsEach (log self.new) (heard self.new) }
         ensures counted { faults self.old ≤ faults self.new }

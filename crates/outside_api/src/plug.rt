@@ -3,7 +3,7 @@ ghost use Rattle.std.specs.Option.{ForSome};
 ghost use Rattle.engine_types.specs.declared.Engine.{Engine};
 ghost use Rattle.outside_api.specs.Clock.{new_clock};
 ghost use Rattle.outside_api.specs.Counts.{Rose};
-ghost use Rattle.outside_api.specs.Hands.{BeginsWith};
+ghost use Rattle.outside_api.specs.Hands.{BeginsWith, HeardNothing};
 ghost use Rattle.outside_api.specs.Plugs.{CountsDial};
 
 use crate::hand::Hand;
@@ -32,7 +32,8 @@ pub trait Plug: Drop {
     /// How many dials failed.
     ghost faults: { Self → ℕ };
 
-    /// Makes the hand of a worker, by its number. The hand's log is empty, and its clock was never used.
+    /// Makes the hand of a worker, by its number. The hand's log is empty, it heard nothing and counted no
+    /// fault, and its clock was never used.
     fn dial(
         &mut self,
         alloc: Global,
@@ -45,6 +46,7 @@ pub trait Plug: Drop {
         ensures failed { result ≡ DialAnswer.Failed → Rose (faults self.old) (faults self.new) }
         ensures dialled { CountsDial (dialled self.old) (dialled self.new) result }
         ensures log { (hand : Self.Hand) → result ≡ DialAnswer.Dialled hand → Self.Hand.log hand ≡ [] }
+        ensures heard { (hand : Self.Hand) → result ≡ DialAnswer.Dialled hand → HeardNothing (Self.Hand.heard hand) }
         ensures clock { (hand : Self.Hand) → result ≡ DialAnswer.Dialled hand → Self.Hand.clock hand ≡ new_clock }
         ensures faults { (hand : Self.Hand) → result ≡ DialAnswer.Dialled hand → Self.Hand.faults hand ≡ 0 }
         ensures engine { (hand : Self.Hand) → result ≡ DialAnswer.Dialled hand → BeginsWith (engine self.old) (Self.Hand.engine hand) };
