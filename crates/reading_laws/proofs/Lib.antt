@@ -1,0 +1,3 @@
+pub mod Braces
+pub mod Levels
+pub mod TailValues
