@@ -18,7 +18,7 @@ use Rattle.engine_types.specs.declared.Slot.{Slot}
 use Rattle.run_model.specs.EngineRules.{Among, is_live, is_of_project}
 use Rattle.run_model.specs.Labels.{agrees, has_slot_service, names_service, names_slot}
 use Rattle.run_model.specs.Observation.{is_up}
-use Rattle.tree_base.specs.ByteOrder.{by_key, is_before, least_by}
+use Rattle.tree_base.specs.ByteOrder.{IsAscending, by_key, is_before, least_by}
 use Rattle.run_model.specs.Numbers.{places}
 
 -- what a run is for: to bring a project up or down, and whether orphans go, and whether `down` takes volumes too
