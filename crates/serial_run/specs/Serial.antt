@@ -19,7 +19,7 @@ use Rattle.engine_types.specs.declared.Slot.{Slot}
 use Rattle.outside_api.specs.Clock.{Clock}
 use Rattle.outside_api.specs.Hands.{HasCause, Heard, HearsEach, HearsMore, Logs}
 use Rattle.run_model.specs.Ending.{is_goal_over, is_over}
-use Rattle.run_model.specs.EngineRules.{Among, ToldBy}
+use Rattle.run_model.specs.EngineRules.{Among, Tells, ToldBy}
 use Rattle.run_model.specs.Journals.{Badly, Free, Nothing, Setup, Well, has_left, holding, is_ending, is_good, seen_in, standing}
 use Rattle.run_model.specs.Legal.{IsLegal, IsObserved, entries_limit, next_action}
 use Rattle.run_model.specs.Logs.{GrowsBy, exchanges_of}
