@@ -1,0 +1,13 @@
+pub mod Alike
+pub mod Belonging
+pub mod BlankLines
+pub mod Blocks
+pub mod Examples
+pub mod Flows
+pub mod LineEnds
+pub mod Lines
+pub mod Mappings
+pub mod Nodes
+pub mod Parts
+pub mod Places
+pub mod Properties
