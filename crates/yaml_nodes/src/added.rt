@@ -9,20 +9,20 @@ use crate::progress::Progress;
 use crate::spot::Spot;
 use indexmap::IndexMap;
 use std::alloc::Global;
-use tree_base::{Map, Memory, Text, Tree};
+use tree_base::{Map, Memory, Shared, Text, Tree};
 use yaml_lines::{Row, YamlRefusal};
 
 /// The pairs that a merge key adds, as they stand in its mappings.
 pub type Added<'m> = IndexMap<&'m Text, &'m Tree>;
 
 /// The pairs that mappings add to one: each key that isn't there yet, earlier mappings first.
-pub fn added<'m>(alloc: Global, own: &Map, maps: &'m [Map]) -> Result<Added<'m>, Memory>
+pub fn added<'m>(alloc: Global, own: &Map, maps: &'m [Shared<Map>]) -> Result<Added<'m>, Memory>
     ensures is { IfOk result (λ found. map deref_pair found.entries ≡ added own.now maps.now) }
     ensures new { IfOk result (λ found. AreNew own.now (map deref_pair found.entries)) }
 {
     let mut found = IndexMap::new(alloc);
     for map in maps {
-        add(&mut found, own, map)?;
+        add(&mut found, own, map.get())?;
     }
     Ok(found)
 }
@@ -127,7 +127,7 @@ pub fn count(
     Ok(())
 }
 
-/// Puts copies of pairs that are new.
+/// Puts pairs that are new: copies of their keys, and their trees with one more owner.
 pub fn put_all(alloc: Global, own: &mut Map, found: &Added<'_>) -> Result<(), Memory>
     requires { AreNew own.old (map deref_pair found.now.entries) }
     ensures { OnOk result (own.new ≡ own.old ++ map deref_pair found.now.entries) }

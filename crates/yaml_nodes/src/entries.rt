@@ -9,14 +9,14 @@ use crate::key::Key;
 use crate::progress::Progress;
 use crate::spot::Spot;
 use std::alloc::Global;
-use tree_base::{List, Map, Memory, Tree};
+use tree_base::{List, Map, Memory, Shared, Tree};
 use yaml_lines::{Row, YamlFault, YamlRefusal};
 
 /// A merge key with its value.
 #[derive(Drop)]
 pub struct Merge {
     /// The mappings that it adds, earlier ones first.
-    pub maps: List<Map>,
+    pub maps: List<Shared<Map>>,
     /// Where the key stands.
     pub spot: Spot,
 }
@@ -105,7 +105,7 @@ pub fn with_pair(
 }
 
 /// The mappings that the value of a merge key adds: it is one, or a sequence of some; else None.
-fn added_maps(alloc: Global, tree: Tree) -> Result<Option<List<Map>>, Memory>
+fn added_maps(alloc: Global, tree: Tree) -> Result<Option<List<Shared<Map>>>, Memory>
     ensures { IfOk result (λ maps. maps ≡ added_maps (out-Tree tree)) }
 {
     match tree {
@@ -114,21 +114,21 @@ fn added_maps(alloc: Global, tree: Tree) -> Result<Option<List<Map>>, Memory>
             maps.push(map)?;
             Ok(Some(maps))
         }
-        Tree::Seq(trees) => all_maps(alloc, trees),
+        Tree::Seq(trees) => all_maps(alloc, trees.as_slice()),
         _ => Ok(None),
     }
 }
 
 /// The mappings among which nothing else is; None where something is.
-fn all_maps(alloc: Global, trees: List<Tree>) -> Result<Option<List<Map>>, Memory>
-    ensures { IfOk result (λ maps. maps ≡ all_pairs trees) }
+fn all_maps(alloc: Global, trees: &[Tree]) -> Result<Option<List<Shared<Map>>>, Memory>
+    ensures { IfOk result (λ maps. maps ≡ all_pairs trees.now) }
 {
     let mut maps = List::new(alloc);
-    for tree in trees.into_vec() {
+    for tree in trees {
         let Tree::Map(map) = tree else {
             return Ok(None);
         };
-        maps.push(map)?;
+        maps.push(map.share()?)?;
     }
     Ok(Some(maps))
 }
@@ -145,7 +145,7 @@ pub fn merged(
 {
     let Entries { own, merge } = entries;
     match merge {
-        None => Ok(Tree::Map(own)),
+        None => Ok(Tree::mapping(alloc, own)?),
         Some(merge) => merged_with(alloc, progress, row, own, &merge),
     }
 }
@@ -164,5 +164,5 @@ fn merged_with(
     let found = added(alloc, &own, merge.maps.as_slice())?;
     count(progress, row, merge.spot, &found)?;
     put_all(alloc, &mut own, &found)?;
-    Ok(Tree::Map(own))
+    Ok(Tree::mapping(alloc, own)?)
 }

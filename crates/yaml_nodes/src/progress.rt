@@ -25,7 +25,7 @@ pub struct Progress {
     pub nodes: u64,
     /// Bytes of keys and scalars; those of copies count again.
     pub text: u64,
-    /// The latest finished node of each name.
+    /// The latest finished node of each name, which the tree holds too.
     pub names: Map,
 }
 

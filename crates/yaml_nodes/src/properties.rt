@@ -202,7 +202,7 @@ pub fn finished(
     Ok(marked(alloc, found.tag, tree)?)
 }
 
-/// Puts a copy of a tree under its name, if it has one.
+/// Puts a tree under its name too, if it has one, by one more owner of it.
 fn keep_named(
     alloc: Global,
     progress: &mut Progress,
