@@ -64,7 +64,7 @@ fn sequence(
 {
     progress.one_node(levels, row, at, 0)?;
     let (items, end) = items(alloc, progress, levels - 1, row, at)?;
-    let tree = finished(alloc, progress, found, Tree::Seq(items))?;
+    let tree = finished(alloc, progress, found, Tree::sequence(alloc, items)?)?;
     Ok((tree, end))
 }
 

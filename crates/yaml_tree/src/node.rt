@@ -141,7 +141,7 @@ fn block_sequence(
 {
     progress.one_node(levels, &line.row, column, 0)?;
     let items = items(alloc, progress, levels - 1, column, line, more)?;
-    finished(alloc, progress, found, Tree::Seq(items))
+    finished(alloc, progress, found, Tree::sequence(alloc, items)?)
 }
 
 /// The items of a sequence at a column, of which the first begins with a line.
