@@ -2,6 +2,7 @@ ghost use Rattle.std.specs.Prelude.{◌≡◌, [], length, map, IfOk};
 ghost use Rattle.std.specs.List.{zip};
 ghost use Rattle.tree_base.specs.Entries.{value_at};
 ghost use Rattle.tree_base.specs.declared.Step.TheVariants.{Key, Index};
+ghost use Rattle.tree_base.specs.declared.Tree.{Tree};
 ghost use Rattle.interpolate.specs.Parts.{place};
 ghost use Rattle.interpolate.specs.Substitution.{substituted};
 ghost use Rattle.interpolate.specs.Walking.{with_bytes, root_refusal, scalar_walk, under, items_walk, entry_walk, entries_walk, tree_walk, substituted_tree, TreeGives, UpGives, outer, turned, beside};
@@ -10,7 +11,7 @@ use crate::check::place;
 use crate::refusal::{SubstRefusal, SubstTreeRefusal};
 use crate::text::subst;
 use std::alloc::Global;
-use tree_base::{Boxed, Env, List, Memory, Step, Text, Tree};
+use tree_base::{Boxed, Env, List, Map, Memory, Step, Text, Tree};
 
 /// How many bytes the keys and the scalars of a tree may have.
 const MOST_BYTES: usize = 16_777_216;
@@ -127,13 +128,10 @@ fn tree_value(
     match tree {
         Tree::Null => Ok(Tree::Null),
         Tree::Scalar(text) => scalar_value(alloc, text, env, size),
-        Tree::Map(entries) => {
-            let values = entry_values(entries.values(), entries.keys(), alloc, env, size)?;
-            Ok(Tree::Map(entries.with_values(alloc, values)?))
-        }
+        Tree::Map(entries) => map_value(entries.get(), alloc, env, size),
         Tree::Seq(items) => {
             let values = item_values(items.as_slice(), alloc, env, size)?;
-            Ok(Tree::Seq(values))
+            Ok(Tree::sequence(alloc, values)?)
         }
         Tree::Reset => Ok(Tree::Reset),
         Tree::Override(inner) => {
@@ -141,6 +139,21 @@ fn tree_value(
             Ok(Tree::Override(Boxed::new(alloc, value)?))
         }
     }
+}
+
+/// A mapping with the values of its scalars.
+#[cycle(walk)]
+fn map_value(
+    entries: &Map,
+    alloc: Global,
+    env: &Env,
+    size: &mut usize,
+) -> Result<Tree, SubstTreeRefusal>
+    ensures { UpGives (beside result size.new) (tree_walk (value_at env.now) (Tree.Map entries.now) size.old) }
+{
+    let values = entry_values(entries.values(), entries.keys(), alloc, env, size)?;
+    let entries = entries.with_values(alloc, values)?;
+    Ok(Tree::mapping(alloc, entries)?)
 }
 
 /// The items of a sequence, each with the values of its scalars.

@@ -78,20 +78,17 @@ entry_values-returns-clause-value t c =
     let none = no_entry (tree_walk env) a.keys.now a.values.now l.at (omega arith) in
     sym l.invariant.value ∙ ap (entries_walk (l.done, l.size)) none
 
-pub tree_value-returns-in_err-values-in-Map : goal.tree_value-returns-in_err-values-in-Map
-tree_value-returns-in_err-values-in-Map t c =
+pub map_value-returns-in_err-values : goal.map_value-returns-in_err-values
+map_value-returns-in_err-values t c =
     let a = c.args in
     let p = err_from_is_err_and c.from_residual.result c.from_residual.ensures.1 in
-    let e = c.in_err-values-in-Map.field-0.0 in
-    let env = value_at a.env.now in
-    rw (p.1, p.2) (same_fails e _ _ (ap (λ (tree : Tree). tree_walk env tree a.size.now) (sym c.in-Map.is))
-    (map_fails env c.in-Map.entries c.keys.result.now c.values.result.now a.size.now e c.keys.ensures c.values.ensures c.in_err-values-in-Map.ensures.value))
+    let e = c.in_err-values.field-0.0 in
+    rw (p.1, p.2) (map_fails (value_at a.env.now) a.entries.now c.keys.result.now c.values.result.now a.size.now e c.keys.ensures c.values.ensures c.in_err-values.ensures.value)
 
-pub tree_value-returns-in_ok-with_values-in-Map : goal.tree_value-returns-in_ok-with_values-in-Map
-tree_value-returns-in_ok-with_values-in-Map t c =
+pub map_value-returns-in_ok-mapping : goal.map_value-returns-in_ok-mapping
+map_value-returns-in_ok-mapping t c =
     let a = c.args in
-    let env = value_at a.env.now in
     let new = c.entry_values.new.size in
-    ap (λ (tree : Tree). tree_walk env tree a.size.now) c.in-Map.is
-    ∙ map_done env c.in-Map.entries c.keys.result.now c.values.result.now c.in_ok-values-in-Map.values a.size.now new c.keys.ensures c.values.ensures c.in_ok-values-in-Map.ensures.value
-    ∙ ap (λ (es : List (List ℕ × Tree)). Ok (Map es, new)) (sym c.in_ok-with_values-in-Map.ensures)
+    map_done (value_at a.env.now) a.entries.now c.keys.result.now c.values.result.now c.in_ok-values.values a.size.now new c.keys.ensures c.values.ensures c.in_ok-values.ensures.value
+    ∙ ap (λ (es : List (List ℕ × Tree)). Ok (Map es, new)) (sym c.in_ok-entries.ensures)
+    ∙ ap (λ (tree : Tree). Ok (tree, new)) (sym c.in_ok-mapping.ensures)
