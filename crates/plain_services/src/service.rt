@@ -18,7 +18,7 @@ pub(crate) fn service_of(alloc: Global, name: &Text, value: &Tree) -> Result<Pla
     ensures { Gives result (service_of name.now (out-Tree value.now)) }
 {
     match value {
-        Tree::Map(attributes) => service_with(alloc, name, attributes),
+        Tree::Map(attributes) => service_with(alloc, name, attributes.get()),
         _ => Err(refusal_at(in_service(alloc, name, List::new(alloc)))),
     }
 }

@@ -34,7 +34,7 @@ pub(crate) fn services_in(alloc: Global, tree: &Tree) -> Result<List<PlainServic
 {
     match tree {
         Tree::Null => Ok(List::new(alloc)),
-        Tree::Map(entries) => services_of_file(alloc, entries),
+        Tree::Map(entries) => services_of_file(alloc, entries.get()),
         _ => Err(refusal_at(Ok(List::new(alloc)))),
     }
 }
@@ -59,7 +59,7 @@ fn services_under(alloc: Global, entries: &Map) -> Result<List<PlainService>, Re
     match value_under(alloc, entries, "services") {
         Ok(None) => Ok(List::new(alloc)),
         Ok(Some(Tree::Null)) => Ok(List::new(alloc)),
-        Ok(Some(Tree::Map(services))) => few_services(alloc, services),
+        Ok(Some(Tree::Map(services))) => few_services(alloc, services.get()),
         Ok(Some(_)) => Err(refusal_at(below_key(alloc, "services", List::new(alloc)))),
         Err(Memory) => Err(Refusal::Memory),
     }
