@@ -52,7 +52,7 @@ impl Answers {
         let mut entries = Map::new(self.alloc);
         let key = Text::from_str(self.alloc, "bytes")?;
         let _ = entries.put(key, Tree::Scalar(digits))?;
-        self.put(name, Tree::Map(entries))
+        self.put(name, Tree::mapping(self.alloc, entries)?)
     }
 
     /// Puts a number, in decimal.
@@ -72,7 +72,7 @@ impl Answers {
         for text in texts.into_vec() {
             items.push(Tree::Scalar(text))?;
         }
-        self.put(name, Tree::Seq(items))
+        self.put(name, Tree::sequence(self.alloc, items)?)
     }
 
     /// Puts null.

@@ -40,7 +40,7 @@ fn add_parts(
     for part in parts {
         match part {
             Tree::Scalar(text) => to.extend_from_slice(text.as_str().as_bytes())?,
-            Tree::Map(entries) => add_part(alloc, entries, what, to)?,
+            Tree::Map(entries) => add_part(alloc, entries.get(), what, to)?,
             _ => return Err(CaseFault::wants(alloc, what, "a text")),
         }
     }

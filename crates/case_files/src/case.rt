@@ -21,7 +21,7 @@ impl<'c> Case<'c> {
         match tree {
             Tree::Map(entries) => Ok(Case {
                 alloc,
-                fields: Fields::new(alloc, entries),
+                fields: Fields::new(alloc, entries.get()),
             }),
             _ => Err(CaseFault::no_case(alloc, "a case wants a mapping")),
         }

@@ -19,7 +19,7 @@ impl<'c> Fields<'c> {
     /// The fields of a tree. NoCase where the tree is no mapping.
     pub fn of_tree(alloc: Global, tree: &'c Tree, what: &str) -> Result<Fields<'c>, CaseFault> {
         match tree {
-            Tree::Map(entries) => Ok(Fields { alloc, entries }),
+            Tree::Map(entries) => Ok(Fields::new(alloc, entries.get())),
             _ => Err(CaseFault::wants(alloc, what, "a mapping")),
         }
     }

@@ -15,7 +15,7 @@ fn show(tree: &Tree, line: &mut String) -> Result<(), AllocError> {
     match tree {
         Tree::Null => line.push_str("null"),
         Tree::Scalar(text) => write!(line, "{text:?}"),
-        Tree::Map(entries) => show_entries(entries, line),
+        Tree::Map(entries) => show_entries(entries.get(), line),
         Tree::Seq(items) => show_items(items.as_slice(), line),
         Tree::Reset => line.push_str("!reset"),
         Tree::Override(inner) => {

@@ -23,7 +23,7 @@ pub fn cases_of(rt: &HostRuntime, file: &Text) -> Result<List<Tree>, CaseFault> 
 
 fn cases_in(alloc: Global, bytes: &[u8]) -> Result<List<Tree>, CaseFault> {
     match tree_in(alloc, bytes) {
-        Ok(Tree::Seq(cases)) => Ok(cases),
+        Ok(Tree::Seq(cases)) => Ok(cases.take(alloc)?),
         Ok(_) => Err(CaseFault::no_case(alloc, "the file wants a sequence")),
         Err(YamlRefusal::Memory) => Err(CaseFault::Memory),
         Err(refusal) => {
