@@ -1,12 +1,15 @@
 //! The hands of a run over an Engine in memory, and the plug that makes one.
 //!
 //! `MemoryHand` meets the contract of `Hand`: its log grows by exactly the exchange, and its Engine changes by one
-//! answer that an Engine may give, or by none, as the outcome says.
+//! answer that an Engine may give, or by none, as the outcome says. What each exchange comes to is exactly what the
+//! Engine's plan of faults says of its number.
 #![tactic(auto)]
 
+mod fate;
 mod hand_clock;
 mod memory_hand;
 mod memory_plug;
+mod outcome;
 
 pub use hand_clock::HandClock;
 pub use memory_hand::MemoryHand;

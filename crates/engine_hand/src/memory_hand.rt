@@ -1,18 +1,21 @@
-ghost use Rattle.std.specs.Prelude.{◌≡◌, ◌≤◌, ◌⊎◌, Some, None, [], true};
-ghost use Rattle.engine_types.specs.declared.Outcome.{Outcome};
-ghost use Rattle.run_model.specs.EngineRules.{Tells};
-ghost use Rattle.outside_api.specs.Clock.{new_clock};
-ghost use Rattle.outside_api.specs.Counts.{Rose};
-ghost use Rattle.engine_hand.specs.MemoryHands.{is_faulty};
+ghost use Rattle.std.specs.Prelude.{◌≡◌, ◌+◌, ◌<◌, ◌≤◌, ◌^◌, Some, None, [], min};
+ghost use Rattle.run_model.specs.EngineRules.{DriftsTold, Tells};
+ghost use Rattle.outside_api.specs.Clock.{new_clock, after_now, after_pause, after_asked};
+ghost use Rattle.outside_api.specs.Counts.{one_more};
+ghost use Rattle.outside_api.specs.Hands.{HasCause, Logs, logged};
+ghost use Rattle.memory_engine.specs.Ticking.{later, ticked};
+ghost use Rattle.engine_hand.specs.Fates.{ComesTo, faults_after, is_asked};
 
+use crate::fate::fate_of;
 use crate::hand_clock::HandClock;
-use engine_types::{Exchange, Outcome, Request, WireEnd};
+use crate::outcome::outcome_on;
+use engine_types::{Exchange, Outcome, Request};
 use memory_engine::MemoryEngine;
 use outside_api::Hand;
 use std::alloc::Global;
-use tree_base::{ReservedList, TryCopy};
+use tree_base::ReservedList;
 
-/// A hand that owns an Engine in memory. It tells that Engine; it loses, and doesn't send, the exchanges that
+/// A hand that owns an Engine in memory. It tells that Engine; it loses, and doesn't send, exactly the exchanges that
 /// the Engine's plan of faults names, and each of these is counted as a fault.
 #[derive(Drop)]
 pub struct MemoryHand {
@@ -23,11 +26,14 @@ pub struct MemoryHand {
 }
 
 impl MemoryHand {
+    ghost use Rattle.engine_hand.specs.MemoryHands.{time_of};
+
     /// A hand with an empty log and a clock that was never used. No memory.
     pub fn new(alloc: Global, engine: MemoryEngine) -> MemoryHand
         ensures engine { result.engine ≡ engine }
         ensures log { ⟦<MemoryHand as Hand>⟧.log result ≡ [] }
         ensures clock { ⟦<MemoryHand as Hand>⟧.clock result ≡ new_clock }
+        ensures time { time_of result ≡ 0 }
         ensures faults { ⟦<MemoryHand as Hand>⟧.faults result ≡ 0 }
     {
         MemoryHand {
@@ -48,6 +54,7 @@ impl MemoryHand {
 
 impl Hand for MemoryHand {
     ghost use Rattle.engine_hand.specs.HandClocks.{counts_of};
+    ghost use Rattle.engine_hand.specs.MemoryHands.{log_of, faults_of, clock_of, time_of, next_fate};
 
     ghost log = { λ hand. hand.log.items };
 
@@ -59,16 +66,37 @@ impl Hand for MemoryHand {
 
     ghost clock = { λ hand. counts_of hand.clock };
 
-    fn exchange(&mut self, alloc: Global, request: Request) -> Outcome {
+    /// Makes the next exchange on the Engine, which comes to what the plan of faults says of its number. Where there is no
+    /// room in the log, nothing changes.
+    fn exchange(&mut self, alloc: Global, request: Request) -> Outcome
+        ensures log { Logs (log_of self.old) request result (log_of self.new) }
+        ensures told { Tells (Some self.old.engine.engine) request result (Some self.new.engine.engine) }
+        ensures unsent { log_of self.new ≡ log_of self.old
+            → Some self.new.engine.engine ≡ Some self.old.engine.engine }
+        ensures unsent_faults { log_of self.new ≡ log_of self.old → faults_of self.new ≡ faults_of self.old }
+        ensures counted { faults_of self.old ≤ faults_of self.new }
+        ensures cause { HasCause None (faults_of self.old) (faults_of self.new) result }
+        ensures clock { clock_of self.new ≡ clock_of self.old }
+        ensures unlogged { log_of self.new ≡ log_of self.old → self.new.engine ≡ self.old.engine }
+        ensures fate { log_of self.new ≡ logged (log_of self.old) request result
+            → ComesTo (next_fate self.old.engine) self.old.engine.catalogue
+            self.old.engine.engine request result self.new.engine.engine }
+        ensures made { log_of self.new ≡ logged (log_of self.old) request result
+            → self.new.engine.made ≡ one_more self.old.engine.made }
+        ensures faults { log_of self.new ≡ logged (log_of self.old) request result
+            → faults_of self.new ≡ faults_after (next_fate self.old.engine) (faults_of self.old) }
+        ensures script { self.new.engine.script ≡ self.old.engine.script }
+        ensures plan { self.new.engine.faults ≡ self.old.engine.faults }
+        ensures catalogue { self.new.engine.catalogue ≡ self.old.engine.catalogue }
+        ensures time { time_of self.new ≡ time_of self.old }
+    {
         if self.log.reserve(1).is_err() {
             return Outcome::Memory;
         }
-        let outcome = outcome_on(alloc, &mut self.engine, &request);
-        if is_faulty(&outcome) {
-            self.failed = self.failed.saturating_add(1);
-        }
-        let (outcome, kept) = twice(alloc, outcome);
         self.engine.made = self.engine.made.saturating_add(1);
+        let fate = fate_of(&self.engine.faults, self.engine.made);
+        self.failed = fate.faults_after(self.failed);
+        let (outcome, kept) = outcome_on(alloc, &mut self.engine, &request, fate);
         let exchange = Exchange {
             request,
             outcome: kept,
@@ -77,69 +105,61 @@ impl Hand for MemoryHand {
         outcome
     }
 
-    fn now(&mut self) -> u64 {
+    /// The time in milliseconds, which rises by the pauses alone.
+    fn now(&mut self) -> u64
+        requires { (clock_of self.old).readings < 2 ^ 62 }
+        ensures clock { clock_of self.new ≡ after_now (clock_of self.old) result }
+        ensures log { log_of self.new ≡ log_of self.old }
+        ensures engine { Some self.new.engine.engine ≡ Some self.old.engine.engine }
+        ensures memory { self.new.engine ≡ self.old.engine }
+        ensures faults { faults_of self.new ≡ faults_of self.old }
+        ensures reading { result ≡ time_of self.old }
+        ensures time { time_of self.new ≡ time_of self.old }
+    {
         self.clock.now()
     }
 
-    fn pause(&mut self, ms: u32) {
+    /// Pauses, in which the Engine makes the next change of its script.
+    fn pause(&mut self, ms: u32)
+        requires { (clock_of self.old).paused < 2 ^ 62 }
+        ensures clock { clock_of self.new ≡ after_pause (clock_of self.old) ms }
+        ensures log { log_of self.new ≡ log_of self.old }
+        ensures engine { DriftsTold (Some self.old.engine.engine) (Some self.new.engine.engine) }
+        ensures faults { faults_of self.new ≡ faults_of self.old }
+        ensures ticked { self.new.engine.engine ≡ ticked self.old.engine.engine self.old.engine.script }
+        ensures script { self.new.engine.script ≡ later self.old.engine.script }
+        ensures plan { self.new.engine.faults ≡ self.old.engine.faults }
+        ensures made { self.new.engine.made ≡ self.old.engine.made }
+        ensures catalogue { self.new.engine.catalogue ≡ self.old.engine.catalogue }
+        ensures time { time_of self.new ≡ min (time_of self.old + ms) 18446744073709551615 }
+    {
         self.engine.tick();
         self.clock.pause(ms);
     }
 
-    fn asked(&mut self) -> bool {
-        let answer = match self.engine.faults.asked_from {
-            Some(from) => self.engine.made >= from,
-            None => false,
-        };
+    /// Whether the worker is asked to stop: once as many exchanges were made as the plan of faults says.
+    fn asked(&mut self) -> bool
+        requires { (clock_of self.old).looks < 2 ^ 62 }
+        ensures clock { clock_of self.new ≡ after_asked (clock_of self.old) result }
+        ensures log { log_of self.new ≡ log_of self.old }
+        ensures engine { Some self.new.engine.engine ≡ Some self.old.engine.engine }
+        ensures memory { self.new.engine ≡ self.old.engine }
+        ensures faults { faults_of self.new ≡ faults_of self.old }
+        ensures asked { result ≡ is_asked self.old.engine.faults.asked_from self.old.engine.made }
+        ensures time { time_of self.new ≡ time_of self.old }
+    {
+        let answer = is_asked(self.engine.faults.asked_from, self.engine.made);
         self.clock.look(answer);
         answer
     }
 }
 
-/// What comes of a request on an Engine, by its plan of faults.
-fn outcome_on(alloc: Global, engine: &mut MemoryEngine, request: &Request) -> Outcome
-    ensures { Tells (Some engine.old.engine) request.now result (Some engine.new.engine) }
+/// Whether a worker is asked to stop after so many exchanges.
+fn is_asked(asked_from: Option<u64>, made: u64) -> bool
+    ensures { result ≡ is_asked asked_from made }
 {
-    let number = engine.made.saturating_add(1);
-    if let Some(effect) = loses(engine, number) {
-        if effect {
-            let _ = engine.serve(alloc, request);
-        }
-        return Outcome::Lost(WireEnd::Fault);
-    }
-    if engine.faults.unsent.as_slice().contains(&number) {
-        return Outcome::NotSent;
-    }
-    match engine.serve(alloc, request) {
-        Ok(reply) => Outcome::Answered(reply),
-        Err(_) => Outcome::Memory,
-    }
-}
-
-/// Whether the answer of an exchange is lost, and then whether its request takes effect.
-fn loses(engine: &MemoryEngine, number: u64) -> Option<bool> {
-    for lost in engine.faults.lost.as_slice() {
-        if lost.exchange == number {
-            return Some(lost.effect);
-        }
-    }
-    None
-}
-
-/// Whether an outcome is a fault of the way.
-fn is_faulty(outcome: &Outcome) -> bool
-    ensures { result ≡ is_faulty outcome.now }
-{
-    matches!(outcome, Outcome::Lost(_) | Outcome::NotSent)
-}
-
-/// An outcome and its copy; a want of memory in place of both where there is no memory for the copy.
-fn twice(alloc: Global, outcome: Outcome) -> (Outcome, Outcome)
-    ensures same { result.0 ≡ result.1 }
-    ensures kept { (result.0 ≡ outcome) ⊎ (result.0 ≡ Outcome.Memory) }
-{
-    match outcome.copy(alloc) {
-        Ok(copy) => (outcome, copy),
-        Err(_) => (Outcome::Memory, Outcome::Memory),
+    match asked_from {
+        Some(from) => from <= made,
+        None => false,
     }
 }
