@@ -1,5 +1,6 @@
 use case_files::{CaseFault, Fields, text_of};
-use cases_values::{memory_engine_of, request_of};
+use cases_messages::request_of;
+use cases_values::memory_engine_of;
 use memory_engine::MemoryEngine;
 use std::alloc::Global;
 use tree_base::{List, Memory, Text, Tree};

@@ -3,7 +3,7 @@ ghost use Rattle.outside_api.specs.Clock.{new_clock};
 
 use crate::engines::engine_at;
 use case_files::{Answers, CaseFault, Fields, text_of};
-use cases_values::{exchange_lines, request_of};
+use cases_messages::{exchange_lines, request_of};
 use engine_hand::{HandClock, MemoryHand, MemoryPlug};
 use outside_api::{DialAnswer, Hand, Plug, Target};
 use std::alloc::Global;

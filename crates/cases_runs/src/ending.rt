@@ -4,7 +4,8 @@ ghost use Rattle.run_outcome.specs.Permits.{is_poll};
 
 use crate::planning::{declared_at, seen_at};
 use case_files::{Answers, CaseFault, Fields};
-use cases_values::{journal_of, plan_of, request_line};
+use cases_messages::request_line;
+use cases_values::{journal_of, plan_of};
 use engine_types::{Declared, Entry, RunFault, Seen};
 use refusals::{Refusal, refusal_line, refusal_of, refusal_status};
 use run_outcome::{Run, fault, report};

@@ -1,5 +1,6 @@
 use case_files::{Answers, CaseFault, Fields};
-use cases_values::{declared_of, plan_lines, purpose_of, seen_of};
+use cases_messages::purpose_of;
+use cases_values::{declared_of, plan_lines, seen_of};
 use engine_types::{Declared, Plan, Purpose, Seen};
 use plan_core::{PlanRefusal, plan_down, plan_up};
 use run_lookups::kept_of;

@@ -1,5 +1,6 @@
 use case_files::{Answers, CaseFault, Fields, text_of};
-use cases_values::{engine_lines, memory_engine_of, reply_line, request_of};
+use cases_messages::{reply_line, request_of};
+use cases_values::{engine_lines, memory_engine_of};
 use memory_engine::MemoryEngine;
 use std::alloc::Global;
 use tree_base::{List, Memory, Text, Tree};

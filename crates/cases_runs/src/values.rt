@@ -1,5 +1,6 @@
 use case_files::{Answers, CaseFault, Fields};
-use cases_values::{outcome_line, outcome_of, pairs_of, request_line, request_of};
+use cases_messages::{outcome_line, outcome_of, request_line, request_of};
+use cases_values::pairs_of;
 use engine_types::{Outcome, Request, label};
 use run_model::Verdict;
 use std::alloc::Global;

@@ -1,5 +1,5 @@
-use crate::reading::Reading;
 use case_files::{CaseFault, Fields};
+use cases_messages::{Line, Reading};
 use engine_types::{Action, ActionKind, Plan};
 use std::alloc::Global;
 use std::str::SplitWhitespace;
@@ -16,8 +16,7 @@ pub fn plan_of(alloc: Global, fields: &Fields, key: &str) -> Result<Plan, CaseFa
         let action = action(&mut reading, line.as_str());
         reading.push(&mut actions, action);
     }
-    reading.end()?;
-    Ok(Plan { actions })
+    reading.whole(Plan { actions })
 }
 
 fn action(reading: &mut Reading, line: &str) -> Action {
@@ -32,8 +31,8 @@ fn action(reading: &mut Reading, line: &str) -> Action {
 
 fn kind_of(reading: &mut Reading, verb: &str, word: &str) -> ActionKind {
     let (first, second) = word.split_once('.').unwrap_or((word, "0"));
-    let number = place(reading, first);
-    let attach = place(reading, second);
+    let number = reading.place("a place", first);
+    let attach = reading.place("a place", second);
     match verb {
         "volume" => ActionKind::MakeVolume { volume: number },
         "network" => ActionKind::MakeNetwork { network: number },
@@ -58,20 +57,10 @@ fn kind_of(reading: &mut Reading, verb: &str, word: &str) -> ActionKind {
     }
 }
 
-fn place(reading: &mut Reading, word: &str) -> u32 {
-    match word.parse::<u32>() {
-        Ok(number) => number,
-        Err(_) => {
-            reading.refuse_word("a place", word);
-            0
-        }
-    }
-}
-
 fn needs_of(reading: &mut Reading, words: SplitWhitespace<'_>) -> List<u32> {
     let mut needs = List::new(reading.alloc);
     for word in words {
-        let need = place(reading, word.strip_prefix("<").unwrap_or(word));
+        let need = reading.place("a place", word.strip_prefix("<").unwrap_or(word));
         reading.push(&mut needs, need);
     }
     needs
@@ -92,30 +81,32 @@ fn words_of(kind: ActionKind) -> (&'static str, u64, Option<u32>) {
     }
 }
 
-/// The line of an action with the numbers that it needs, as `plan_of` reads it.
-pub fn action_line(alloc: Global, action: &Action) -> Result<Text, Memory> {
-    let (word, number, attach) = words_of(action.kind);
-    let mut line = Text::from_str(alloc, word)?;
-    push_number(alloc, &mut line, " ", number)?;
-    if let Some(attach) = attach {
-        push_number(alloc, &mut line, ".", u64::from(attach))?;
-    }
-    for need in action.needs.as_slice() {
-        push_number(alloc, &mut line, " <", u64::from(*need))?;
-    }
-    Ok(line)
-}
-
-fn push_number(alloc: Global, line: &mut Text, mark: &str, number: u64) -> Result<(), Memory> {
-    let words = format!(in alloc; "{mark}{number}")?;
-    line.push_str(words.as_str())
-}
-
-/// The lines of a plan.
+/// The lines of a plan, as `plan_of` reads them.
 pub fn plan_lines(alloc: Global, plan: &Plan) -> Result<List<Text>, Memory> {
     let mut lines = List::new(alloc);
     for action in plan.actions.as_slice() {
         lines.push(action_line(alloc, action)?)?;
     }
     Ok(lines)
+}
+
+/// The line of an action with the numbers that it needs.
+fn action_line(alloc: Global, action: &Action) -> Result<Text, Memory> {
+    let mut line = Line::new(alloc);
+    let (word, number, attach) = words_of(action.kind);
+    line.word(word);
+    line.number(number);
+    if let Some(attach) = attach {
+        line.put(".");
+        line.put_number(u64::from(attach));
+    }
+    say_needs(&mut line, action.needs.as_slice());
+    line.end()
+}
+
+fn say_needs(line: &mut Line, needs: &[u32]) {
+    for need in needs {
+        line.word("<");
+        line.put_number(u64::from(*need));
+    }
 }

@@ -1,13 +1,14 @@
 use crate::labels::{container_labels, resource_labels};
-use crate::names::{condition_of, policy_of};
-use crate::reading::Reading;
-use crate::spec::{boxed, spec_of};
 use case_files::{CaseFault, Fields};
+use cases_messages::{
+    Line, Reading, condition_of, network_named, policy_of, spec_of, volume_named,
+};
 use engine_types::{
-    Attach, Declared, Endpoint, Need, NetworkSpec, Pairs, Slot, VolumeSpec, labels,
+    Attach, Condition, ContainerSpec, Declared, Endpoint, Need, NetworkSpec, Policy, Slot,
+    VolumeSpec, labels,
 };
 use std::alloc::Global;
-use tree_base::{List, Text, Tree, TryCopy};
+use tree_base::{Boxed, List, Text, Tree, TryCopy};
 
 /// What a project declares, by `project`, `slots`, `networks` and `volumes`.
 ///
@@ -20,8 +21,7 @@ use tree_base::{List, Text, Tree, TryCopy};
 pub fn declared_of(alloc: Global, fields: &Fields) -> Result<Declared, CaseFault> {
     let mut reading = Reading::new(alloc);
     let declared = declared(&mut reading, fields);
-    reading.end()?;
-    Ok(declared)
+    reading.whole(declared)
 }
 
 fn declared(reading: &mut Reading, fields: &Fields) -> Declared {
@@ -52,82 +52,45 @@ fn push_networks(
     project: &Text,
     networks: &mut List<NetworkSpec>,
 ) {
-    for _ in 0..times_of(reading, tree) {
-        let network = network_of(reading, tree, project);
+    if let Some(name) = reading.word(tree) {
+        let network = network_named(reading.text(name), List::new(reading.alloc), false);
         reading.push(networks, network);
-    }
-}
-
-fn times_of(reading: &mut Reading, tree: &Tree) -> u64 {
-    match tree {
-        Tree::Map(entries) => {
-            let fields = Fields::new(reading.alloc, entries);
-            reading.number_or(&fields, "times", 1)
+    } else if let Some(fields) = reading.fields_of(tree, "a network") {
+        for _ in 0..reading.number_or(&fields, "times", 1) {
+            let network = network_of(reading, &fields, project);
+            reading.push(networks, network);
         }
-        _ => 1,
     }
 }
 
-fn network_of(reading: &mut Reading, tree: &Tree, project: &Text) -> NetworkSpec {
-    if let Tree::Scalar(name) = tree {
-        let name = reading.text(name.as_str());
-        return network_named(name, List::new(reading.alloc), false);
-    }
-    let Some(fields) = reading.fields_of(tree, "a network") else {
-        return network_named(Text::new(reading.alloc), List::new(reading.alloc), false);
-    };
-    let name = reading.text_at(&fields, "name");
-    let labels = resource_labels(reading, &fields, labels::NETWORK, project);
-    let external = reading.flag(&fields, "external");
-    network_named(name, labels, external)
-}
-
-/// A network with a name and labels. No memory.
-pub(crate) fn network_named(name: Text, labels: Pairs, external: bool) -> NetworkSpec {
-    NetworkSpec {
-        name,
-        labels,
-        driver: None,
-        internal: None,
-        attachable: None,
-        enable_ipv6: None,
-        options: None,
-        external,
-    }
+fn network_of(reading: &mut Reading, fields: &Fields, project: &Text) -> NetworkSpec {
+    let name = reading.text_at(fields, "name");
+    let labels = resource_labels(reading, fields, labels::NETWORK, project);
+    network_named(name, labels, reading.flag(fields, "external"))
 }
 
 fn volumes_of(reading: &mut Reading, fields: &Fields, project: &Text) -> List<VolumeSpec> {
     let mut volumes = List::new(reading.alloc);
     for tree in reading.items(fields, "volumes") {
-        let volume = volume_of(reading, tree, project);
-        reading.push(&mut volumes, volume);
+        push_volume(reading, tree, project, &mut volumes);
     }
     volumes
 }
 
-fn volume_of(reading: &mut Reading, tree: &Tree, project: &Text) -> VolumeSpec {
-    if let Tree::Scalar(name) = tree {
-        let name = reading.text(name.as_str());
-        return volume_named(name, List::new(reading.alloc), false);
+fn push_volume(reading: &mut Reading, tree: &Tree, project: &Text, volumes: &mut List<VolumeSpec>) {
+    if let Some(name) = reading.word(tree) {
+        let volume = volume_named(reading.text(name), List::new(reading.alloc), false);
+        reading.push(volumes, volume);
+    } else if let Some(fields) = reading.fields_of(tree, "a volume") {
+        let volume = volume_of(reading, &fields, project);
+        reading.push(volumes, volume);
     }
-    let Some(fields) = reading.fields_of(tree, "a volume") else {
-        return volume_named(Text::new(reading.alloc), List::new(reading.alloc), false);
-    };
-    let name = reading.text_at(&fields, "name");
-    let labels = resource_labels(reading, &fields, labels::VOLUME, project);
-    let external = reading.flag(&fields, "external");
-    volume_named(name, labels, external)
 }
 
-/// A volume with a name and labels. No memory.
-pub(crate) fn volume_named(name: Text, labels: Pairs, external: bool) -> VolumeSpec {
-    VolumeSpec {
-        name,
-        labels,
-        driver: None,
-        driver_opts: None,
-        external,
-    }
+fn volume_of(reading: &mut Reading, fields: &Fields, project: &Text) -> VolumeSpec {
+    let name = reading.text_at(fields, "name");
+    let labels = resource_labels(reading, fields, labels::VOLUME, project);
+    volume_named(name, labels, reading.flag(fields, "external"))
 }
 
 fn slots_of(
@@ -152,8 +115,10 @@ fn slots_of(
 pub fn slot_of(alloc: Global, fields: &Fields, project: &Text) -> Result<Slot, CaseFault> {
     let mut reading = Reading::new(alloc);
     let slot = slot_with(&mut reading, fields, project, &[]);
-    reading.end()?;
-    slot.ok_or(CaseFault::Memory)
+    match reading.whole(slot)? {
+        Some(slot) => Ok(slot),
+        None => Err(CaseFault::Memory),
+    }
 }
 
 /// The slot of a mapping, for a project with these networks.
@@ -164,30 +129,47 @@ fn slot_with(
     networks: &[NetworkSpec],
 ) -> Option<Slot> {
     let service = reading.text_at(fields, "service");
+    let attach = attach_of(reading, fields, service.as_str(), networks);
+    let spec = spec_in(reading, fields, project, attach.as_slice(), networks)?;
     let number = reading.small_or(fields, "number", 1);
-    let attach = attach_of(reading, fields, &service, networks);
-    let endpoints = endpoints_of(reading, attach.as_slice(), networks);
-    let labels = container_labels(reading, fields, project);
-    let image = reading.text_or(fields, "image", "");
-    let sent = reading.text(image.as_str());
-    let policy = reading.text_or(fields, "policy", "missing");
-    let goal = reading.text_or(fields, "goal", "running");
-    let sent = spec_of(reading, fields, labels, Some(sent), endpoints);
-    let spec = boxed(reading, sent)?;
     Some(Slot {
         name: slot_name(reading, fields, project, &service, number),
         service,
         number,
-        image,
-        policy: policy_of(reading, policy.as_str()),
+        image: reading.text_or(fields, "image", ""),
+        policy: policy_in(reading, fields),
         has_build: reading.flag(fields, "has_build"),
         hash: reading.text_or(fields, "hash", ""),
         spec,
         attach,
         needs: needs_of(reading, fields),
-        goal: condition_of(reading, goal.as_str()),
+        goal: goal_in(reading, fields),
         stop_seconds: reading.number_or(fields, "stop_seconds", 10),
     })
+}
+
+/// What the container of a slot is made with.
+fn spec_in(
+    reading: &mut Reading,
+    fields: &Fields,
+    project: &Text,
+    attach: &[Attach],
+    networks: &[NetworkSpec],
+) -> Option<Boxed<ContainerSpec>> {
+    let labels = container_labels(reading, fields, project);
+    let image = reading.text_or(fields, "image", "");
+    let endpoints = endpoints_of(reading, attach, networks);
+    spec_of(reading, fields, labels, Some(image), endpoints)
+}
+
+fn policy_in(reading: &mut Reading, fields: &Fields) -> Policy {
+    let word = reading.text_or(fields, "policy", "missing");
+    policy_of(reading, word.as_str())
+}
+
+fn goal_in(reading: &mut Reading, fields: &Fields) -> Condition {
+    let word = reading.text_or(fields, "goal", "running");
+    condition_of(reading, word.as_str())
 }
 
 fn slot_name(
@@ -197,55 +179,59 @@ fn slot_name(
     service: &Text,
     number: u32,
 ) -> Text {
-    match format!(in reading.alloc; "{project}-{service}-{number}") {
-        Ok(name) => reading.text_or(fields, "name", name.as_str()),
-        Err(_) => {
-            reading.memory();
-            Text::new(reading.alloc)
-        }
-    }
+    let mut name = Line::new(reading.alloc);
+    name.put(project.as_str());
+    name.put("-");
+    name.put(service.as_str());
+    name.put("-");
+    name.put_number(u64::from(number));
+    let name = reading.said(name);
+    reading.text_or(fields, "name", name.as_str())
 }
 
 /// The networks that a slot attaches to.
 fn attach_of(
     reading: &mut Reading,
     fields: &Fields,
-    service: &Text,
+    service: &str,
     networks: &[NetworkSpec],
 ) -> List<Attach> {
     let mut attach = List::new(reading.alloc);
     for tree in reading.items(fields, "attach") {
-        let item = attach_to(reading, tree, service, networks);
-        reading.push(&mut attach, item);
+        push_attach(reading, tree, service, networks, &mut attach);
     }
     attach
 }
 
-/// A network by its name, with the service for its alias, or with `aliases`.
-fn attach_to(
+/// Puts a network last, by its name with the service for its alias, or with `aliases`.
+fn push_attach(
     reading: &mut Reading,
     tree: &Tree,
-    service: &Text,
+    service: &str,
     networks: &[NetworkSpec],
-) -> Attach {
-    if let Tree::Scalar(name) = tree {
-        let mut aliases = List::new(reading.alloc);
-        let alias = reading.text(service.as_str());
-        reading.push(&mut aliases, alias);
-        let network = place_of(reading, name.as_str(), networks);
-        return Attach { network, aliases };
-    }
-    let Some(fields) = reading.fields_of(tree, "attach") else {
-        return Attach {
-            network: 0,
-            aliases: List::new(reading.alloc),
+    attach: &mut List<Attach>,
+) {
+    if let Some(name) = reading.word(tree) {
+        let item = Attach {
+            network: place_of(reading, name, networks),
+            aliases: alias(reading, service),
         };
-    };
-    let name = reading.text_at(&fields, "network");
-    Attach {
-        network: place_of(reading, name.as_str(), networks),
-        aliases: reading.texts(&fields, "aliases"),
+        reading.push(attach, item);
+    } else if let Some(fields) = reading.fields_of(tree, "attach") {
+        let name = reading.text_at(&fields, "network");
+        let item = Attach {
+            network: place_of(reading, name.as_str(), networks),
+            aliases: reading.texts(&fields, "aliases"),
+        };
+        reading.push(attach, item);
     }
+}
+
+fn alias(reading: &mut Reading, service: &str) -> List<Text> {
+    let mut aliases = List::new(reading.alloc);
+    let service = reading.text(service);
+    reading.push(&mut aliases, service);
+    aliases
 }
 
 /// The place of the network with a name.
@@ -293,15 +279,8 @@ fn need_of(reading: &mut Reading, words: &str) -> Need {
     let mut words = words.split_whitespace();
     let place = words.next().unwrap_or("");
     let condition = words.next().unwrap_or("");
-    let slot = match place.parse::<u32>() {
-        Ok(slot) => slot,
-        Err(_) => {
-            reading.refuse_word("a slot's place", place);
-            0
-        }
-    };
     Need {
-        slot,
+        slot: reading.place("a slot's place", place),
         condition: condition_of(reading, condition),
         required: words.next().is_none(),
     }

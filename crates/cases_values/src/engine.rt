@@ -1,13 +1,10 @@
-use crate::ids::id_of;
 use crate::labels::container_labels;
-use crate::names::report_of;
-use crate::reading::Reading;
 use crate::seen::{images_of, networks_of};
-use crate::spec::{boxed, spec_of};
 use case_files::{CaseFault, Fields};
+use cases_messages::{Reading, id_at, report_of, spec_of};
 use engine_types::{ContainerRow, Engine};
 use std::alloc::Global;
-use tree_base::{List, Text, TryCopy};
+use tree_base::{List, Text};
 
 /// An Engine, by `containers`, `networks`, `volumes`, `images` (ids under names) and `next` (1).
 ///
@@ -16,8 +13,7 @@ use tree_base::{List, Text, TryCopy};
 pub fn engine_of(alloc: Global, fields: &Fields, project: &Text) -> Result<Engine, CaseFault> {
     let mut reading = Reading::new(alloc);
     let engine = engine(&mut reading, fields, project);
-    reading.end()?;
-    Ok(engine)
+    reading.whole(engine)
 }
 
 /// The same in a reading.
@@ -44,17 +40,13 @@ fn containers_of(reading: &mut Reading, fields: &Fields, project: &Text) -> List
 }
 
 fn row_of(reading: &mut Reading, fields: &Fields, project: &Text) -> Option<ContainerRow> {
-    let id = reading.text_or(fields, "id", "");
     let labels = container_labels(reading, fields, project);
-    let alloc = reading.alloc;
-    let sent = reading.given(labels.copy(alloc), List::new(alloc));
-    let sent = spec_of(reading, fields, sent, None, None);
-    let spec = boxed(reading, sent)?;
+    let spec = spec_of(reading, fields, labels, None, None)?;
     Some(ContainerRow {
-        id: id_of(reading, id.as_str()),
+        id: id_at(reading, fields),
         name: reading.text_or(fields, "name", ""),
         spec,
-        labels,
+        labels: container_labels(reading, fields, project),
         image_id: reading.text_or(fields, "image", ""),
         networks: reading.texts(fields, "networks"),
         report: report_of(reading, fields),

@@ -1,8 +1,5 @@
-use crate::exchange::{outcome, outcome_line};
-use crate::memory::number_of;
-use crate::reading::Reading;
-use crate::request::said;
 use case_files::{CaseFault, Fields};
+use cases_messages::{Line, Reading, read_outcome, say_outcome};
 use engine_types::{Entry, LateWhy, Observed, Outcome, Seen, SeenEnd};
 use std::alloc::Global;
 use tree_base::{List, Memory, Text};
@@ -18,18 +15,21 @@ pub fn journal_of(alloc: Global, fields: &Fields, key: &str) -> Result<List<Entr
         let entry = worker_entry(&mut reading, line.as_str());
         reading.push(&mut journal, entry);
     }
-    reading.end()?;
-    Ok(journal)
+    reading.whole(journal)
 }
 
 /// The entry of a line, of worker 0 where it names no other.
 fn worker_entry(reading: &mut Reading, line: &str) -> Entry {
-    match line.split_once(' ') {
-        Some((number, words)) => match number.parse::<u32>() {
-            Ok(worker) => entry(reading, worker, words),
-            Err(_) => entry(reading, 0, line),
-        },
-        None => entry(reading, 0, line),
+    let (worker, words) = worker_and_words(line).unwrap_or((0, line));
+    entry(reading, worker, words)
+}
+
+/// The worker that a line names, and the words behind it; None where it names none.
+fn worker_and_words(line: &str) -> Option<(u32, &str)> {
+    let (number, words) = line.split_once(' ')?;
+    match number.parse::<u32>() {
+        Ok(worker) => Some((worker, words)),
+        Err(_) => None,
     }
 }
 
@@ -39,15 +39,15 @@ fn entry(reading: &mut Reading, worker: u32, line: &str) -> Entry {
         "seen" => Entry::Seen(nothing_observed(reading.alloc)),
         "claim" => Entry::Claim {
             worker,
-            action: small(reading, rest),
+            action: reading.place("a number", rest),
         },
         "poll" => Entry::Poll {
             worker,
-            slot: small(reading, rest),
+            slot: reading.place("a number", rest),
         },
         "ended" => Entry::Ended {
             worker,
-            outcome: outcome(reading, rest),
+            outcome: read_outcome(reading, rest),
         },
         "idle" => Entry::Idle { worker },
         "leave" => Entry::Leave { worker },
@@ -64,21 +64,11 @@ fn entry(reading: &mut Reading, worker: u32, line: &str) -> Entry {
     }
 }
 
-fn small(reading: &mut Reading, word: &str) -> u32 {
-    match word.parse::<u32>() {
-        Ok(number) => number,
-        Err(_) => {
-            reading.refuse_word("a number", word);
-            0
-        }
-    }
-}
-
 /// What was passed, of a word.
 pub(crate) fn late_why(reading: &mut Reading, word: &str) -> LateWhy {
     match word {
         "entries" => LateWhy::Entries,
-        _ => LateWhy::Deadline(number_of(reading, word)),
+        _ => LateWhy::Deadline(reading.number(word)),
     }
 }
 
@@ -95,64 +85,64 @@ fn nothing_observed(alloc: Global) -> Observed {
     }
 }
 
-/// The line of an entry, as `journal_of` reads it: `seen` of an observation that ended well, `seen badly` of another.
-pub fn entry_line(alloc: Global, entry: &Entry) -> Result<Text, Memory> {
-    match entry {
-        Entry::Seen(observed) => seen_line(alloc, observed),
-        Entry::Claim { worker, action } => numbered_line(alloc, *worker, "claim", *action),
-        Entry::Poll { worker, slot } => numbered_line(alloc, *worker, "poll", *slot),
-        Entry::Ended { worker, outcome } => ended_line(alloc, *worker, outcome),
-        Entry::Idle { worker } => worker_line(alloc, *worker, "idle"),
-        Entry::Leave { worker } => worker_line(alloc, *worker, "leave"),
-        Entry::Stop { worker } => worker_line(alloc, *worker, "stop"),
-        Entry::Late { worker, why } => late_line(alloc, *worker, *why),
-        Entry::Short { worker } => worker_line(alloc, *worker, "short"),
-    }
-}
-
-fn seen_line(alloc: Global, observed: &Observed) -> Result<Text, Memory> {
-    match &observed.end {
-        SeenEnd::Good(_) => Text::from_str(alloc, "seen"),
-        SeenEnd::Bad(_) => Text::from_str(alloc, "seen badly"),
-    }
-}
-
-fn worker_line(alloc: Global, worker: u32, words: &str) -> Result<Text, Memory> {
-    if worker == 0 {
-        return Text::from_str(alloc, words);
-    }
-    let line = format!(in alloc; "{worker} {words}")?;
-    Ok(Text::from_string(line))
-}
-
-fn numbered_line(alloc: Global, worker: u32, verb: &str, number: u32) -> Result<Text, Memory> {
-    let words = format!(in alloc; "{verb} {number}")?;
-    worker_line(alloc, worker, words.as_str())
-}
-
-fn ended_line(alloc: Global, worker: u32, outcome: &Outcome) -> Result<Text, Memory> {
-    let outcome = outcome_line(alloc, outcome)?;
-    let words = said(alloc, "ended", &outcome)?;
-    worker_line(alloc, worker, words.as_str())
-}
-
-fn late_line(alloc: Global, worker: u32, why: LateWhy) -> Result<Text, Memory> {
-    match why {
-        LateWhy::Entries => worker_line(alloc, worker, "late entries"),
-        LateWhy::Deadline(clock) => deadline_line(alloc, worker, clock),
-    }
-}
-
-fn deadline_line(alloc: Global, worker: u32, clock: u64) -> Result<Text, Memory> {
-    let words = format!(in alloc; "late {clock}")?;
-    worker_line(alloc, worker, words.as_str())
-}
-
-/// The lines of a journal.
+/// The lines of a journal, as `journal_of` reads them: `seen` of an observation that ended well, `seen badly` of another.
 pub fn journal_lines(alloc: Global, journal: &[Entry]) -> Result<List<Text>, Memory> {
     let mut lines = List::new(alloc);
     for entry in journal {
         lines.push(entry_line(alloc, entry)?)?;
     }
     Ok(lines)
+}
+
+fn entry_line(alloc: Global, entry: &Entry) -> Result<Text, Memory> {
+    let mut line = Line::new(alloc);
+    say_entry(&mut line, entry);
+    line.end()
+}
+
+fn say_entry(line: &mut Line, entry: &Entry) {
+    match entry {
+        Entry::Seen(observed) => say_seen(line, observed),
+        Entry::Claim { worker, action } => say_numbered(line, *worker, "claim", *action),
+        Entry::Poll { worker, slot } => say_numbered(line, *worker, "poll", *slot),
+        Entry::Ended { worker, outcome } => say_ended(line, *worker, outcome),
+        Entry::Idle { worker } => say_verb(line, *worker, "idle"),
+        Entry::Leave { worker } => say_verb(line, *worker, "leave"),
+        Entry::Stop { worker } => say_verb(line, *worker, "stop"),
+        Entry::Late { worker, why } => say_late(line, *worker, *why),
+        Entry::Short { worker } => say_verb(line, *worker, "short"),
+    }
+}
+
+fn say_seen(line: &mut Line, observed: &Observed) {
+    match &observed.end {
+        SeenEnd::Good(_) => line.word("seen"),
+        SeenEnd::Bad(_) => line.word("seen badly"),
+    }
+}
+
+/// Says a verb, behind the number of its worker where that isn't 0.
+fn say_verb(line: &mut Line, worker: u32, verb: &str) {
+    if worker != 0 {
+        line.number(u64::from(worker));
+    }
+    line.word(verb);
+}
+
+fn say_numbered(line: &mut Line, worker: u32, verb: &str, number: u32) {
+    say_verb(line, worker, verb);
+    line.number(u64::from(number));
+}
+
+fn say_ended(line: &mut Line, worker: u32, outcome: &Outcome) {
+    say_verb(line, worker, "ended");
+    say_outcome(line, outcome);
+}
+
+fn say_late(line: &mut Line, worker: u32, why: LateWhy) {
+    say_verb(line, worker, "late");
+    match why {
+        LateWhy::Entries => line.word("entries"),
+        LateWhy::Deadline(clock) => line.number(clock),
+    }
 }

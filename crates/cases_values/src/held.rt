@@ -1,111 +1,85 @@
-use crate::ids::id_word;
-use crate::reply::push_report;
-use crate::request::push_word;
+use cases_messages::{Line, say_id, say_report};
 use engine_types::{ContainerRow, Engine, ImageRow, NetRow};
 use std::alloc::Global;
-use tree_base::{List, Memory, Text, TryCopy};
+use tree_base::{List, Memory, Text};
 
-/// The containers of an Engine, each as `ID NAME STATE [CODE] [HEALTH] [on NETWORK..]`, the networks by their ids.
-pub fn container_lines(alloc: Global, engine: &Engine) -> Result<List<Text>, Memory> {
+/// What an Engine holds, a line each: first the containers, as `container ID NAME STATE [CODE] [HEALTH] [on NETWORK..]`, the
+/// networks by their ids; then `network ID NAME`, `volume NAME` and `image NAME ID`.
+pub fn engine_lines(alloc: Global, engine: &Engine) -> Result<List<Text>, Memory> {
     let mut lines = List::new(alloc);
+    push_containers(alloc, engine, &mut lines)?;
+    push_networks(alloc, engine, &mut lines)?;
+    push_volumes(alloc, engine, &mut lines)?;
+    push_images(alloc, engine, &mut lines)?;
+    Ok(lines)
+}
+
+fn push_containers(alloc: Global, engine: &Engine, lines: &mut List<Text>) -> Result<(), Memory> {
     for row in engine.containers.as_slice() {
         lines.push(container_line(alloc, row)?)?;
     }
-    Ok(lines)
+    Ok(())
 }
 
 fn container_line(alloc: Global, row: &ContainerRow) -> Result<Text, Memory> {
-    let mut line = id_word(alloc, row.id.as_str())?;
-    push_word(&mut line, row.name.as_str())?;
-    push_report(alloc, &mut line, &row.report)?;
-    if !row.networks.is_empty() {
-        push_word(&mut line, "on")?;
-    }
-    push_ids(alloc, &mut line, row.networks.as_slice())?;
-    Ok(line)
+    let mut line = Line::new(alloc);
+    line.word("container");
+    say_id(&mut line, row.id.as_str());
+    line.word(row.name.as_str());
+    say_report(&mut line, &row.report);
+    say_networks(&mut line, row.networks.as_slice());
+    line.end()
 }
 
-fn push_ids(alloc: Global, line: &mut Text, ids: &[Text]) -> Result<(), Memory> {
+fn say_networks(line: &mut Line, ids: &[Text]) {
+    if !ids.is_empty() {
+        line.word("on");
+    }
     for id in ids {
-        push_word(line, id_word(alloc, id.as_str())?.as_str())?;
+        say_id(line, id.as_str());
     }
-    Ok(())
 }
 
-/// The networks of an Engine, each as `ID NAME`.
-pub fn network_lines(alloc: Global, engine: &Engine) -> Result<List<Text>, Memory> {
-    let mut lines = List::new(alloc);
+fn push_networks(alloc: Global, engine: &Engine, lines: &mut List<Text>) -> Result<(), Memory> {
     for row in engine.networks.as_slice() {
         lines.push(network_line(alloc, row)?)?;
     }
-    Ok(lines)
+    Ok(())
 }
 
 fn network_line(alloc: Global, row: &NetRow) -> Result<Text, Memory> {
-    let mut line = id_word(alloc, row.id.as_str())?;
-    push_word(&mut line, row.name.as_str())?;
-    Ok(line)
+    let mut line = Line::new(alloc);
+    line.word("network");
+    say_id(&mut line, row.id.as_str());
+    line.word(row.name.as_str());
+    line.end()
 }
 
-/// The names of an Engine's volumes.
-pub fn volume_lines(alloc: Global, engine: &Engine) -> Result<List<Text>, Memory> {
-    engine.volumes.copy(alloc)
+fn push_volumes(alloc: Global, engine: &Engine, lines: &mut List<Text>) -> Result<(), Memory> {
+    for name in engine.volumes.as_slice() {
+        lines.push(volume_line(alloc, name)?)?;
+    }
+    Ok(())
 }
 
-/// The images of an Engine, each as `NAME ID`.
-pub fn image_lines(alloc: Global, engine: &Engine) -> Result<List<Text>, Memory> {
-    let mut lines = List::new(alloc);
+fn volume_line(alloc: Global, name: &Text) -> Result<Text, Memory> {
+    let mut line = Line::new(alloc);
+    line.word("volume");
+    line.word(name.as_str());
+    line.end()
+}
+
+fn push_images(alloc: Global, engine: &Engine, lines: &mut List<Text>) -> Result<(), Memory> {
     for row in engine.images.as_slice() {
         lines.push(image_line(alloc, row)?)?;
     }
-    Ok(lines)
+    Ok(())
 }
 
 fn image_line(alloc: Global, row: &ImageRow) -> Result<Text, Memory> {
-    let mut line = row.name.copy(alloc)?;
-    push_word(&mut line, id_word(alloc, row.id.as_str())?.as_str())?;
-    Ok(line)
-}
-
-/// What an Engine holds: `container` and the words of each container, then `network`, `volume` and `image`.
-pub fn engine_lines(alloc: Global, engine: &Engine) -> Result<List<Text>, Memory> {
-    let mut lines = List::new(alloc);
-    push_lines(
-        alloc,
-        &mut lines,
-        "container",
-        container_lines(alloc, engine)?.as_slice(),
-    )?;
-    push_lines(
-        alloc,
-        &mut lines,
-        "network",
-        network_lines(alloc, engine)?.as_slice(),
-    )?;
-    push_lines(
-        alloc,
-        &mut lines,
-        "volume",
-        volume_lines(alloc, engine)?.as_slice(),
-    )?;
-    push_lines(
-        alloc,
-        &mut lines,
-        "image",
-        image_lines(alloc, engine)?.as_slice(),
-    )?;
-    Ok(lines)
-}
-
-fn push_lines(
-    alloc: Global,
-    lines: &mut List<Text>,
-    what: &str,
-    rows: &[Text],
-) -> Result<(), Memory> {
-    for row in rows {
-        let line = format!(in alloc; "{what} {row}")?;
-        lines.push(Text::from_string(line))?;
-    }
-    Ok(())
+    let mut line = Line::new(alloc);
+    line.word("image");
+    line.word(row.name.as_str());
+    say_id(&mut line, row.id.as_str());
+    line.end()
 }

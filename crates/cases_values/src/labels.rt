@@ -1,5 +1,5 @@
-use crate::reading::Reading;
 use case_files::{CaseFault, Fields};
+use cases_messages::Reading;
 use engine_types::{Pairs, labels};
 use std::alloc::Global;
 use tree_base::{List, Text};
@@ -8,8 +8,7 @@ use tree_base::{List, Text};
 pub fn pairs_of(alloc: Global, fields: &Fields, key: &str) -> Result<Pairs, CaseFault> {
     let mut reading = Reading::new(alloc);
     let pairs = pairs_at(&mut reading, fields, key);
-    reading.end()?;
-    Ok(pairs)
+    reading.whole(pairs)
 }
 
 /// The same in a reading.
@@ -31,18 +30,40 @@ pub(crate) fn container_labels(reading: &mut Reading, fields: &Fields, project: 
     if fields.has("labels") || !fields.has("service") {
         return pairs_at(reading, fields, "labels");
     }
-    let project = reading.text_or(fields, "project", project.as_str());
-    let service = reading.text_at(fields, "service");
-    let number = reading.text_or(fields, "number", "1");
-    let hash = reading.text_or(fields, "hash", "");
-    let oneoff = reading.text_or(fields, "oneoff", labels::NOT_ONEOFF);
     let mut pairs = List::new(reading.alloc);
-    reading.push_pair(&mut pairs, labels::HASH, hash.as_str());
-    reading.push_pair(&mut pairs, labels::NUMBER, number.as_str());
-    reading.push_pair(&mut pairs, labels::ONEOFF, oneoff.as_str());
-    reading.push_pair(&mut pairs, labels::PROJECT, project.as_str());
-    reading.push_pair(&mut pairs, labels::SERVICE, service.as_str());
+    push_label(reading, &mut pairs, labels::HASH, fields, "hash", "");
+    push_label(reading, &mut pairs, labels::NUMBER, fields, "number", "1");
+    push_label(
+        reading,
+        &mut pairs,
+        labels::ONEOFF,
+        fields,
+        "oneoff",
+        labels::NOT_ONEOFF,
+    );
+    push_label(
+        reading,
+        &mut pairs,
+        labels::PROJECT,
+        fields,
+        "project",
+        project.as_str(),
+    );
+    push_label(reading, &mut pairs, labels::SERVICE, fields, "service", "");
     pairs
+}
+
+/// Puts a label last, with the text under a key, or another one where the key isn't there.
+fn push_label(
+    reading: &mut Reading,
+    pairs: &mut Pairs,
+    label: &str,
+    fields: &Fields,
+    key: &str,
+    default: &str,
+) {
+    let value = reading.text_or(fields, key, default);
+    reading.push_pair(pairs, label, value.as_str());
 }
 
 /// The labels of a network or a volume: those under `labels`; else, where it has a `key`, that under the label `own` and
@@ -56,10 +77,15 @@ pub(crate) fn resource_labels(
     if fields.has("labels") || !fields.has("key") {
         return pairs_at(reading, fields, "labels");
     }
-    let project = reading.text_or(fields, "project", project.as_str());
-    let key = reading.text_at(fields, "key");
     let mut pairs = List::new(reading.alloc);
-    reading.push_pair(&mut pairs, own, key.as_str());
-    reading.push_pair(&mut pairs, labels::PROJECT, project.as_str());
+    push_label(reading, &mut pairs, own, fields, "key", "");
+    push_label(
+        reading,
+        &mut pairs,
+        labels::PROJECT,
+        fields,
+        "project",
+        project.as_str(),
+    );
     pairs
 }

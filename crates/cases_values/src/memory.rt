@@ -1,7 +1,6 @@
 use crate::engine::engine;
-use crate::names::{code_of, health_of};
-use crate::reading::Reading;
 use case_files::{CaseFault, Fields};
+use cases_messages::{Reading, code_of, health_of};
 use engine_holding::engine_that_holds;
 use memory_engine::{Catalogue, Change, FaultPlan, LostAt, MemoryEngine, Tick};
 use std::alloc::Global;
@@ -22,8 +21,7 @@ pub fn memory_engine_of(
     let faults = faults_of(&mut reading, fields);
     let catalogue = catalogue_of(&mut reading, fields);
     let held = engine_that_holds(engine, script, faults, catalogue);
-    reading.end()?;
-    match held {
+    match reading.whole(held)? {
         Some(memory) => Ok(memory),
         None => Err(CaseFault::no_case(alloc, "an Engine in memory can't hold this")),
     }
@@ -78,7 +76,7 @@ fn lost_of(reading: &mut Reading, fields: &Fields) -> List<LostAt> {
 
 fn lost_at(reading: &mut Reading, words: &str) -> LostAt {
     let (number, when) = words.split_once(' ').unwrap_or((words, ""));
-    let exchange = number_of(reading, number);
+    let exchange = reading.number(number);
     let effect = match when {
         "after" => true,
         "before" => false,
@@ -94,7 +92,7 @@ fn numbers_of(reading: &mut Reading, fields: &Fields, key: &str) -> List<u64> {
     let mut numbers = List::new(reading.alloc);
     for tree in reading.items(fields, key) {
         let word = reading.text_of(tree, key);
-        let number = number_of(reading, word.as_str());
+        let number = reading.number(word.as_str());
         reading.push(&mut numbers, number);
     }
     numbers
@@ -105,16 +103,5 @@ fn asked_from(reading: &mut Reading, fields: &Fields) -> Option<u64> {
         Some(reading.number_or(fields, "asked_from", 0))
     } else {
         None
-    }
-}
-
-/// The number of a decimal.
-pub(crate) fn number_of(reading: &mut Reading, word: &str) -> u64 {
-    match word.parse::<u64>() {
-        Ok(number) => number,
-        Err(_) => {
-            reading.refuse_word("a number", word);
-            0
-        }
     }
 }

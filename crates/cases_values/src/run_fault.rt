@@ -1,12 +1,9 @@
 use crate::entry::late_why;
-use crate::exchange::{cause_of, outcome};
-use crate::memory::number_of;
-use crate::names::{condition_of, kind_of};
-use crate::reading::Reading;
-use crate::reply::report;
-use crate::request::request;
 use case_files::{CaseFault, Fields};
-use engine_types::{RunFault, SeenFault};
+use cases_messages::{
+    Reading, cause_of, condition_of, kind_of, read_outcome, read_report, read_request,
+};
+use engine_types::{Request, RunFault, SeenFault};
 use std::alloc::Global;
 
 /// The fault of a run, by its first key: `request` with an `outcome`; `condition` with a `slot` and a `report`; `late`;
@@ -18,8 +15,7 @@ use std::alloc::Global;
 pub fn run_fault_of(alloc: Global, fields: &Fields) -> Result<Option<RunFault>, CaseFault> {
     let mut reading = Reading::new(alloc);
     let fault = run_fault(&mut reading, fields);
-    reading.end()?;
-    Ok(fault)
+    reading.whole(fault)
 }
 
 fn run_fault(reading: &mut Reading, fields: &Fields) -> Option<RunFault> {
@@ -48,11 +44,10 @@ fn plain_fault(reading: &mut Reading, fields: &Fields) -> Option<RunFault> {
 }
 
 fn request_fault(reading: &mut Reading, fields: &Fields) -> RunFault {
-    let asked = reading.text_at(fields, "request");
     let words = reading.text_at(fields, "outcome");
     RunFault::Request {
-        request: request(reading, asked.as_str()),
-        outcome: outcome(reading, words.as_str()),
+        request: request_at(reading, fields),
+        outcome: read_outcome(reading, words.as_str()),
     }
 }
 
@@ -62,7 +57,7 @@ fn condition_fault(reading: &mut Reading, fields: &Fields) -> RunFault {
     RunFault::Condition {
         slot: reading.text_at(fields, "slot"),
         condition: condition_of(reading, condition.as_str()),
-        report: report(reading, words.as_str()),
+        report: read_report(reading, words.as_str()),
     }
 }
 
@@ -85,37 +80,36 @@ fn seen_fault(reading: &mut Reading, fields: &Fields) -> SeenFault {
 }
 
 fn request_failed(reading: &mut Reading, fields: &Fields) -> SeenFault {
-    let asked = reading.text_at(fields, "request");
-    let status = reading.text_at(fields, "status");
-    let number = number_of(reading, status.as_str());
-    let request = request(reading, asked.as_str());
-    let message = reading.text_at(fields, "message");
-    match u16::try_from(number) {
-        Ok(status) => SeenFault::RequestFailed {
-            request,
-            status,
-            message,
-        },
-        Err(_) => {
-            reading.refuse_word("a status", status.as_str());
-            SeenFault::Memory
-        }
+    SeenFault::RequestFailed {
+        request: request_at(reading, fields),
+        status: status_at(reading, fields),
+        message: reading.text_at(fields, "message"),
     }
 }
 
+/// The request under the key `request`.
+fn request_at(reading: &mut Reading, fields: &Fields) -> Request {
+    let words = reading.text_at(fields, "request");
+    read_request(reading, words.as_str())
+}
+
+fn status_at(reading: &mut Reading, fields: &Fields) -> u16 {
+    let word = reading.text_at(fields, "status");
+    reading.status(word.as_str())
+}
+
 fn lost(reading: &mut Reading, fields: &Fields) -> SeenFault {
-    let asked = reading.text_at(fields, "request");
+    let request = request_at(reading, fields);
     let cause = reading.text_at(fields, "cause");
     SeenFault::Lost {
-        request: request(reading, asked.as_str()),
+        request,
         cause: cause_of(reading, cause.as_str()),
     }
 }
 
 fn not_sent(reading: &mut Reading, fields: &Fields) -> SeenFault {
-    let asked = reading.text_at(fields, "request");
     SeenFault::NotSent {
-        request: request(reading, asked.as_str()),
+        request: request_at(reading, fields),
     }
 }
 

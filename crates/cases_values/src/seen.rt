@@ -1,8 +1,6 @@
-use crate::ids::id_of;
 use crate::labels::{container_labels, resource_labels};
-use crate::names::state_of;
-use crate::reading::Reading;
 use case_files::{CaseFault, Fields};
+use cases_messages::{Reading, id_at, state_at};
 use engine_types::{ImageRow, Listed, NetRow, Seen, labels};
 use std::alloc::Global;
 use tree_base::{List, Text, Tree};
@@ -20,16 +18,14 @@ pub fn seen_of(alloc: Global, fields: &Fields, project: &Text) -> Result<Seen, C
         volumes: reading.texts(fields, "volumes"),
         images: images_of(&mut reading, fields),
     };
-    reading.end()?;
-    Ok(seen)
+    reading.whole(seen)
 }
 
 /// A container that was seen, by the fields that `seen_of` names. NoCase where something isn't so.
 pub fn listed_of(alloc: Global, fields: &Fields, project: &Text) -> Result<Listed, CaseFault> {
     let mut reading = Reading::new(alloc);
     let row = row_of(&mut reading, fields, project);
-    reading.end()?;
-    Ok(row)
+    reading.whole(row)
 }
 
 fn containers_of(reading: &mut Reading, fields: &Fields, project: &Text) -> List<Listed> {
@@ -44,14 +40,12 @@ fn containers_of(reading: &mut Reading, fields: &Fields, project: &Text) -> List
 }
 
 fn row_of(reading: &mut Reading, fields: &Fields, project: &Text) -> Listed {
-    let state = reading.text_or(fields, "state", "created");
-    let id = reading.text_or(fields, "id", "");
     Listed {
-        id: id_of(reading, id.as_str()),
+        id: id_at(reading, fields),
         name: reading.text_or(fields, "name", ""),
         image_id: reading.text_or(fields, "image", ""),
         labels: container_labels(reading, fields, project),
-        state: state_of(reading, state.as_str()),
+        state: state_at(reading, fields),
         networks: reading.texts(fields, "networks"),
     }
 }
@@ -69,9 +63,8 @@ pub(crate) fn networks_of(reading: &mut Reading, fields: &Fields, project: &Text
 }
 
 fn network_of(reading: &mut Reading, fields: &Fields, project: &Text) -> NetRow {
-    let id = reading.text_or(fields, "id", "");
     NetRow {
-        id: id_of(reading, id.as_str()),
+        id: id_at(reading, fields),
         name: reading.text_at(fields, "name"),
         labels: resource_labels(reading, fields, labels::NETWORK, project),
     }

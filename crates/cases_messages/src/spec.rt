@@ -4,22 +4,30 @@ use engine_types::{ContainerSpec, Endpoint, Healthcheck, Pairs};
 use tree_base::{Boxed, List, Memory, Text};
 
 /// What the Engine is sent of a container with these labels, image and networks: the further members that cases use
-/// stand under their names, `binds`, `network_mode` and `healthcheck` (the items of its test).
-pub(crate) fn spec_of(
+/// stand under their names, `binds`, `network_mode` and `healthcheck` (the items of its test). None, and the want of
+/// memory is kept, where there is none for its box.
+pub fn spec_of(
     reading: &mut Reading,
     fields: &Fields,
     labels: Pairs,
     image: Option<Text>,
     endpoints: Option<List<Endpoint>>,
-) -> ContainerSpec {
+) -> Option<Boxed<ContainerSpec>> {
     let binds = texts_where(reading, fields, "binds");
+    let mode = text_where(reading, fields, "network_mode");
     let test = texts_where(reading, fields, "healthcheck");
-    let network_mode = if fields.has("network_mode") {
-        Some(reading.text_at(fields, "network_mode"))
+    boxed(
+        reading,
+        spec_with(labels, image, endpoints, binds, mode, test),
+    )
+}
+
+fn text_where(reading: &mut Reading, fields: &Fields, key: &str) -> Option<Text> {
+    if fields.has(key) {
+        Some(reading.text_at(fields, key))
     } else {
         None
-    };
-    spec_with(labels, image, endpoints, binds, network_mode, test)
+    }
 }
 
 fn texts_where(reading: &mut Reading, fields: &Fields, key: &str) -> Option<List<Text>> {
@@ -30,14 +38,15 @@ fn texts_where(reading: &mut Reading, fields: &Fields, key: &str) -> Option<List
     }
 }
 
-fn healthcheck_of(test: List<Text>) -> Healthcheck {
-    Healthcheck {
-        test: Some(test),
+/// A health check with the items of its test, where there are some. No memory.
+fn healthcheck_of(test: Option<List<Text>>) -> Option<Healthcheck> {
+    Some(Healthcheck {
+        test: Some(test?),
         interval: None,
         timeout: None,
         start_period: None,
         retries: None,
-    }
+    })
 }
 
 /// What was read of a container, behind a box; None, and the want of memory is kept, where there is none for it.
@@ -107,7 +116,7 @@ pub(crate) fn spec_with(
         tmpfs: None,
         network_mode,
         endpoints_config,
-        healthcheck: test.map(healthcheck_of),
+        healthcheck: healthcheck_of(test),
         stop_timeout: None,
     }
 }

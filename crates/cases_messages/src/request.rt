@@ -1,13 +1,13 @@
-use crate::declared::{network_named, volume_named};
-use crate::ids::{id_of, id_word};
-use crate::memory::number_of;
+use crate::ids::{id_of, say_id};
+use crate::line::Line;
 use crate::reading::Reading;
+use crate::resource::{network_named, volume_named};
 use crate::spec::{boxed, spec_with};
 use case_files::CaseFault;
 use engine_types::{ContainerSpec, Endpoint, Request};
 use std::alloc::Global;
 use std::str::SplitWhitespace;
-use tree_base::{List, Memory, Text};
+use tree_base::{Boxed, List, Memory, Text};
 
 /// The request of a line: `containers PROJECT`, `inspect ID`, `create NAME IMAGE [NETWORK | +VOLUME]..` (a volume is bound
 /// at `/data`), `start ID`, `stop ID SECONDS` (10), `remove ID`, `networks`, `network NAME`,
@@ -16,13 +16,12 @@ use tree_base::{List, Memory, Text};
 /// such form.
 pub fn request_of(alloc: Global, line: &str) -> Result<Request, CaseFault> {
     let mut reading = Reading::new(alloc);
-    let request = request(&mut reading, line);
-    reading.end()?;
-    Ok(request)
+    let request = read_request(&mut reading, line);
+    reading.whole(request)
 }
 
 /// The same in a reading.
-pub(crate) fn request(reading: &mut Reading, line: &str) -> Request {
+pub fn read_request(reading: &mut Reading, line: &str) -> Request {
     let mut words = line.split_whitespace();
     let verb = words.next().unwrap_or("");
     let name = words.next().unwrap_or("");
@@ -78,7 +77,7 @@ fn other_request(reading: &mut Reading, verb: &str, name: &str) -> Request {
 
 fn stop(reading: &mut Reading, name: &str, seconds: Option<&str>) -> Request {
     let seconds = match seconds {
-        Some(seconds) => number_of(reading, seconds),
+        Some(seconds) => reading.number(seconds),
         None => 10,
     };
     Request::Stop {
@@ -107,16 +106,21 @@ fn texts_of(reading: &mut Reading, words: SplitWhitespace<'_>) -> List<Text> {
 
 fn create(reading: &mut Reading, name: &str, mut words: SplitWhitespace<'_>) -> Request {
     let image = words.next().unwrap_or("");
-    let name = reading.text(name);
-    let spec = created_spec(reading, image, words);
-    match boxed(reading, spec) {
-        Some(spec) => Request::Create { name, spec },
+    match created_spec(reading, image, words) {
+        Some(spec) => Request::Create {
+            name: reading.text(name),
+            spec,
+        },
         None => Request::ListNetworks,
     }
 }
 
 /// What a container is made with: its image, networks, and volumes, which stand behind a `+`.
-fn created_spec(reading: &mut Reading, image: &str, words: SplitWhitespace<'_>) -> ContainerSpec {
+fn created_spec(
+    reading: &mut Reading,
+    image: &str,
+    words: SplitWhitespace<'_>,
+) -> Option<Boxed<ContainerSpec>> {
     let mut endpoints = List::new(reading.alloc);
     let mut binds = List::new(reading.alloc);
     for word in words {
@@ -127,14 +131,16 @@ fn created_spec(reading: &mut Reading, image: &str, words: SplitWhitespace<'_>) 
     }
     let image = Some(reading.text(image));
     let labels = List::new(reading.alloc);
-    spec_with(labels, image, Some(endpoints), Some(binds), None, None)
+    let spec = spec_with(labels, image, Some(endpoints), Some(binds), None, None);
+    boxed(reading, spec)
 }
 
 fn push_bind(reading: &mut Reading, binds: &mut List<Text>, volume: &str) {
-    match format!(in reading.alloc; "{volume}:/data") {
-        Ok(bind) => reading.push(binds, Text::from_string(bind)),
-        Err(_) => reading.memory(),
-    }
+    let mut bind = Line::new(reading.alloc);
+    bind.put(volume);
+    bind.put(":/data");
+    let bind = reading.said(bind);
+    reading.push(binds, bind);
 }
 
 fn push_endpoint(reading: &mut Reading, endpoints: &mut List<Endpoint>, network: &str) {
@@ -147,70 +153,55 @@ fn push_endpoint(reading: &mut Reading, endpoints: &mut List<Endpoint>, network:
 
 /// The line of a request, as `request_of` reads it; of a create the name alone.
 pub fn request_line(alloc: Global, request: &Request) -> Result<Text, Memory> {
+    let mut line = Line::new(alloc);
+    say_request(&mut line, request);
+    line.end()
+}
+
+/// The same on a line.
+pub(crate) fn say_request(line: &mut Line, request: &Request) {
     match request {
-        Request::ListContainers { project } => said(alloc, "containers", project),
-        Request::Inspect { id } => said_id(alloc, "inspect", id),
-        Request::Create { name, .. } => said(alloc, "create", name),
-        Request::Start { id } => said_id(alloc, "start", id),
-        Request::Stop { id, seconds } => stop_line(alloc, id, *seconds),
-        Request::Remove { id } => said_id(alloc, "remove", id),
-        Request::ListNetworks => Text::from_str(alloc, "networks"),
-        Request::MakeNetwork { spec } => said(alloc, "network", &spec.name),
+        Request::ListContainers { project } => say_of(line, "containers", project),
+        Request::Inspect { id } => say_of_id(line, "inspect", id),
+        Request::Create { name, .. } => say_of(line, "create", name),
+        Request::Start { id } => say_of_id(line, "start", id),
+        Request::Stop { id, seconds } => say_stop(line, id, *seconds),
+        Request::Remove { id } => say_of_id(line, "remove", id),
+        Request::ListNetworks => line.word("networks"),
+        Request::MakeNetwork { spec } => say_of(line, "network", &spec.name),
         Request::Connect {
             network,
             container,
             aliases,
-        } => connect_line(alloc, network, container, aliases.as_slice()),
-        Request::RemoveNetwork { id } => said_id(alloc, "remove-network", id),
-        Request::ListVolumes => Text::from_str(alloc, "volumes"),
-        Request::MakeVolume { spec } => said(alloc, "volume", &spec.name),
-        Request::RemoveVolume { name } => said(alloc, "remove-volume", name),
-        Request::Image { name } => said(alloc, "image", name),
-        Request::Pull { name } => said(alloc, "pull", name),
+        } => say_connect(line, network, container, aliases.as_slice()),
+        Request::RemoveNetwork { id } => say_of_id(line, "remove-network", id),
+        Request::ListVolumes => line.word("volumes"),
+        Request::MakeVolume { spec } => say_of(line, "volume", &spec.name),
+        Request::RemoveVolume { name } => say_of(line, "remove-volume", name),
+        Request::Image { name } => say_of(line, "image", name),
+        Request::Pull { name } => say_of(line, "pull", name),
     }
 }
 
-/// A verb and what it speaks of.
-pub(crate) fn said(alloc: Global, verb: &str, name: &Text) -> Result<Text, Memory> {
-    let line = format!(in alloc; "{verb} {name}")?;
-    Ok(Text::from_string(line))
+/// Says a verb and the name of what it speaks of.
+pub(crate) fn say_of(line: &mut Line, verb: &str, name: &Text) {
+    line.word(verb);
+    line.word(name.as_str());
 }
 
-/// A verb and the word of an id.
-pub(crate) fn said_id(alloc: Global, verb: &str, id: &Text) -> Result<Text, Memory> {
-    let id = id_word(alloc, id.as_str())?;
-    said(alloc, verb, &id)
+/// Says a verb and the id of what it speaks of.
+pub(crate) fn say_of_id(line: &mut Line, verb: &str, id: &Text) {
+    line.word(verb);
+    say_id(line, id.as_str());
 }
 
-fn stop_line(alloc: Global, id: &Text, seconds: u64) -> Result<Text, Memory> {
-    let id = id_word(alloc, id.as_str())?;
-    let line = format!(in alloc; "stop {id} {seconds}")?;
-    Ok(Text::from_string(line))
+fn say_stop(line: &mut Line, id: &Text, seconds: u64) {
+    say_of_id(line, "stop", id);
+    line.number(seconds);
 }
 
-fn connect_line(
-    alloc: Global,
-    network: &Text,
-    container: &Text,
-    aliases: &[Text],
-) -> Result<Text, Memory> {
-    let mut line = Text::from_str(alloc, "connect")?;
-    push_word(&mut line, id_word(alloc, network.as_str())?.as_str())?;
-    push_word(&mut line, id_word(alloc, container.as_str())?.as_str())?;
-    push_words(&mut line, aliases)?;
-    Ok(line)
-}
-
-/// Puts a word last, behind a space.
-pub(crate) fn push_word(line: &mut Text, word: &str) -> Result<(), Memory> {
-    line.push_str(" ")?;
-    line.push_str(word)
-}
-
-/// Puts words last, each behind a space.
-pub(crate) fn push_words(line: &mut Text, words: &[Text]) -> Result<(), Memory> {
-    for word in words {
-        push_word(line, word.as_str())?;
-    }
-    Ok(())
+fn say_connect(line: &mut Line, network: &Text, container: &Text, aliases: &[Text]) {
+    say_of_id(line, "connect", network);
+    say_id(line, container.as_str());
+    line.words(aliases);
 }

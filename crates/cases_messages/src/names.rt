@@ -3,22 +3,32 @@ use case_files::Fields;
 use engine_types::{Condition, ContainerState, Health, Kind, Policy, Purpose, Report};
 
 /// The report of a container, by its `state`, `exit_code` and `health`.
-pub(crate) fn report_of(reading: &mut Reading, fields: &Fields) -> Report {
-    let word = reading.text_or(fields, "state", "created");
-    let state = state_of(reading, word.as_str());
-    let word = reading.text_or(fields, "exit_code", "0");
-    let exit_code = code_of(reading, word.as_str());
-    let word = reading.text_or(fields, "health", "absent");
-    let health = health_of(reading, word.as_str());
+pub fn report_of(reading: &mut Reading, fields: &Fields) -> Report {
     Report {
-        state,
-        exit_code,
-        health,
+        state: state_at(reading, fields),
+        exit_code: code_at(reading, fields),
+        health: health_at(reading, fields),
     }
 }
 
+/// The state under the key `state`, `created` where it isn't there.
+pub fn state_at(reading: &mut Reading, fields: &Fields) -> ContainerState {
+    let word = reading.text_or(fields, "state", "created");
+    state_of(reading, word.as_str())
+}
+
+fn code_at(reading: &mut Reading, fields: &Fields) -> i64 {
+    let word = reading.text_or(fields, "exit_code", "0");
+    code_of(reading, word.as_str())
+}
+
+fn health_at(reading: &mut Reading, fields: &Fields) -> Health {
+    let word = reading.text_or(fields, "health", "absent");
+    health_of(reading, word.as_str())
+}
+
 /// The exit code of a decimal.
-pub(crate) fn code_of(reading: &mut Reading, word: &str) -> i64 {
+pub fn code_of(reading: &mut Reading, word: &str) -> i64 {
     match word.parse::<i64>() {
         Ok(code) => code,
         Err(_) => {
@@ -29,7 +39,7 @@ pub(crate) fn code_of(reading: &mut Reading, word: &str) -> i64 {
 }
 
 /// The state of a word.
-pub(crate) fn state_of(reading: &mut Reading, word: &str) -> ContainerState {
+pub fn state_of(reading: &mut Reading, word: &str) -> ContainerState {
     match word {
         "created" => ContainerState::Created,
         "running" => ContainerState::Running,
@@ -46,7 +56,7 @@ pub(crate) fn state_of(reading: &mut Reading, word: &str) -> ContainerState {
 }
 
 /// The word of a state.
-pub(crate) fn state_word(state: ContainerState) -> &'static str {
+pub fn state_word(state: ContainerState) -> &'static str {
     match state {
         ContainerState::Created => "created",
         ContainerState::Running => "running",
@@ -59,7 +69,7 @@ pub(crate) fn state_word(state: ContainerState) -> &'static str {
 }
 
 /// The health of a word.
-pub(crate) fn health_of(reading: &mut Reading, word: &str) -> Health {
+pub fn health_of(reading: &mut Reading, word: &str) -> Health {
     match word {
         "absent" => Health::Absent,
         "starting" => Health::Starting,
@@ -73,7 +83,7 @@ pub(crate) fn health_of(reading: &mut Reading, word: &str) -> Health {
 }
 
 /// The word of a health.
-pub(crate) fn health_word(health: Health) -> &'static str {
+pub fn health_word(health: Health) -> &'static str {
     match health {
         Health::Absent => "absent",
         Health::Starting => "starting",
@@ -83,7 +93,7 @@ pub(crate) fn health_word(health: Health) -> &'static str {
 }
 
 /// The condition of a word.
-pub(crate) fn condition_of(reading: &mut Reading, word: &str) -> Condition {
+pub fn condition_of(reading: &mut Reading, word: &str) -> Condition {
     match word {
         "started" => Condition::Started,
         "healthy" => Condition::Healthy,
@@ -97,7 +107,7 @@ pub(crate) fn condition_of(reading: &mut Reading, word: &str) -> Condition {
 }
 
 /// The pull policy of a word.
-pub(crate) fn policy_of(reading: &mut Reading, word: &str) -> Policy {
+pub fn policy_of(reading: &mut Reading, word: &str) -> Policy {
     match word {
         "always" => Policy::Always,
         "missing" => Policy::Missing,
@@ -110,7 +120,7 @@ pub(crate) fn policy_of(reading: &mut Reading, word: &str) -> Policy {
 }
 
 /// The kind of a word.
-pub(crate) fn kind_of(reading: &mut Reading, word: &str) -> Kind {
+pub fn kind_of(reading: &mut Reading, word: &str) -> Kind {
     match word {
         "service" => Kind::Service,
         "network" => Kind::Network,
