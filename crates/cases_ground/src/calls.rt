@@ -8,7 +8,14 @@ pub fn inputs_of(call: &str) -> Option<&'static [&'static str]> {
         "text" | "list" | "reserved_list" | "map" => Some(&["steps"]),
         "printed_text" | "boxed" | "copy_variables" | "place" => Some(&[]),
         "compare" => Some(&["with"]),
-        "tree" => Some(&["step", "path", "most_nodes", "most_text", "most_levels"]),
+        "tree" => Some(&[
+            "step",
+            "path",
+            "other",
+            "most_nodes",
+            "most_text",
+            "most_levels",
+        ]),
         "copy" => Some(&["as"]),
         _ => None,
     }

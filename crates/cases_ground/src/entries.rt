@@ -1,65 +1,89 @@
+use crate::items::{number_tree, scalar_tree};
 use case_files::CaseFault;
 use std::alloc::Global;
-use tree_base::{Env, List, Map, Text, TextMap, Tree};
+use tree_base::{Env, List, Map, Memory, Text, TextMap, Tree};
 
-/// Puts a text under a key.
-pub fn add_text(alloc: Global, key: &str, text: &str, to: &mut Map) -> Result<(), CaseFault> {
-    let value = Tree::Scalar(Text::from_str(alloc, text)?);
-    add_tree(alloc, key, value, to)
-}
-
-/// Puts a text under a key, or null where there is none.
-pub fn add_or_null(
+/// A mapping that is made key by key. Where memory is wanting it remembers that and goes on, as `Items` does.
+#[derive(Drop)]
+pub struct Entries {
     alloc: Global,
-    key: &str,
-    text: &Option<Text>,
-    to: &mut Map,
-) -> Result<(), CaseFault> {
-    match text {
-        Some(text) => add_text(alloc, key, text.as_str(), to),
-        None => add_tree(alloc, key, Tree::Null, to),
+    values: Map,
+    failed: bool,
+}
+
+impl Entries {
+    /// The mapping without keys. No memory.
+    pub fn new(alloc: Global) -> Entries {
+        Entries {
+            alloc,
+            values: Map::new(alloc),
+            failed: false,
+        }
     }
-}
 
-/// Puts a tree under a key.
-pub(crate) fn add_tree(
-    alloc: Global,
-    key: &str,
-    tree: Tree,
-    to: &mut Map,
-) -> Result<(), CaseFault> {
-    let key = Text::from_str(alloc, key)?;
-    let _ = to.put(key, tree)?;
-    Ok(())
-}
-
-/// A number as a case has it.
-pub fn number_tree(alloc: Global, number: u64) -> Result<Tree, CaseFault> {
-    let digits = format!(in alloc; "{number}")?;
-    Ok(Tree::Scalar(Text::from_string(digits)))
-}
-
-/// Numbers as a sequence.
-pub(crate) fn numbers_tree(alloc: Global, numbers: &[u64]) -> Result<Tree, CaseFault> {
-    let mut trees = List::new(alloc);
-    for number in numbers {
-        trees.push(number_tree(alloc, *number)?)?;
+    /// Puts a tree under a key, where there was memory for it.
+    pub fn tree(&mut self, key: &str, made: Result<Tree, Memory>) {
+        match made {
+            Ok(tree) => self.put(key, tree),
+            Err(Memory) => self.failed = true,
+        }
     }
-    Ok(Tree::Seq(trees))
+
+    fn put(&mut self, key: &str, tree: Tree) {
+        match Text::from_str(self.alloc, key) {
+            Ok(key) => self.put_under(key, tree),
+            Err(Memory) => {
+                drop(tree);
+                self.failed = true;
+            }
+        }
+    }
+
+    /// What stood under the key is dropped by a call: a drop in place is proved variant by variant.
+    fn put_under(&mut self, key: Text, tree: Tree) {
+        let old = self.values.put(key, tree);
+        if old.is_err() {
+            self.failed = true;
+        }
+        drop(old);
+    }
+
+    /// Puts a text under a key.
+    pub fn text(&mut self, key: &str, text: &str) {
+        self.tree(key, scalar_tree(self.alloc, text));
+    }
+
+    /// Puts a number under a key, in decimal.
+    pub fn number(&mut self, key: &str, number: u64) {
+        self.tree(key, number_tree(self.alloc, number));
+    }
+
+    /// Puts a text under a key, or null where there is none.
+    pub fn text_or_null(&mut self, key: &str, text: Option<&Text>) {
+        match text {
+            Some(text) => self.text(key, text.as_str()),
+            None => self.put(key, Tree::Null),
+        }
+    }
+
+    /// The whole mapping.
+    pub fn whole(self) -> Result<Tree, Memory> {
+        let Entries { values, failed, .. } = self;
+        if failed {
+            Err(Memory)
+        } else {
+            Ok(Tree::Map(values))
+        }
+    }
 }
 
 /// Variables as a mapping, in their order.
-pub fn variables_tree(alloc: Global, variables: &Env) -> Result<Tree, CaseFault> {
-    let values = scalars_of(alloc, variables.values())?;
-    Ok(Tree::Map(under_keys(alloc, variables, values)?))
-}
-
-fn scalars_of(alloc: Global, texts: &[Text]) -> Result<List<Tree>, CaseFault> {
-    let mut scalars = List::new(alloc);
-    for text in texts {
-        scalars.push(Tree::Scalar(text.copy(alloc)?))?;
+pub fn variables_tree(alloc: Global, variables: &Env) -> Result<Tree, Memory> {
+    let mut entries = Entries::new(alloc);
+    for (name, value) in variables.keys().iter().zip(variables.values()) {
+        entries.text(name.as_str(), value.as_str());
     }
-    Ok(scalars)
+    entries.whole()
 }
 
 /// Other values under the same keys. NoCase where there isn't one for each.

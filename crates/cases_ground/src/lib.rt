@@ -8,9 +8,10 @@
 mod calls;
 mod case_step;
 mod entries;
-mod gave;
+mod items;
 mod lists;
 mod maps;
+mod parts;
 mod paths;
 mod reserved_lists;
 mod texts;
@@ -18,5 +19,7 @@ mod trees;
 mod values;
 
 pub use calls::{answer, inputs_of};
-pub use entries::{add_or_null, add_text, number_tree, under_keys, variables_tree};
+pub use entries::{Entries, under_keys, variables_tree};
+pub use items::Items;
+pub use parts::{is_word, scalar_in};
 pub use paths::path_tree;

@@ -1,28 +1,29 @@
-use crate::entries::number_tree;
+use crate::items::Items;
+use crate::parts::{items_in, scalar_in};
 use case_files::CaseFault;
 use std::alloc::Global;
-use tree_base::{List, Path, Step, Text, Tree};
+use tree_base::{Memory, Path, Step, Text, Tree};
 
 /// A path as a case has it: keys as scalars, and each place as a sequence of its number.
-pub fn path_tree(alloc: Global, path: &Path) -> Result<Tree, CaseFault> {
-    let mut steps = List::new(alloc);
+pub fn path_tree(alloc: Global, path: &Path) -> Result<Tree, Memory> {
+    let mut steps = Items::new(alloc);
     for step in path.as_slice() {
-        steps.push(step_tree(alloc, step)?)?;
+        add_step(alloc, step, &mut steps);
     }
-    Ok(Tree::Seq(steps))
+    steps.whole()
 }
 
-fn step_tree(alloc: Global, step: &Step) -> Result<Tree, CaseFault> {
+fn add_step(alloc: Global, step: &Step, to: &mut Items) {
     match step {
-        Step::Key(key) => Ok(Tree::Scalar(key.copy(alloc)?)),
-        Step::Index(at) => place_tree(alloc, *at),
+        Step::Key(key) => to.text(key.as_str()),
+        Step::Index(at) => to.tree(place_tree(alloc, *at)),
     }
 }
 
-fn place_tree(alloc: Global, at: u32) -> Result<Tree, CaseFault> {
-    let mut items = List::new(alloc);
-    items.push(number_tree(alloc, u64::from(at))?)?;
-    Ok(Tree::Seq(items))
+fn place_tree(alloc: Global, at: u32) -> Result<Tree, Memory> {
+    let mut items = Items::new(alloc);
+    items.number(u64::from(at));
+    items.whole()
 }
 
 /// The path of a case.
@@ -36,17 +37,24 @@ pub(crate) fn path_of(alloc: Global, steps: &[Tree]) -> Result<Path, CaseFault> 
 
 /// A step of a case: a key, or a place in brackets.
 pub(crate) fn step_of(alloc: Global, tree: &Tree) -> Result<Step, CaseFault> {
-    match tree {
-        Tree::Scalar(key) => Ok(Step::Key(key.copy(alloc)?)),
-        Tree::Seq(items) => match items.as_slice() {
-            [Tree::Scalar(digits)] => place_of(alloc, digits),
-            _ => Err(CaseFault::no_case(alloc, "a place wants one number")),
-        },
-        _ => Err(CaseFault::no_case(alloc, "a step wants a key or a place")),
+    if let Some(key) = scalar_in(tree) {
+        return Ok(Step::Key(key.copy(alloc)?));
+    }
+    match items_in(tree) {
+        Some([place]) => place_of(alloc, place),
+        Some(_) => Err(CaseFault::no_case(alloc, "a place wants one number")),
+        None => Err(CaseFault::no_case(alloc, "a step wants a key or a place")),
     }
 }
 
-fn place_of(alloc: Global, digits: &Text) -> Result<Step, CaseFault> {
+fn place_of(alloc: Global, tree: &Tree) -> Result<Step, CaseFault> {
+    match scalar_in(tree) {
+        Some(digits) => place_at(alloc, digits),
+        None => Err(CaseFault::no_case(alloc, "a place wants one number")),
+    }
+}
+
+fn place_at(alloc: Global, digits: &Text) -> Result<Step, CaseFault> {
     match digits.as_str().parse::<u32>() {
         Ok(at) => Ok(Step::Index(at)),
         Err(_) => Err(CaseFault::no_case(alloc, "a place wants a number")),

@@ -1,6 +1,5 @@
 use crate::case_step::CaseStep;
-use crate::entries::numbers_tree;
-use crate::gave::Gave;
+use crate::items::{Items, numbers_tree};
 use case_files::{Answers, CaseFault, Fields};
 use std::alloc::Global;
 use std::mem;
@@ -12,27 +11,27 @@ pub(crate) fn reserved_list(
     fields: &Fields,
     answers: &mut Answers,
 ) -> Result<(), CaseFault> {
-    let numbers = fields.numbers("reserved_list")?;
-    let mut list = ReservedList::new(alloc);
-    let mut gave = Gave::new(alloc);
-    push_all(numbers.as_slice(), &mut list)?;
-    take_steps(alloc, fields.items("steps")?, &mut list, &mut gave)?;
-    gave.put(answers)?;
+    let mut list = ReservedList::from_list(fields.numbers("reserved_list")?);
+    put_gave(alloc, fields, &mut list, answers)?;
     answers.put("becomes", numbers_tree(alloc, list.as_slice())?)
 }
 
-fn push_all(numbers: &[u64], list: &mut ReservedList<u64>) -> Result<(), CaseFault> {
-    for number in numbers {
-        list.push(*number)?;
-    }
-    Ok(())
+fn put_gave(
+    alloc: Global,
+    fields: &Fields,
+    list: &mut ReservedList<u64>,
+    answers: &mut Answers,
+) -> Result<(), CaseFault> {
+    let mut gave = Items::new(alloc);
+    take_steps(alloc, fields.items("steps")?, list, &mut gave)?;
+    answers.put("gave", gave.whole()?)
 }
 
 fn take_steps(
     alloc: Global,
     steps: &[Tree],
     list: &mut ReservedList<u64>,
-    gave: &mut Gave,
+    gave: &mut Items,
 ) -> Result<(), CaseFault> {
     for step in steps {
         take_step(alloc, CaseStep::of_tree(alloc, step)?, list, gave)?;
@@ -44,19 +43,16 @@ fn take_step(
     alloc: Global,
     step: CaseStep,
     list: &mut ReservedList<u64>,
-    gave: &mut Gave,
+    gave: &mut Items,
 ) -> Result<(), CaseFault> {
     match step.name() {
         "reserve" => Ok(list.reserve(step.count()?)?),
         "push" => Ok(list.push(step.number()?)?),
-        "pop" => gave.number_or_null(list.pop()),
-        "through_a_list" => {
-            through_a_list(alloc, list);
-            Ok(())
-        }
-        "is_empty" => gave.flag(list.is_empty()),
-        "length" => gave.number(list.len() as u64),
-        "get" => gave.number_or_null(list.get(step.count()?).copied()),
+        "pop" => Ok(gave.number_or_null(list.pop())),
+        "through_a_list" => Ok(through_a_list(alloc, list)),
+        "is_empty" => Ok(gave.flag(list.is_empty())),
+        "length" => Ok(gave.number(list.len() as u64)),
+        "get" => Ok(gave.number_or_null(list.get(step.count()?).copied())),
         _ => Err(step.unknown()),
     }
 }

@@ -1,5 +1,5 @@
 use crate::case_step::CaseStep;
-use crate::gave::Gave;
+use crate::items::Items;
 use case_files::{Answers, CaseFault, Fields};
 use std::alloc::Global;
 use std::cmp::Ordering;
@@ -8,17 +8,26 @@ use tree_base::{Text, Tree};
 /// `text: TEXT` with `steps`: what the steps `gave`, and what it `becomes`.
 pub(crate) fn text(alloc: Global, fields: &Fields, answers: &mut Answers) -> Result<(), CaseFault> {
     let mut text = fields.text("text")?;
-    let mut gave = Gave::new(alloc);
-    take_steps(alloc, fields.items("steps")?, &mut text, &mut gave)?;
-    gave.put(answers)?;
+    put_gave(alloc, fields, &mut text, answers)?;
     put_whole(text, answers)
+}
+
+fn put_gave(
+    alloc: Global,
+    fields: &Fields,
+    text: &mut Text,
+    answers: &mut Answers,
+) -> Result<(), CaseFault> {
+    let mut gave = Items::new(alloc);
+    take_steps(alloc, fields.items("steps")?, text, &mut gave)?;
+    answers.put("gave", gave.whole()?)
 }
 
 fn take_steps(
     alloc: Global,
     steps: &[Tree],
     text: &mut Text,
-    gave: &mut Gave,
+    gave: &mut Items,
 ) -> Result<(), CaseFault> {
     for step in steps {
         take_step(CaseStep::of_tree(alloc, step)?, text, gave)?;
@@ -26,12 +35,12 @@ fn take_steps(
     Ok(())
 }
 
-fn take_step(step: CaseStep, text: &mut Text, gave: &mut Gave) -> Result<(), CaseFault> {
+fn take_step(step: CaseStep, text: &mut Text, gave: &mut Items) -> Result<(), CaseFault> {
     match step.name() {
         "push_str" => Ok(text.push_str(step.text()?.as_str())?),
         "push" => push_first(text, step.text()?.as_str()),
-        "is_empty" => gave.flag(text.is_empty()),
-        "length" => gave.number(text.len() as u64),
+        "is_empty" => Ok(gave.flag(text.is_empty())),
+        "length" => Ok(gave.number(text.len() as u64)),
         _ => Err(step.unknown()),
     }
 }

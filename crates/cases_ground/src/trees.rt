@@ -1,18 +1,40 @@
 use crate::entries::under_keys;
+use crate::parts::is_word;
 use crate::paths::{path_of, step_of};
+use crate::values::within_u32;
 use case_files::{Answers, CaseFault, Fields};
 use std::alloc::Global;
 use tree_base::{Boxed, List, Map, Tree};
 
 /// `tree: TREE`: what stands under `step` or at `path`, as `child` and `found`, where they lead to something, which
-/// `leads` says; how many `nodes` and `text_bytes` it has, where they are at most `most_nodes` and `most_text`; and
-/// whether it `is_within_depth` of `most_levels`. In a sequence `{mark: reset}` is a `!reset`.
+/// `leads` says; whether it is the `same` as an `other`; how many `nodes` and `text_bytes` it has, where they are at most
+/// `most_nodes` and `most_text`; and whether it `is_within_depth` of `most_levels`. In a sequence `{mark: reset}` is a
+/// `!reset`.
 pub(crate) fn tree(alloc: Global, fields: &Fields, answers: &mut Answers) -> Result<(), CaseFault> {
+    let copy = copy_with_marks(alloc, fields)?;
+    let answered = put_answers(alloc, &copy, fields, answers);
+    drop(copy);
+    answered
+}
+
+/// A copy of the tree, which is dropped by a call: a drop in place is proved variant by variant.
+fn copy_with_marks(alloc: Global, fields: &Fields) -> Result<Tree, CaseFault> {
     let tree = tree_with_marks(fields.tree("tree")?, alloc)?;
-    let copy = tree.copy(alloc)?;
-    put_child(alloc, &copy, fields, answers)?;
-    put_found(alloc, &copy, fields, answers)?;
-    put_size(&copy, fields, answers)
+    let copy = tree.copy(alloc);
+    drop(tree);
+    Ok(copy?)
+}
+
+fn put_answers(
+    alloc: Global,
+    tree: &Tree,
+    fields: &Fields,
+    answers: &mut Answers,
+) -> Result<(), CaseFault> {
+    put_child(alloc, tree, fields, answers)?;
+    put_found(alloc, tree, fields, answers)?;
+    put_same(alloc, tree, fields, answers)?;
+    put_size(tree, fields, answers)
 }
 
 fn put_child(
@@ -57,14 +79,33 @@ fn put_where(
     }
 }
 
+fn put_same(
+    alloc: Global,
+    tree: &Tree,
+    fields: &Fields,
+    answers: &mut Answers,
+) -> Result<(), CaseFault> {
+    match fields.find("other") {
+        Some(other) => {
+            let other = tree_with_marks(other, alloc)?;
+            let same = tree.same(&other);
+            drop(other);
+            answers.put_flag("same", same)
+        }
+        None => Ok(()),
+    }
+}
+
 fn put_size(tree: &Tree, fields: &Fields, answers: &mut Answers) -> Result<(), CaseFault> {
     let most_nodes = fields.number_or("most_nodes", u64::MAX)?;
     put_or_null("nodes", tree.nodes_within(most_nodes), answers)?;
     let most_text = fields.number_or("most_text", u64::MAX)?;
     put_or_null("text_bytes", tree.text_within(most_text), answers)?;
     let most_levels = fields.number_or("most_levels", 64)?;
-    let levels = u32::try_from(most_levels).unwrap_or(u32::MAX);
-    answers.put_flag("is_within_depth", tree.is_within_depth(levels))
+    answers.put_flag(
+        "is_within_depth",
+        tree.is_within_depth(within_u32(most_levels)),
+    )
 }
 
 fn put_or_null(name: &str, number: Option<u64>, answers: &mut Answers) -> Result<(), CaseFault> {
@@ -90,7 +131,7 @@ fn tree_with_marks(tree: &Tree, alloc: Global) -> Result<Tree, CaseFault> {
 
 #[cycle(marks)]
 fn map_with_marks(entries: &Map, alloc: Global) -> Result<Tree, CaseFault> {
-    if is_reset(alloc, entries) {
+    if is_reset(entries) {
         Ok(Tree::Reset)
     } else {
         let values = trees_with_marks(entries.values(), alloc)?;
@@ -107,9 +148,9 @@ fn trees_with_marks(trees: &[Tree], alloc: Global) -> Result<List<Tree>, CaseFau
     Ok(copies)
 }
 
-fn is_reset(alloc: Global, entries: &Map) -> bool {
-    match Fields::new(alloc, entries).find("mark") {
-        Some(Tree::Scalar(word)) => word.as_str() == "reset",
-        _ => false,
+fn is_reset(entries: &Map) -> bool {
+    match entries.find("mark") {
+        Some(mark) => is_word(mark, "reset"),
+        None => false,
     }
 }

@@ -1,8 +1,8 @@
-use crate::entries::add_text;
+use crate::entries::Entries;
 use case_files::{Answers, CaseFault, Fields};
 use std::alloc::Global;
 use std::fmt;
-use tree_base::{Boxed, List, Map, Memory, Place, Text, Tree, TryCopy, Var, copy_slice};
+use tree_base::{Boxed, Env, List, Memory, Place, Text, Tree, TryCopy, Var, copy_slice};
 
 /// `boxed: NUMBER`: the `value` in the box, and what is `taken_out`.
 pub(crate) fn value_in_box(
@@ -67,40 +67,42 @@ pub(crate) fn copy_variables(
     answers: &mut Answers,
 ) -> Result<(), CaseFault> {
     let records = records_in(alloc, fields)?;
-    let copies = copy_slice(alloc, records.as_slice())?;
-    answers.put_flag("equal", copies.as_slice() == records.as_slice())?;
+    put_copies(alloc, records.as_slice(), answers)
+}
+
+fn put_copies(alloc: Global, records: &[Var], answers: &mut Answers) -> Result<(), CaseFault> {
+    let copies = copy_slice(alloc, records)?;
+    answers.put_flag("equal", copies.as_slice() == records)?;
     answers.put("copied", records_tree(alloc, copies.as_slice())?)
 }
 
 fn records_in(alloc: Global, fields: &Fields) -> Result<List<Var>, CaseFault> {
     let variables = fields.variables("copy_variables")?;
+    let records = records_of(alloc, &variables);
+    drop(variables);
+    Ok(records?)
+}
+
+fn records_of(alloc: Global, variables: &Env) -> Result<List<Var>, Memory> {
     let mut records = List::new(alloc);
-    for name in variables.keys() {
-        if let Some(value) = variables.get(name) {
-            records.push(record_of(alloc, name, value.copy(alloc)?)?)?;
-        }
+    for (name, value) in variables.keys().iter().zip(variables.values()) {
+        records.push(record_of(alloc, name, value)?)?;
     }
     Ok(records)
 }
 
-fn record_of(alloc: Global, name: &Text, value: Text) -> Result<Var, CaseFault> {
-    match name.copy(alloc) {
-        Ok(name) => Ok(Var { name, value }),
-        Err(Memory) => Err(CaseFault::Memory),
-    }
+fn record_of(alloc: Global, name: &Text, value: &Text) -> Result<Var, Memory> {
+    let name = name.copy(alloc)?;
+    let value = value.copy(alloc)?;
+    Ok(Var { name, value })
 }
 
-fn records_tree(alloc: Global, records: &[Var]) -> Result<Tree, CaseFault> {
-    let mut entries = Map::new(alloc);
+fn records_tree(alloc: Global, records: &[Var]) -> Result<Tree, Memory> {
+    let mut entries = Entries::new(alloc);
     for record in records {
-        add_text(
-            alloc,
-            record.name.as_str(),
-            record.value.as_str(),
-            &mut entries,
-        )?;
+        entries.text(record.name.as_str(), record.value.as_str());
     }
-    Ok(Tree::Map(entries))
+    entries.whole()
 }
 
 /// `place: {file: NUMBER, line: NUMBER, column: NUMBER}`: how it is printed for `debug`.
@@ -120,5 +122,10 @@ pub(crate) fn place(
 }
 
 fn part_of(parts: &Fields, key: &str) -> Result<u32, CaseFault> {
-    Ok(u32::try_from(parts.number(key)?).unwrap_or(u32::MAX))
+    Ok(within_u32(parts.number(key)?))
+}
+
+/// The number, or the greatest one of its type where it is greater. No memory.
+pub(crate) fn within_u32(number: u64) -> u32 {
+    u32::try_from(number).unwrap_or(u32::MAX)
 }

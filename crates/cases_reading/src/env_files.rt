@@ -12,11 +12,26 @@ pub(crate) fn env_file(
     answers: &mut Answers,
 ) -> Result<(), CaseFault> {
     let outer = fields.variables("outer")?;
+    let answered = put_read(alloc, fields, &outer, answers);
+    drop(outer);
+    answered
+}
+
+/// What was read is dropped by a call: a drop in place is proved variant by variant.
+fn put_read(
+    alloc: Global,
+    fields: &Fields,
+    outer: &Env,
+    answers: &mut Answers,
+) -> Result<(), CaseFault> {
     let bytes = fields.bytes("env_file")?;
-    match read_env(alloc, bytes.as_slice(), &outer) {
-        Ok(variables) => put_variables(alloc, &variables, answers),
-        Err(refusal) => refuse_file(alloc, &refusal, answers),
-    }
+    let read = read_env(alloc, bytes.as_slice(), outer);
+    let answered = match &read {
+        Ok(variables) => put_variables(alloc, variables, answers),
+        Err(refusal) => refuse_file(alloc, refusal, answers),
+    };
+    drop(read);
+    answered
 }
 
 fn refuse_file(

@@ -1,9 +1,9 @@
 use crate::forms::refuse_form;
 use case_files::{Answers, CaseFault, Fields};
-use cases_ground::{add_or_null, add_text};
+use cases_ground::Entries;
 use short_forms::{Mount, MountKind, read_mount};
 use std::alloc::Global;
-use tree_base::{Map, Tree, TryCopy};
+use tree_base::{Memory, Tree, TryCopy};
 
 /// `mount: TEXT`: its `long_form`.
 pub(crate) fn mount(
@@ -13,24 +13,30 @@ pub(crate) fn mount(
 ) -> Result<(), CaseFault> {
     let text = fields.text("mount")?;
     match read_mount(alloc, &text) {
-        Ok(mount) => put_mount(alloc, &mount, answers),
+        Ok(mount) => {
+            let answered = put_mount(alloc, &mount, answers);
+            drop(mount);
+            answered
+        }
         Err(refusal) => refuse_form(alloc, refusal, answers),
     }
 }
 
 fn put_mount(alloc: Global, mount: &Mount, answers: &mut Answers) -> Result<(), CaseFault> {
     let copy = mount.copy(alloc)?;
-    answers.put("long_form", mount_tree(alloc, &copy)?)
+    let tree = mount_tree(alloc, &copy);
+    drop(copy);
+    answers.put("long_form", tree?)
 }
 
-fn mount_tree(alloc: Global, mount: &Mount) -> Result<Tree, CaseFault> {
-    let mut entries = Map::new(alloc);
-    add_text(alloc, "kind", kind_word(mount.kind), &mut entries)?;
-    add_or_null(alloc, "source", &mount.source, &mut entries)?;
-    add_text(alloc, "target", mount.target.as_str(), &mut entries)?;
-    add_text(alloc, "read_only", flag_word(mount.read_only), &mut entries)?;
-    add_or_null(alloc, "selinux", &mount.selinux, &mut entries)?;
-    Ok(Tree::Map(entries))
+fn mount_tree(alloc: Global, mount: &Mount) -> Result<Tree, Memory> {
+    let mut entries = Entries::new(alloc);
+    entries.text("kind", kind_word(mount.kind));
+    entries.text_or_null("source", mount.source.as_ref());
+    entries.text("target", mount.target.as_str());
+    entries.text("read_only", flag_word(mount.read_only));
+    entries.text_or_null("selinux", mount.selinux.as_ref());
+    entries.whole()
 }
 
 fn kind_word(kind: MountKind) -> &'static str {

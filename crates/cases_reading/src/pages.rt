@@ -1,5 +1,5 @@
 use case_files::{Answers, CaseFault, Fields};
-use cases_ground::under_keys;
+use cases_ground::{scalar_in, under_keys};
 use project_print::{Dollars, Node, json_text, page_json};
 use std::alloc::Global;
 use tree_base::{List, Map, Text, Tree};
@@ -10,7 +10,9 @@ use yaml_tree::read;
 /// that is `read_back` from the page. A scalar is a text, and `{word: TEXT}` a word that is printed as it is.
 pub(crate) fn page(alloc: Global, fields: &Fields, answers: &mut Answers) -> Result<(), CaseFault> {
     let node = node_of(fields.tree("page")?, alloc)?;
-    put_pages(alloc, &node, answers)
+    let answered = put_pages(alloc, &node, answers);
+    drop(node);
+    answered
 }
 
 fn put_pages(alloc: Global, node: &Node, answers: &mut Answers) -> Result<(), CaseFault> {
@@ -54,7 +56,9 @@ pub(crate) fn page_scalar(
     answers: &mut Answers,
 ) -> Result<(), CaseFault> {
     let node = Node::Text(fields.text("page_scalar")?);
-    put_spelling(alloc, &node, answers)
+    let answered = put_spelling(alloc, &node, answers);
+    drop(node);
+    answered
 }
 
 fn put_spelling(alloc: Global, node: &Node, answers: &mut Answers) -> Result<(), CaseFault> {
@@ -85,7 +89,7 @@ fn node_of(tree: &Tree, alloc: Global) -> Result<Node, CaseFault> {
 
 #[cycle(nodes)]
 fn node_of_map(entries: &Map, alloc: Global) -> Result<Node, CaseFault> {
-    match word_in(alloc, entries) {
+    match word_in(entries) {
         Some(word) => Ok(Node::Word(word.copy(alloc)?)),
         None => {
             let nodes = nodes_of(entries.values(), alloc)?;
@@ -104,9 +108,10 @@ fn nodes_of(trees: &[Tree], alloc: Global) -> Result<List<Node>, CaseFault> {
 }
 
 /// The word of `{word: TEXT}`.
-fn word_in(alloc: Global, entries: &Map) -> Option<&Text> {
-    match Fields::new(alloc, entries).find("word") {
-        Some(Tree::Scalar(word)) if entries.len() == 1 => Some(word),
-        _ => None,
+fn word_in(entries: &Map) -> Option<&Text> {
+    if entries.len() == 1 {
+        scalar_in(entries.find("word")?)
+    } else {
+        None
     }
 }

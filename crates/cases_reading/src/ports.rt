@@ -1,9 +1,9 @@
 use crate::forms::refuse_form;
 use case_files::{Answers, CaseFault, Fields};
-use cases_ground::{add_or_null, add_text};
+use cases_ground::{Entries, Items};
 use short_forms::{Port, read_port};
 use std::alloc::Global;
-use tree_base::{List, Map, Tree, TryCopy};
+use tree_base::{List, Memory, Tree, TryCopy};
 
 /// `port: TEXT`: its `ports`, and their `count`.
 pub(crate) fn port(alloc: Global, fields: &Fields, answers: &mut Answers) -> Result<(), CaseFault> {
@@ -20,20 +20,19 @@ fn put_ports(alloc: Global, ports: &List<Port>, answers: &mut Answers) -> Result
     answers.put("ports", ports_tree(alloc, copies.as_slice())?)
 }
 
-fn ports_tree(alloc: Global, ports: &[Port]) -> Result<Tree, CaseFault> {
-    let mut trees = List::new(alloc);
+fn ports_tree(alloc: Global, ports: &[Port]) -> Result<Tree, Memory> {
+    let mut items = Items::new(alloc);
     for port in ports {
-        trees.push(port_tree(alloc, port)?)?;
+        items.tree(port_tree(alloc, port));
     }
-    Ok(Tree::Seq(trees))
+    items.whole()
 }
 
-fn port_tree(alloc: Global, port: &Port) -> Result<Tree, CaseFault> {
-    let mut entries = Map::new(alloc);
-    add_or_null(alloc, "host_ip", &port.host_ip, &mut entries)?;
-    add_or_null(alloc, "published", &port.published, &mut entries)?;
-    let target = format!(in alloc; "{}", port.target)?;
-    add_text(alloc, "target", target.as_str(), &mut entries)?;
-    add_text(alloc, "protocol", port.protocol.as_str(), &mut entries)?;
-    Ok(Tree::Map(entries))
+fn port_tree(alloc: Global, port: &Port) -> Result<Tree, Memory> {
+    let mut entries = Entries::new(alloc);
+    entries.text_or_null("host_ip", port.host_ip.as_ref());
+    entries.text_or_null("published", port.published.as_ref());
+    entries.number("target", u64::from(port.target));
+    entries.text("protocol", port.protocol.as_str());
+    entries.whole()
 }

@@ -1,11 +1,11 @@
 use crate::words::words_of;
 use case_files::{Answers, CaseFault, Fields};
-use cases_ground::add_text;
+use cases_ground::Entries;
 use outside_api::MemoryFiles;
 use plain_services::{Command, PlainService, Project};
 use refusals::{Refusal, refusal_line};
 use std::alloc::Global;
-use tree_base::{Map, Text, TextMap, Tree};
+use tree_base::{List, Memory, Text, TextMap, Tree};
 
 /// `command_of: WORDS`: the `command`, or null, and whether `orphans` go.
 pub(crate) fn command_of(
@@ -39,25 +39,60 @@ fn put_with_orphans(name: &str, orphans: bool, answers: &mut Answers) -> Result<
 /// last one gives, with the `count` of its services, and the `bytes` of their names and images.
 pub(crate) fn load(alloc: Global, fields: &Fields, answers: &mut Answers) -> Result<(), CaseFault> {
     let mut files = files_of(alloc, fields)?;
+    let answered = load_words(alloc, fields, &mut files, answers);
+    drop(files);
+    answered
+}
+
+fn load_words(
+    alloc: Global,
+    fields: &Fields,
+    files: &mut MemoryFiles,
+    answers: &mut Answers,
+) -> Result<(), CaseFault> {
     let line = fields.text_or("words", "config")?;
     let words = words_of(alloc, line.as_str())?;
     let directory = fields.text_or("directory", "/w/shop")?;
-    let mut loaded = plain_services::load(alloc, &words, &directory, &mut files);
     for _ in 1..fields.number_or("times", 1)? {
-        loaded = plain_services::load(alloc, &words, &directory, &mut files);
+        drop(plain_services::load(alloc, &words, &directory, files));
     }
-    match loaded {
-        Ok(project) => put_project(alloc, &project, answers),
-        Err(refusal) => refuse_load(alloc, &refusal, answers),
-    }
+    put_loaded(
+        alloc,
+        plain_services::load(alloc, &words, &directory, files),
+        answers,
+    )
+}
+
+/// What was loaded is dropped by a call: a drop in place is proved variant by variant.
+fn put_loaded(
+    alloc: Global,
+    loaded: Result<Project, Refusal>,
+    answers: &mut Answers,
+) -> Result<(), CaseFault> {
+    let answered = match &loaded {
+        Ok(project) => put_project(alloc, project, answers),
+        Err(refusal) => refuse_load(alloc, refusal, answers),
+    };
+    drop(loaded);
+    answered
 }
 
 fn files_of(alloc: Global, fields: &Fields) -> Result<MemoryFiles, CaseFault> {
-    let mut files = TextMap::new(alloc);
     let path = fields.text_or("file", "/w/shop/compose.yaml")?;
-    let _ = files.put(path, fields.bytes("load")?)?;
+    let bytes = fields.bytes("load")?;
     let failing = fields.numbers("failing")?;
-    Ok(MemoryFiles::new(files, failing))
+    Ok(MemoryFiles::new(only_file(alloc, path, bytes)?, failing))
+}
+
+fn only_file(alloc: Global, path: Text, bytes: List<u8>) -> Result<TextMap<List<u8>>, Memory> {
+    let mut files = TextMap::new(alloc);
+    let put = files.put(path, bytes);
+    if put.is_ok() {
+        Ok(files)
+    } else {
+        drop(files);
+        Err(Memory)
+    }
 }
 
 fn refuse_load(alloc: Global, refusal: &Refusal, answers: &mut Answers) -> Result<(), CaseFault> {
@@ -77,8 +112,7 @@ fn put_project(alloc: Global, project: &Project, answers: &mut Answers) -> Resul
     let services = project.services.as_slice();
     answers.put_number("count", services.len() as u64)?;
     answers.put_number("bytes", bytes_in(services))?;
-    let tree = project_tree(alloc, &project.name, services)?;
-    answers.put("project", tree)
+    answers.put("project", project_tree(alloc, &project.name, services)?)
 }
 
 fn bytes_in(services: &[PlainService]) -> u64 {
@@ -91,23 +125,17 @@ fn bytes_in(services: &[PlainService]) -> u64 {
 }
 
 /// `{name: NAME, services: {SERVICE: IMAGE, ..}}`
-fn project_tree(alloc: Global, name: &Text, services: &[PlainService]) -> Result<Tree, CaseFault> {
-    let mut entries = Map::new(alloc);
-    add_text(alloc, "name", name.as_str(), &mut entries)?;
-    let images = images_tree(alloc, services)?;
-    let _ = entries.put(Text::from_str(alloc, "services")?, images)?;
-    Ok(Tree::Map(entries))
+fn project_tree(alloc: Global, name: &Text, services: &[PlainService]) -> Result<Tree, Memory> {
+    let mut entries = Entries::new(alloc);
+    entries.text("name", name.as_str());
+    entries.tree("services", images_tree(alloc, services));
+    entries.whole()
 }
 
-fn images_tree(alloc: Global, services: &[PlainService]) -> Result<Tree, CaseFault> {
-    let mut images = Map::new(alloc);
+fn images_tree(alloc: Global, services: &[PlainService]) -> Result<Tree, Memory> {
+    let mut images = Entries::new(alloc);
     for service in services {
-        add_text(
-            alloc,
-            service.name.as_str(),
-            service.image.as_str(),
-            &mut images,
-        )?;
+        images.text(service.name.as_str(), service.image.as_str());
     }
-    Ok(Tree::Map(images))
+    images.whole()
 }

@@ -2,7 +2,7 @@ use case_files::{Answers, CaseFault, Fields};
 use cases_ground::path_tree;
 use interpolate::{SubstRefusal, SubstTreeRefusal, subst, subst_tree};
 use std::alloc::Global;
-use tree_base::{Path, Text, Tree};
+use tree_base::{Env, Path, Text, Tree};
 
 /// `substitute: TEXT` under `variables`: its value as `text`, with so many `bytes`.
 pub(crate) fn substitute(
@@ -11,11 +11,26 @@ pub(crate) fn substitute(
     answers: &mut Answers,
 ) -> Result<(), CaseFault> {
     let variables = fields.variables("variables")?;
+    let answered = put_substituted(alloc, fields, &variables, answers);
+    drop(variables);
+    answered
+}
+
+/// What was substituted is dropped by a call: a drop in place is proved variant by variant.
+fn put_substituted(
+    alloc: Global,
+    fields: &Fields,
+    variables: &Env,
+    answers: &mut Answers,
+) -> Result<(), CaseFault> {
     let text = fields.text("substitute")?;
-    match subst(alloc, &text, &variables) {
-        Ok(value) => put_value(&value, answers),
-        Err(refusal) => refuse_text(alloc, &refusal, answers),
-    }
+    let substituted = subst(alloc, &text, variables);
+    let answered = match &substituted {
+        Ok(value) => put_value(value, answers),
+        Err(refusal) => refuse_text(alloc, refusal, answers),
+    };
+    drop(substituted);
+    answered
 }
 
 fn put_value(value: &Text, answers: &mut Answers) -> Result<(), CaseFault> {
@@ -51,25 +66,47 @@ pub(crate) fn substitute_tree(
     fields: &Fields,
     answers: &mut Answers,
 ) -> Result<(), CaseFault> {
-    let tree = fields.tree("substitute_tree")?;
     let variables = fields.variables("variables")?;
-    match subst_tree(alloc, tree, &variables) {
+    let answered = put_substituted_tree(alloc, fields, &variables, answers);
+    drop(variables);
+    answered
+}
+
+fn put_substituted_tree(
+    alloc: Global,
+    fields: &Fields,
+    variables: &Env,
+    answers: &mut Answers,
+) -> Result<(), CaseFault> {
+    match subst_tree(alloc, fields.tree("substitute_tree")?, variables) {
         Ok(tree) => put_tree(tree, answers),
-        Err(SubstTreeRefusal::At { path, cause }) => refuse_at(alloc, &path, &cause, answers),
-        Err(SubstTreeRefusal::TooMuchText) => answers.refuse("TooMuchText"),
-        Err(SubstTreeRefusal::Memory) => Err(CaseFault::Memory),
+        Err(refusal) => {
+            let answered = refuse_tree(alloc, &refusal, answers);
+            drop(refusal);
+            answered
+        }
     }
 }
 
 fn put_tree(tree: Tree, answers: &mut Answers) -> Result<(), CaseFault> {
-    if let Some(bytes) = tree.text_within(u64::MAX) {
-        put_bytes(bytes, answers)?;
+    let bytes = tree.text_within(u64::MAX);
+    answers.put("tree", tree)?;
+    match bytes {
+        Some(bytes) => answers.put_number("bytes", bytes),
+        None => Ok(()),
     }
-    answers.put("tree", tree)
 }
 
-fn put_bytes(bytes: u64, answers: &mut Answers) -> Result<(), CaseFault> {
-    answers.put_number("bytes", bytes)
+fn refuse_tree(
+    alloc: Global,
+    refusal: &SubstTreeRefusal,
+    answers: &mut Answers,
+) -> Result<(), CaseFault> {
+    match refusal {
+        SubstTreeRefusal::At { path, cause } => refuse_at(alloc, path, cause, answers),
+        SubstTreeRefusal::TooMuchText => answers.refuse("TooMuchText"),
+        SubstTreeRefusal::Memory => Err(CaseFault::Memory),
+    }
 }
 
 fn refuse_at(

@@ -1,21 +1,26 @@
 use crate::options::options_line;
 use crate::refusing::refuse;
 use case_files::{Answers, CaseFault, Fields};
+use cases_ground::{is_word, scalar_in};
 use compose_words::{
     Notice, Options, WordsRefusal, help_text, notice_of, read_words, version_text,
 };
 use std::alloc::Global;
-use tree_base::{List, Text, Tree};
+use tree_base::{List, Text};
 
 /// How many words a case may have.
 const MOST_WORDS: usize = 100_000;
 
 /// The words of a case: a sequence, or one text with a space between words.
 pub(crate) fn words_in(alloc: Global, fields: &Fields, key: &str) -> Result<List<Text>, CaseFault> {
-    match fields.find(key) {
-        Some(Tree::Scalar(line)) => words_of(alloc, line.as_str()),
-        _ => fields.texts(key),
+    match line_in(fields, key) {
+        Some(line) => words_of(alloc, line.as_str()),
+        None => fields.texts(key),
     }
+}
+
+fn line_in<'c>(fields: &Fields<'c>, key: &str) -> Option<&'c Text> {
+    scalar_in(fields.find(key)?)
 }
 
 /// The words of a line; none where it is empty.
@@ -38,7 +43,11 @@ pub(crate) fn command_line(
     let words = words_in(alloc, fields, "command_line")?;
     if words.len() < MOST_WORDS {
         match read_words(alloc, &words) {
-            Ok(options) => put_options(alloc, &options, answers),
+            Ok(options) => {
+                let answered = put_options(alloc, &options, answers);
+                drop(options);
+                answered
+            }
             Err(WordsRefusal::Memory) => Err(CaseFault::Memory),
             Err(refusal) => refuse(alloc, &refusal, answers),
         }
@@ -78,10 +87,13 @@ pub(crate) fn usage(
 }
 
 fn usage_text(alloc: Global, fields: &Fields) -> Result<Text, CaseFault> {
-    match fields.find("usage") {
-        Some(Tree::Scalar(which)) if which.as_str() == "help" => Ok(help_text(alloc)?),
-        Some(Tree::Scalar(which)) if which.as_str() == "version" => Ok(version_text(alloc)?),
-        _ => Err(CaseFault::no_case(alloc, "`usage` wants help or version")),
+    let which = fields.tree("usage")?;
+    if is_word(which, "help") {
+        Ok(help_text(alloc)?)
+    } else if is_word(which, "version") {
+        Ok(version_text(alloc)?)
+    } else {
+        Err(CaseFault::no_case(alloc, "`usage` wants help or version"))
     }
 }
 
