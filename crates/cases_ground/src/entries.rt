@@ -68,11 +68,15 @@ impl Entries {
 
     /// The whole mapping.
     pub fn whole(self) -> Result<Tree, Memory> {
-        let Entries { values, failed, .. } = self;
+        let Entries {
+            alloc,
+            values,
+            failed,
+        } = self;
         if failed {
             Err(Memory)
         } else {
-            Ok(Tree::Map(values))
+            Tree::mapping(alloc, values)
         }
     }
 }

@@ -85,11 +85,15 @@ impl Items {
 
     /// The whole sequence.
     pub fn whole(self) -> Result<Tree, Memory> {
-        let Items { trees, failed, .. } = self;
+        let Items {
+            alloc,
+            trees,
+            failed,
+        } = self;
         if failed {
             Err(Memory)
         } else {
-            Ok(Tree::Seq(trees))
+            Tree::sequence(alloc, trees)
         }
     }
 }

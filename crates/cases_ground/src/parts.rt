@@ -27,7 +27,7 @@ pub(crate) fn items_in(tree: &Tree) -> Option<&[Tree]> {
 /// The entries of a mapping; None for another tree. No memory.
 pub(crate) fn entries_in(tree: &Tree) -> Option<&Map> {
     match tree {
-        Tree::Map(entries) => Some(entries),
+        Tree::Map(entries) => Some(entries.get()),
         _ => None,
     }
 }

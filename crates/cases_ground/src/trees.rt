@@ -119,8 +119,11 @@ fn put_or_null(name: &str, number: Option<u64>, answers: &mut Answers) -> Result
 #[cycle(marks)]
 fn tree_with_marks(tree: &Tree, alloc: Global) -> Result<Tree, CaseFault> {
     match tree {
-        Tree::Map(entries) => map_with_marks(entries, alloc),
-        Tree::Seq(items) => Ok(Tree::Seq(trees_with_marks(items.as_slice(), alloc)?)),
+        Tree::Map(entries) => map_with_marks(entries.get(), alloc),
+        Tree::Seq(items) => {
+            let items = trees_with_marks(items.as_slice(), alloc)?;
+            Ok(Tree::sequence(alloc, items)?)
+        }
         Tree::Override(inner) => {
             let inner = tree_with_marks(inner.get(), alloc)?;
             Ok(Tree::Override(Boxed::new(alloc, inner)?))
@@ -135,7 +138,7 @@ fn map_with_marks(entries: &Map, alloc: Global) -> Result<Tree, CaseFault> {
         Ok(Tree::Reset)
     } else {
         let values = trees_with_marks(entries.values(), alloc)?;
-        Ok(Tree::Map(under_keys(alloc, entries, values)?))
+        Ok(Tree::mapping(alloc, under_keys(alloc, entries, values)?)?)
     }
 }
 

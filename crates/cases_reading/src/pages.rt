@@ -80,7 +80,7 @@ fn node_of(tree: &Tree, alloc: Global) -> Result<Node, CaseFault> {
     match tree {
         Tree::Null => Ok(Node::Null),
         Tree::Scalar(text) => Ok(Node::Text(text.copy(alloc)?)),
-        Tree::Map(entries) => node_of_map(entries, alloc),
+        Tree::Map(entries) => node_of_map(entries.get(), alloc),
         Tree::Seq(items) => Ok(Node::Seq(nodes_of(items.as_slice(), alloc)?)),
         Tree::Reset => Err(CaseFault::no_case(alloc, "a page has no marks")),
         Tree::Override(_) => Err(CaseFault::no_case(alloc, "a page has no marks")),
