@@ -1,0 +1,7 @@
+//! Laws of the pages that `project_print` writes, as texts in the YAML profile: they stand above the definitions of pages and
+//! of reading alone. Nothing in this crate runs.
+#![tactic(auto)]
+
+mod laws;
+
+pub use laws::text_pages_read_back;
