@@ -1,7 +1,7 @@
 use crate::config_call::put_ended;
 use crate::files::sound_files_of;
-use crate::piece_sink::PieceSink;
 use crate::scene::Scene;
+use crate::stage::Stage;
 use case_files::{Answers, CaseFault, Fields};
 use cases_messages::exchange_lines;
 use cases_values::{engine_lines, journal_lines};
@@ -9,6 +9,7 @@ use compose_cli::Ended;
 use engine_hand::MemoryHand;
 use engine_types::Engine;
 use identity::declare;
+use outside_api::MemoryFiles;
 use plain_services::{Command, Project, command_of, load};
 use std::alloc::Global;
 use tree_base::{List, Memory};
@@ -20,11 +21,10 @@ pub fn put_call(
     fields: &Fields,
     scene: &Scene,
     ended: &Ended<MemoryHand>,
-    out: &PieceSink,
-    err: &PieceSink,
+    stage: &Stage,
     answers: &mut Answers,
 ) -> Result<(), CaseFault> {
-    put_ended(ended.status, out, err, answers)?;
+    put_ended(ended.status, stage, answers)?;
     answers.put_texts("journal", journal_lines(alloc, ended.journal.as_slice())?)?;
     answers.put_number("hands", ended.hands.len() as u64)?;
     match ended.hands.as_slice().first() {
@@ -62,12 +62,30 @@ fn is_exact(
     scene: &Scene,
     engine: &Engine,
 ) -> Result<Option<bool>, CaseFault> {
+    match project_in(alloc, fields, scene)? {
+        Some(project) => {
+            let is_exact = holds(alloc, &project, engine, goes_for_orphans(scene));
+            drop(project);
+            Ok(Some(is_exact?))
+        }
+        None => Ok(None),
+    }
+}
+
+/// The project of a call, from files of which every read goes well; None where none is loaded.
+fn project_in(alloc: Global, fields: &Fields, scene: &Scene) -> Result<Option<Project>, CaseFault> {
     let mut files = sound_files_of(alloc, fields, scene.directory.as_str())?;
-    match load(alloc, &scene.words, &scene.directory, &mut files) {
-        Ok(project) => Ok(Some(holds(alloc, &project, engine, goes_for_orphans(scene))?)),
+    let project = loaded(alloc, scene, &mut files);
+    drop(files);
+    Ok(project)
+}
+
+fn loaded(alloc: Global, scene: &Scene, files: &mut MemoryFiles) -> Option<Project> {
+    match load(alloc, &scene.words, &scene.directory, files) {
+        Ok(project) => Some(project),
         Err(refusal) => {
             drop(refusal);
-            Ok(None)
+            None
         }
     }
 }
@@ -82,5 +100,7 @@ fn goes_for_orphans(scene: &Scene) -> bool {
 
 fn holds(alloc: Global, project: &Project, engine: &Engine, orphans: bool) -> Result<bool, Memory> {
     let declared = declare(alloc, project)?;
-    exact(alloc, &declared, engine, orphans)
+    let is_exact = exact(alloc, &declared, engine, orphans);
+    drop(declared);
+    is_exact
 }

@@ -1,13 +1,10 @@
 ghost use Rattle.config_command.specs.Commands.{IsConfigOrNone};
 ghost use Rattle.plain_services.specs.Commands.{command_of};
 
-use crate::files::files_of;
-use crate::piece_sink::PieceSink;
 use crate::scene::{Scene, scene_of};
-use crate::sinks::sink_at;
+use crate::stage::{Stage, stage_of};
 use case_files::{Answers, CaseFault, Fields};
 use config_command::config_run;
-use outside_api::MemoryFiles;
 use plain_services::{Command, command_of};
 use std::alloc::Global;
 
@@ -15,9 +12,20 @@ use std::alloc::Global;
 /// words are those of another command.
 pub fn config(alloc: Global, fields: &Fields, answers: &mut Answers) -> Result<(), CaseFault> {
     let scene = scene_of(alloc, fields, "config")?;
+    let made = config_in(alloc, fields, &scene, answers);
+    drop(scene);
+    made
+}
+
+fn config_in(
+    alloc: Global,
+    fields: &Fields,
+    scene: &Scene,
+    answers: &mut Answers,
+) -> Result<(), CaseFault> {
     match command_of(&scene.words) {
-        None => print_project(alloc, fields, &scene, answers),
-        Some(Command::Config) => print_project(alloc, fields, &scene, answers),
+        None => print_project(alloc, fields, scene, answers),
+        Some(Command::Config) => print_project(alloc, fields, scene, answers),
         Some(_) => Err(CaseFault::wants(alloc, "config", "no words of another command")),
     }
 }
@@ -30,40 +38,34 @@ fn print_project(
 ) -> Result<(), CaseFault>
     requires { IsConfigOrNone (command_of scene.now.words) }
 {
-    let mut files = files_of(alloc, fields, scene.directory.as_str())?;
-    print_from(alloc, fields, scene, &mut files, answers)
+    let mut stage = stage_of(alloc, fields, scene.directory.as_str())?;
+    let status = print(alloc, scene, &mut stage);
+    let put = put_ended(status, &stage, answers);
+    drop(stage);
+    put
 }
 
-fn print_from(
-    alloc: Global,
-    fields: &Fields,
-    scene: &Scene,
-    files: &mut MemoryFiles,
-    answers: &mut Answers,
-) -> Result<(), CaseFault>
+/// The exit status of `config`.
+fn print(alloc: Global, scene: &Scene, stage: &mut Stage) -> u8
     requires { IsConfigOrNone (command_of scene.now.words) }
 {
-    let mut out = sink_at(alloc, fields, "out_sink")?;
-    let mut err = sink_at(alloc, fields, "err_sink")?;
-    let Scene {
-        words,
-        env,
-        directory,
-    } = scene;
-    let end = config_run(alloc, words, env, directory, files, &mut out, &mut err);
+    let end = config_run(
+        alloc,
+        &scene.words,
+        &scene.env,
+        &scene.directory,
+        &mut stage.files,
+        &mut stage.out,
+        &mut stage.err,
+    );
     let status = end.status;
     drop(end);
-    put_ended(status, &out, &err, answers)
+    status
 }
 
 /// Puts the exit status of a call and what its sinks took.
-pub fn put_ended(
-    status: u8,
-    out: &PieceSink,
-    err: &PieceSink,
-    answers: &mut Answers,
-) -> Result<(), CaseFault> {
+pub fn put_ended(status: u8, stage: &Stage, answers: &mut Answers) -> Result<(), CaseFault> {
     answers.put_number("status", u64::from(status))?;
-    answers.put_bytes("out", out.written())?;
-    answers.put_bytes("err", err.written())
+    answers.put_bytes("out", stage.out.written())?;
+    answers.put_bytes("err", stage.err.written())
 }

@@ -1,6 +1,7 @@
 use case_files::{CaseFault, Fields, text_of};
 use cases_messages::request_of;
 use cases_values::memory_engine_of;
+use engine_types::Request;
 use memory_engine::MemoryEngine;
 use std::alloc::Global;
 use tree_base::{List, Memory, Text, Tree};
@@ -56,15 +57,28 @@ fn serve_each(alloc: Global, fields: &Fields, engine: &mut MemoryEngine) -> Resu
 }
 
 fn serve(alloc: Global, tree: &Tree, engine: &mut MemoryEngine) -> Result<(), CaseFault> {
-    let line = text_of(alloc, tree, "served")?;
-    let request = request_of(alloc, line.as_str())?;
-    let served = engine.serve(alloc, &request);
+    let request = request_in(alloc, tree, "served")?;
+    let served = serve_request(alloc, &request, engine);
     drop(request);
-    match served {
+    Ok(served?)
+}
+
+fn serve_request(
+    alloc: Global,
+    request: &Request,
+    engine: &mut MemoryEngine,
+) -> Result<(), Memory> {
+    match engine.serve(alloc, request) {
         Ok(reply) => {
             drop(reply);
             Ok(())
         }
-        Err(Memory) => Err(CaseFault::Memory),
+        Err(Memory) => Err(Memory),
     }
+}
+
+/// The request of a part of a case, which is the line of one.
+pub fn request_in(alloc: Global, tree: &Tree, what: &str) -> Result<Request, CaseFault> {
+    let line = text_of(alloc, tree, what)?;
+    request_of(alloc, line.as_str())
 }

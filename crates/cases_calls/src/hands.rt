@@ -1,9 +1,9 @@
 ghost use Rattle.std.specs.Prelude.{◌≡◌, ◌<◌, ◌^◌, Some};
 ghost use Rattle.outside_api.specs.Clock.{new_clock};
 
-use crate::engines::engine_at;
-use case_files::{Answers, CaseFault, Fields, text_of};
-use cases_messages::{exchange_lines, request_of};
+use crate::engines::{engine_at, request_in};
+use case_files::{Answers, CaseFault, Fields};
+use cases_messages::exchange_lines;
 use engine_hand::{HandClock, MemoryHand, MemoryPlug};
 use outside_api::{DialAnswer, Hand, Plug, Target};
 use std::alloc::Global;
@@ -30,8 +30,7 @@ pub fn hand(alloc: Global, fields: &Fields, answers: &mut Answers) -> Result<(),
 
 fn exchange_each(alloc: Global, fields: &Fields, unused: &mut UnusedHand) -> Result<(), CaseFault> {
     for tree in fields.items("hand")? {
-        let line = text_of(alloc, tree, "hand")?;
-        let request = request_of(alloc, line.as_str())?;
+        let request = request_in(alloc, tree, "hand")?;
         let outcome = unused.hand.exchange(alloc, request);
         drop(outcome);
     }

@@ -15,6 +15,7 @@ mod lines;
 mod piece_sink;
 mod scene;
 mod sinks;
+mod stage;
 mod whole_call;
 mod whole_calls;
 

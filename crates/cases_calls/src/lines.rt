@@ -32,22 +32,37 @@ pub fn say(alloc: Global, fields: &Fields, answers: &mut Answers) -> Result<(), 
     let mut sink = sink_of(alloc, fields)?;
     match refusal_in(fields.find("say")) {
         Some(refusal) => {
-            let said = Some(text_output::say(alloc, refusal, &mut sink));
-            let put = put_said(&said, &sink, answers);
-            drop(said);
-            put
+            let said = said(alloc, refusal, &mut sink);
+            put_said(Some(said), &sink, answers)
         }
         None => Err(CaseFault::wants(alloc, "say", "a refusal")),
     }
 }
 
+/// Writes the line of a refusal, and names the one that was said.
+fn said(alloc: Global, refusal: Refusal, sink: &mut PieceSink) -> &'static str {
+    let said = text_output::say(alloc, refusal, sink);
+    let name = name_of(&said);
+    drop(said);
+    name
+}
+
 /// Writes the line of a refusal, where there is one, with the answers of `say`.
 pub fn say_if_any(alloc: Global, fields: &Fields, answers: &mut Answers) -> Result<(), CaseFault> {
     let mut sink = sink_of(alloc, fields)?;
-    let said = text_output::say_if_any(alloc, refusal_in(fields.find("say_if_any")), &mut sink);
-    let put = put_said(&said, &sink, answers);
+    let said = said_if_any(alloc, refusal_in(fields.find("say_if_any")), &mut sink);
+    put_said(said, &sink, answers)
+}
+
+fn said_if_any(
+    alloc: Global,
+    refusal: Option<Refusal>,
+    sink: &mut PieceSink,
+) -> Option<&'static str> {
+    let said = text_output::say_if_any(alloc, refusal, sink);
+    let name = said.as_ref().map(name_of);
     drop(said);
-    put
+    name
 }
 
 /// The refusal with a name; None where there is none of this name. No memory.
@@ -81,13 +96,9 @@ fn name_of(refusal: &Refusal) -> &'static str {
     }
 }
 
-fn put_said(
-    said: &Option<Refusal>,
-    sink: &PieceSink,
-    answers: &mut Answers,
-) -> Result<(), CaseFault> {
+fn put_said(said: Option<&str>, sink: &PieceSink, answers: &mut Answers) -> Result<(), CaseFault> {
     match said {
-        Some(refusal) => answers.put_text("refusal", name_of(refusal))?,
+        Some(name) => answers.put_text("refusal", name)?,
         None => answers.put_null("refusal")?,
     }
     answers.put_bytes("written", sink.written())

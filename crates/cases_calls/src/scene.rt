@@ -1,4 +1,4 @@
-use case_files::{CaseFault, Fields, text_of};
+use case_files::{CaseFault, Fields};
 use std::alloc::Global;
 use tree_base::{Env, List, Text, Tree};
 
@@ -13,29 +13,21 @@ pub struct Scene {
 /// The scene of a case, whose words stand under the name of the call.
 pub fn scene_of(alloc: Global, fields: &Fields, call: &str) -> Result<Scene, CaseFault> {
     Ok(Scene {
-        words: words_of(alloc, fields.tree(call)?, call)?,
+        words: words_of(alloc, fields, call)?,
         env: fields.variables("environment")?,
         directory: fields.text_or("directory", "/w/shop")?,
     })
 }
 
-/// The words of a sequence, or those of a text, which spaces part.
-fn words_of(alloc: Global, tree: &Tree, what: &str) -> Result<List<Text>, CaseFault> {
-    match tree {
-        Tree::Seq(items) => each_word(alloc, items.as_slice(), what),
+/// The words under the name of a call: those of a sequence, or those of a text, which spaces part.
+fn words_of(alloc: Global, fields: &Fields, call: &str) -> Result<List<Text>, CaseFault> {
+    match fields.find(call) {
+        Some(Tree::Seq(_)) => fields.texts(call),
         _ => {
-            let line = text_of(alloc, tree, what)?;
+            let line = fields.text(call)?;
             split(alloc, line.as_str())
         }
     }
-}
-
-fn each_word(alloc: Global, items: &[Tree], what: &str) -> Result<List<Text>, CaseFault> {
-    let mut words = List::new(alloc);
-    for item in items {
-        words.push(text_of(alloc, item, what)?)?;
-    }
-    Ok(words)
 }
 
 fn split(alloc: Global, line: &str) -> Result<List<Text>, CaseFault> {

@@ -2,9 +2,8 @@ ghost use Rattle.std.specs.Prelude.{◌≡◌, ◌<◌, ◌^◌, Some};
 
 use crate::call_answers::put_call;
 use crate::engines::engine_for;
-use crate::files::files_of;
 use crate::scene::{Scene, scene_of};
-use crate::sinks::sink_at;
+use crate::stage::{Stage, stage_of};
 use case_files::{Answers, CaseFault, Fields};
 use compose_cli::{Ended, serial_main};
 use engine_hand::{MemoryHand, MemoryPlug};
@@ -31,13 +30,28 @@ pub fn call_on(
 ) -> Result<(), CaseFault> {
     let used = fields.is_set("no_hand_left")?;
     let scene = scene_of(alloc, fields, "call")?;
+    let made = call_in(alloc, fields, &scene, used, engines, answers);
+    drop(scene);
+    made
+}
+
+fn call_in(
+    alloc: Global,
+    fields: &Fields,
+    scene: &Scene,
+    used: bool,
+    engines: &mut List<MemoryEngine>,
+    answers: &mut Answers,
+) -> Result<(), CaseFault> {
     let engine = engine_for(alloc, fields, engines)?;
     let mut plug = MemoryPlug::new(engine, 1);
-    if used {
-        call_used(alloc, fields, &scene, &mut plug, engines, answers)
+    let made = if used {
+        call_used(alloc, fields, scene, &mut plug, engines, answers)
     } else {
-        call_with(alloc, fields, &scene, &mut plug, 0, engines, answers)
-    }
+        call_with(alloc, fields, scene, &mut plug, 0, engines, answers)
+    };
+    drop(plug);
+    made
 }
 
 /// Makes a call with a plug whose one hand was made before.
@@ -73,19 +87,31 @@ fn call_with(
     requires told { ⟦<MemoryPlug as Plug>⟧.dialled plug.old ≡ Some dialled }
     requires below { dialled < 2 ^ 61 }
 {
-    let mut files = files_of(alloc, fields, scene.directory.as_str())?;
-    let mut out = sink_at(alloc, fields, "out_sink")?;
-    let mut err = sink_at(alloc, fields, "err_sink")?;
+    let mut stage = stage_of(alloc, fields, scene.directory.as_str())?;
+    let ended = top_call(alloc, scene, &mut stage, plug, dialled);
+    let put = put_call(alloc, fields, scene, &ended, &stage, answers);
+    drop(stage);
+    leave_engine(ended, engines, put)
+}
+
+/// What came of the top call.
+fn top_call(
+    alloc: Global,
+    scene: &Scene,
+    stage: &mut Stage,
+    plug: &mut MemoryPlug,
+    dialled: u64,
+) -> Ended<MemoryHand>
+    requires told { ⟦<MemoryPlug as Plug>⟧.dialled plug.old ≡ Some dialled }
+    requires below { dialled < 2 ^ 61 }
+{
     let Scene {
         words,
         env,
         directory,
     } = scene;
-    let ended = serial_main(
-        alloc, words, env, directory, &mut files, plug, &mut out, &mut err,
-    );
-    let put = put_call(alloc, fields, scene, &ended, &out, &err, answers);
-    leave_engine(ended, engines, put)
+    let Stage { out, err, files } = stage;
+    serial_main(alloc, words, env, directory, files, plug, out, err)
 }
 
 /// Leaves the Engine of the hand that a call handed back, and answers what came of the answers.
