@@ -10,3 +10,8 @@ pub mod PortLemmas
 pub mod PrintedLemmas
 pub mod QuoteLemmas
 pub mod WordLemmas
+pub mod Lacking
+pub mod PortNumbers
+pub mod PortTexts
+pub mod PortTrees
+pub mod MountForms

@@ -5,11 +5,15 @@ pub mod Digits
 pub mod Durations
 pub mod FixedPoint
 pub mod Laws
+pub mod LongForms
+pub mod MountLaws
 pub mod Mounts
 pub mod Pairs
+pub mod PortLaws
 pub mod Ports
 pub mod Printed
 pub mod Reading
+pub mod Refusals
 pub mod Sizes
 pub mod Spelling
 pub mod Words

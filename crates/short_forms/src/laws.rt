@@ -1,4 +1,6 @@
 ghost use Rattle.short_forms.specs.Laws.{DecimalsReadBack, DurationsReadBack, PlainWordsStay, SizesReadBack, SpelledWordsRead};
+ghost use Rattle.short_forms.specs.MountLaws.{LongMountsReadBack, ShortMountsAreLong, ShortMountsReadBack};
+ghost use Rattle.short_forms.specs.PortLaws.{LongPortsReadBack, ShortPortsAreLong, ShortPortsReadBack};
 
 /// The law that a duration, as a page prints it, reads back to its microseconds. Nothing runs.
 pub fn durations_read_back()
@@ -24,4 +26,34 @@ pub fn plain_words_stay()
 /// are cut into what they say. Nothing runs.
 pub fn spelled_words_read()
     ensures { SpelledWordsRead }
+{}
+
+/// The law that each port which a short form gives is the one port of its own short form. Nothing runs.
+pub fn short_ports_read_back()
+    ensures { ShortPortsReadBack }
+{}
+
+/// The law that a port reads back from its long form. Nothing runs.
+pub fn long_ports_read_back()
+    ensures { LongPortsReadBack }
+{}
+
+/// The law that each port which a short form gives reads back from its long form. Nothing runs.
+pub fn short_ports_are_long()
+    ensures { ShortPortsAreLong }
+{}
+
+/// The law that a mount which a short form gives reads back from its own short form. Nothing runs.
+pub fn short_mounts_read_back()
+    ensures { ShortMountsReadBack }
+{}
+
+/// The law that a mount reads back from its long form. Nothing runs.
+pub fn long_mounts_read_back()
+    ensures { LongMountsReadBack }
+{}
+
+/// The law that a mount which a short form gives reads back from its long form. Nothing runs.
+pub fn short_mounts_are_long()
+    ensures { ShortMountsAreLong }
 {}

@@ -22,7 +22,9 @@ pub use decimals::decimal;
 pub use durations::duration;
 pub use form::{Form, FormRefusal};
 pub use laws::{
-    decimals_read_back, durations_read_back, plain_words_stay, sizes_read_back, spelled_words_read,
+    decimals_read_back, durations_read_back, long_mounts_read_back, long_ports_read_back,
+    plain_words_stay, short_mounts_are_long, short_mounts_read_back, short_ports_are_long,
+    short_ports_read_back, sizes_read_back, spelled_words_read,
 };
 pub use mounts::{Mount, MountKind, read_mount};
 pub use pairs::key_value;
