@@ -18,6 +18,7 @@ use Rattle.refusals.specs.Origins.{IsBeforeDial}
 use Rattle.refusals.specs.declared.Refusal.{Refusal}
 use Rattle.refusals.specs.declared.LoadRefusal.{LoadRefusal}
 use Rattle.refusals.specs.declared.ProjectRefusal.{ProjectRefusal}
+use Rattle.refusals.specs.declared.Unbuilt.{Unbuilt}
 
 -- a refusal that goes on into another answer
 pub gives_on : {A B : Type 0} (r : Refusal) (x : Result A Refusal) (y : Result B Refusal) → (x ≡ Err r → y ≡ Err r) → Gives (Err r) x → Gives (Err r) y
@@ -27,9 +28,9 @@ gives_on r x y k h = k h
 pub gives_same : {A : Type 0} (given : Result A Refusal) (x y : Result A Refusal) → x ≡ y → Gives given x → Gives given y
 gives_same {A} given x y e h = subst (λ (z : Result A Refusal). Gives given z) e h
 
--- the refusals that a shape has
+-- the refusals that a shape has: of what isn't built in a tree, or of what it declares
 abbrev pub IsOfShape : Refusal → Type 0
-IsOfShape (Refusal.NotBuilt unbuilt) = Unit {0}
+IsOfShape (Refusal.NotBuilt (Unbuilt.Attribute path)) = Unit {0}
 IsOfShape (Refusal.Project refusal) = Unit {0}
 IsOfShape _ = ⊥
 
@@ -77,7 +78,7 @@ file_of_shape entries =
     (then_of_shape (services_under found >>= few) (λ services. services_of (in_byte_order services)) (then_of_shape (services_under found) few (under_of_shape found) few_of_shape)
     (λ services. services_of_shape (in_byte_order services)))
 
--- what is given of a shape comes before the dial, and is no fault of a read
+-- what is given of a shape comes before the dial, and is no refusal of words and no fault of a read
 pub before_dial : {X : Type 0} (given answer : Result X Refusal) → Gives given answer → IfErr answer IsOfShape → IfErr given IsBeforeDial
 before_dial (Ok x) answer h k = tt
 before_dial (Err Refusal.Memory) answer h k = tt
@@ -86,6 +87,9 @@ before_dial (Err (Refusal.Project refusal)) answer h k = tt
 before_dial (Err (Refusal.Load refusal)) answer h k = tt
 before_dial (Err (Refusal.Name refusal)) answer h k = tt
 before_dial (Err e) answer h k = absurd (IfErr-at_err IsOfShape h k)
+
+pub no_words : {X : Type 0} (given answer : Result X Refusal) → Gives given answer → IfErr answer IsOfShape → given ≡ Err (Refusal.NotBuilt Unbuilt.Words) → ⊥
+no_words {X} given answer h k e = IfErr-at_err IsOfShape (subst (λ (g : Result X Refusal). Gives g answer) e h) k
 
 pub no_read : {X : Type 0} (given answer : Result X Refusal) → Gives given answer → IfErr answer IsOfShape → (path : List ℕ) → given ≡ Err (Refusal.Load (LoadRefusal.ReadFault path)) → ⊥
 no_read {X} given answer h k path e = IfErr-at_err IsOfShape (subst (λ (g : Result X Refusal). Gives g answer) e h) k

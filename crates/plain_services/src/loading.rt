@@ -1,4 +1,4 @@
-ghost use Rattle.std.specs.Prelude.{◌≡◌, Err, IfSome, IfOk, IfErr, IsNone};
+ghost use Rattle.std.specs.Prelude.{◌≡◌, Err, None, IfSome, IfOk, IfErr, IsNone};
 ghost use Rattle.refusals.specs.Origins.{IsBeforeDial};
 ghost use Rattle.outside_api.specs.Counts.{Rose};
 ghost use Rattle.plain_services.specs.Commands.{command_of};
@@ -35,6 +35,7 @@ pub fn load<F: Files>(
 ) -> Result<Project, Refusal>
     ensures told { IfSome (F.told files.old) (λ contents. LoadsAs (loaded words.now directory.now contents) result) }
     ensures words { IsNone (command_of words.now) → result ≡ Err (Refusal.NotBuilt Unbuilt.Words) }
+    ensures words_only { result ≡ Err (Refusal.NotBuilt Unbuilt.Words) → command_of words.now ≡ None }
 
     // Also of files that aren't told: some text spells the project, and its services are in order.
     ensures text { IfOk result (IsSpelled directory.now) }
@@ -76,6 +77,7 @@ fn locate(alloc: Global, directory: &Text) -> Result<(Text, &str), Memory>
 fn spelled(alloc: Global, path: Text, base: &str, bytes: &[u8]) -> Result<Project, Refusal>
     ensures told { LoadsAs (spelled path base.now (tree_in bytes.now)) result }
     ensures order { IfOk result (λ project. IsInOrder project.services) }
+    ensures words { result ≡ Err (Refusal.NotBuilt Unbuilt.Words) → ⊥ }
     ensures read { (path : _) → result ≡ Err (Refusal.Load (LoadRefusal.ReadFault path)) → ⊥ }
     ensures kind { IfErr result IsBeforeDial }
 {
@@ -98,6 +100,7 @@ fn tree_in(alloc: Global, bytes: &[u8]) -> Result<Tree, YamlRefusal>
 fn project_of(alloc: Global, base: &str, tree: &Tree) -> Result<Project, Refusal>
     ensures told { LoadsAs (project_of base.now tree.now) result }
     ensures order { IfOk result (λ project. IsInOrder project.services) }
+    ensures words { result ≡ Err (Refusal.NotBuilt Unbuilt.Words) → ⊥ }
     ensures read { (path : _) → result ≡ Err (Refusal.Load (LoadRefusal.ReadFault path)) → ⊥ }
     ensures kind { IfErr result IsBeforeDial }
 {
@@ -109,6 +112,7 @@ fn project_of(alloc: Global, base: &str, tree: &Tree) -> Result<Project, Refusal
 /// The name that a directory's base name gives.
 fn named(alloc: Global, base: &str) -> Result<Text, Refusal>
     ensures told { LoadsAs (named (name_from base.now)) result }
+    ensures words { result ≡ Err (Refusal.NotBuilt Unbuilt.Words) → ⊥ }
     ensures read { (path : _) → result ≡ Err (Refusal.Load (LoadRefusal.ReadFault path)) → ⊥ }
     ensures kind { IfErr result IsBeforeDial }
 {

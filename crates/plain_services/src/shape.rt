@@ -10,6 +10,7 @@ ghost use Rattle.plain_services.specs.Shape.{services_in, services_of, services_
 ghost use Rattle.refusals.specs.Origins.{IsBeforeDial};
 ghost use Rattle.refusals.specs.declared.Refusal.{Refusal};
 ghost use Rattle.refusals.specs.declared.LoadRefusal.{LoadRefusal};
+ghost use Rattle.refusals.specs.declared.Unbuilt.{Unbuilt};
 
 use crate::entries::{Entry, in_byte_order, value_under};
 use crate::marks::counted;
@@ -29,6 +30,7 @@ const MOST_SERVICES: usize = 1_000;
 pub(crate) fn services_in(alloc: Global, tree: &Tree) -> Result<List<PlainService>, Refusal>
     ensures told { LoadsAs (services_in tree.now) result }
     ensures order { IfOk result IsInOrder }
+    ensures words { result ≡ Err (Refusal.NotBuilt Unbuilt.Words) → ⊥ }
     ensures read { (path : _) → result ≡ Err (Refusal.Load (LoadRefusal.ReadFault path)) → ⊥ }
     ensures kind { IfErr result IsBeforeDial }
 {
