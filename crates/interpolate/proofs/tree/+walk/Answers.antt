@@ -85,8 +85,8 @@ map_value-returns-in_err-values t c =
     let e = c.in_err-values.field-0.0 in
     rw (p.1, p.2) (map_fails (value_at a.env.now) a.entries.now c.keys.result.now c.values.result.now a.size.now e c.keys.ensures c.values.ensures c.in_err-values.ensures.value)
 
-pub map_value-returns-in_ok-mapping : goal.map_value-returns-in_ok-mapping
-map_value-returns-in_ok-mapping t c =
+pub map_value-returns : goal.map_value-returns
+map_value-returns t c =
     let a = c.args in
     let new = c.entry_values.new.size in
     map_done (value_at a.env.now) a.entries.now c.keys.result.now c.values.result.now c.in_ok-values.values a.size.now new c.keys.ensures c.values.ensures c.in_ok-values.ensures.value
