@@ -2,7 +2,7 @@
 use Rattle.std.proofs.Common.{ℕ, List, Some, None, length, sym, subst, arith}
 use Rattle.std.specs.Prelude.{Option}
 use Rattle.std.proofs.Math.Seq.{take-length}
-use Rattle.config_command.specs.Commands.{GrewByPrefix, PrintsPage}
+use Rattle.config_command.specs.Commands.{GrewByPrefix, OnlyOutsideFails, PrintsPage}
 use Rattle.config_command.specs.ProjectPages.{project_page}
 use Rattle.outside_api.specs.Sinks.{GrewBy}
 use Rattle.plain_services.specs.declared.Project.{Project}
@@ -28,3 +28,19 @@ module _ (project : Project) (old new : Option (List ℕ)) (faults_old faults_ne
   page_prefix (Some (Refusal.Condition slot condition report)) prints = absurd prints
   page_prefix (Some Refusal.Stopped) prints = absurd prints
   page_prefix (Some (Refusal.Late why)) prints = absurd prints
+
+  -- a project that was loaded is printed, unless memory is wanted or the output fails
+  pub page_complete : (cwd : List ℕ) (files_old files_new : ℕ) (refusal : Option Refusal) → PrintsPage project refusal old new faults_old faults_new → OnlyOutsideFails cwd files_old files_new faults_old faults_new refusal
+  page_complete cwd files_old files_new None prints = tt
+  page_complete cwd files_old files_new (Some (Refusal.Outside Part.Out)) prints = prints.0
+  page_complete cwd files_old files_new (Some (Refusal.Outside Part.Plug)) prints = absurd prints
+  page_complete cwd files_old files_new (Some Refusal.Memory) prints = tt
+  page_complete cwd files_old files_new (Some (Refusal.NotBuilt unbuilt)) prints = absurd prints
+  page_complete cwd files_old files_new (Some (Refusal.Load load)) prints = absurd prints
+  page_complete cwd files_old files_new (Some (Refusal.Name name)) prints = absurd prints
+  page_complete cwd files_old files_new (Some (Refusal.Project refusal)) prints = absurd prints
+  page_complete cwd files_old files_new (Some (Refusal.Seen fault)) prints = absurd prints
+  page_complete cwd files_old files_new (Some (Refusal.Request request outcome)) prints = absurd prints
+  page_complete cwd files_old files_new (Some (Refusal.Condition slot condition report)) prints = absurd prints
+  page_complete cwd files_old files_new (Some Refusal.Stopped) prints = absurd prints
+  page_complete cwd files_old files_new (Some (Refusal.Late why)) prints = absurd prints

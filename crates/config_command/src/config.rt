@@ -1,10 +1,10 @@
-ghost use Rattle.std.specs.Prelude.{◌≡◌, ◌⊎◌, ◌↔◌, Some, None, IfSome, IfOk, IfErr};
-ghost use Rattle.config_command.specs.Commands.{ForProject, GrewByPrefix, IsConfigOrNone, IsOfConfig, PrintsPage};
+ghost use Rattle.std.specs.Prelude.{◌≡◌, ◌⊎◌, ◌↔◌, Some, None, IfSome, IfErr};
+ghost use Rattle.config_command.specs.Commands.{ForProject, GrewByPrefix, IfLoads, IsConfigOrNone, IsFailedRead, IsOfConfig, OnlyOutsideFails, PrintsPage};
 ghost use Rattle.config_command.specs.ProjectPages.{project_page};
 ghost use Rattle.outside_api.specs.Counts.{Rose};
 ghost use Rattle.outside_api.specs.Sinks.{GrewBy};
 ghost use Rattle.plain_services.specs.Commands.{command_of};
-ghost use Rattle.plain_services.specs.Loading.{compose_path, loaded};
+ghost use Rattle.plain_services.specs.Loading.{loaded};
 ghost use Rattle.plain_services.specs.Projects.{IsInOrder};
 ghost use Rattle.refusals.specs.Origins.{IsOfLoading};
 ghost use Rattle.refusals.specs.Statuses.{status_of};
@@ -47,12 +47,13 @@ pub fn config_run<F: Files, O: Sink, G: Sink>(
 
     // Where the words aren't built, or the files are told, what loading refuses is what the call is refused with.
     ensures words { command_of words.now ≡ None → IsSaid (Refusal.NotBuilt Unbuilt.Words) result.refusal }
+    ensures words_only { result.refusal ≡ Some (Refusal.NotBuilt Unbuilt.Words) → command_of words.now ≡ None }
     ensures loading { IfSome (F.told files.old) (λ contents. IfErr (loaded words.now cwd.now contents) (λ refusal. IsRefusal refusal result.refusal)) }
 
     // No other refusals than these come, and a fault is told only where something outside failed.
     ensures kind { IsOfConfig result.refusal }
-    ensures path { (path : _) → result.refusal ≡ Some (Refusal.Load (LoadRefusal.ReadFault path)) → path ≡ compose_path cwd.now }
-    ensures read_fault { (path : _) → result.refusal ≡ Some (Refusal.Load (LoadRefusal.ReadFault path)) → Rose (F.faults files.old) (F.faults files.new) }
+    ensures read_fault { (path : _) → result.refusal ≡ Some (Refusal.Load (LoadRefusal.ReadFault path))
+        → IsFailedRead words.now cwd.now (F.faults files.old) (F.faults files.new) path }
     ensures output_fault { result.refusal ≡ Some (Refusal.Outside Part.Out) → Rose (O.faults out.old) (O.faults out.new) }
 
     // At status 0 the page of the project was written whole, and else nothing, or a prefix of it.
@@ -61,8 +62,8 @@ pub fn config_run<F: Files, O: Sink, G: Sink>(
     ensures quiet { IsOfLoading result.refusal → O.written out.new ≡ O.written out.old }
 
     // A project that loading gives is printed, unless memory is wanted or something outside fails.
-    ensures complete { IfSome (F.told files.old) (λ contents. IfOk (loaded words.now cwd.now contents) (λ _.
-        (result.status ≡ 0) ⊎ (result.status ≡ 9) ⊎ Rose (F.faults files.old) (F.faults files.new) ⊎ Rose (O.faults out.old) (O.faults out.new))) }
+    ensures complete { IfLoads words.now cwd.now (F.told files.old)
+        (OnlyOutsideFails cwd.now (F.faults files.old) (F.faults files.new) (O.faults out.old) (O.faults out.new) result.refusal) }
 
     // The status is that of the refusal, whose line is written to `err`.
     ensures status { result.status ≡ status_of result.refusal }
@@ -88,16 +89,16 @@ fn print<F: Files, O: Sink>(
     out: &mut O,
 ) -> Option<Refusal>
     ensures words { command_of words.now ≡ None → result ≡ Some (Refusal.NotBuilt Unbuilt.Words) }
+    ensures words_only { result ≡ Some (Refusal.NotBuilt Unbuilt.Words) → command_of words.now ≡ None }
     ensures loading { IfSome (F.told files.old) (λ contents. IfErr (loaded words.now cwd.now contents) (λ refusal. IsRefusal refusal result)) }
     ensures kind { IsOfConfig result }
-    ensures path { (path : _) → result ≡ Some (Refusal.Load (LoadRefusal.ReadFault path)) → path ≡ compose_path cwd.now }
-    ensures read_fault { (path : _) → result ≡ Some (Refusal.Load (LoadRefusal.ReadFault path)) → Rose (F.faults files.old) (F.faults files.new) }
+    ensures read_fault { (path : _) → result ≡ Some (Refusal.Load (LoadRefusal.ReadFault path)) → IsFailedRead words.now cwd.now (F.faults files.old) (F.faults files.new) path }
     ensures output_fault { result ≡ Some (Refusal.Outside Part.Out) → Rose (O.faults out.old) (O.faults out.new) }
     ensures page { result ≡ None → ForProject words.now cwd.now (F.told files.old) (λ project. GrewBy (O.written out.old) (project_page project) (O.written out.new)) }
     ensures prefix { (O.written out.new ≡ O.written out.old) ⊎ ForProject words.now cwd.now (F.told files.old) (GrewByPrefix (O.written out.old) (O.written out.new)) }
     ensures quiet { IsOfLoading result → O.written out.new ≡ O.written out.old }
-    ensures complete { IfSome (F.told files.old) (λ contents. IfOk (loaded words.now cwd.now contents) (λ _.
-        (result ≡ None) ⊎ (result ≡ Some Refusal.Memory) ⊎ Rose (F.faults files.old) (F.faults files.new) ⊎ Rose (O.faults out.old) (O.faults out.new))) }
+    ensures complete { IfLoads words.now cwd.now (F.told files.old)
+        (OnlyOutsideFails cwd.now (F.faults files.old) (F.faults files.new) (O.faults out.old) (O.faults out.new) result) }
     ensures kept { F.told files.new ≡ F.told files.old }
 {
     match load(alloc, words, cwd, files) {
