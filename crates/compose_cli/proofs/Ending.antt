@@ -1,14 +1,21 @@
 -- How a call ends that loading refuses.
-use Rattle.std.proofs.Common.{◌≡◌, Some, Ok, Err}
-use Rattle.std.specs.Prelude.{Option, Result, IfErr}
+use Rattle.std.proofs.Common.{◌≡◌, Some, None, Ok, Err, subst}
+use Rattle.std.specs.Prelude.{ℕ, List, Option, Result, IfErr, IfSome}
 use Rattle.compose_cli.specs.Ends.{IsRefusedWith, SendsNothing}
-use Rattle.config_command.proofs.Loads.{IsRefusedAs, free_memory, loaded_refusal}
-use Rattle.refusals.specs.Origins.{IsBeforeDial}
-use Rattle.plain_services.specs.Loading.{LoadsAs}
+use Rattle.config_command.specs.Commands.{IfLoads, IsFailedRead, IsReadFault}
+use Rattle.config_command.proofs.Loads.{IsRefusedAs, free_memory, loaded_refusal, loads_weaker, not_loaded}
+use Rattle.compose_cli.specs.Runs.{IfRuns, aim_for}
+use Rattle.outside_api.specs.Files.{Contents}
+use Rattle.refusals.specs.Origins.{IsBeforeDial, IsOfLoading}
+use Rattle.plain_services.specs.Commands.{command_of}
+use Rattle.plain_services.specs.Loading.{LoadsAs, loaded}
 use Rattle.compose_cli.specs.declared.ended.Ended.{Ended}
 use Rattle.plain_services.specs.declared.Project.{Project}
+use Rattle.run_model.specs.Plans.{Aim}
+use Rattle.refusals.specs.declared.LoadRefusal.{LoadRefusal}
 use Rattle.refusals.specs.declared.Part.{Part}
 use Rattle.refusals.specs.declared.Refusal.{Refusal}
+use Rattle.refusals.specs.declared.Unbuilt.{Unbuilt}
 use Rattle.text_output.specs.Refused.{IsRefusal}
 use Rattle.text_output.specs.Saying.{IsSaid}
 use Rattle.text_output.proofs.Said.{said}
@@ -44,3 +51,34 @@ not_plug (Refusal.Outside part) h e = h
 pub no_fault_of_plug : (refusal : Refusal) (found : Option Refusal) → IsBeforeDial refusal → IsSaid refusal found → found ≡ Some (Refusal.Outside Part.Plug) → ⊥
 no_fault_of_plug refusal found before is_said =
     said refusal found is_said (λ (x : Option Refusal). x ≡ Some (Refusal.Outside Part.Plug) → ⊥) (λ e. cc) (not_plug refusal before)
+
+module _ (words : List (List ℕ)) (cwd : List ℕ) (told : Option Contents) (old new : ℕ) where
+  -- a refusal of loading, where a project loads, is a read that failed
+  abbrev OnlyRead : Option Refusal → Type 0
+  OnlyRead found = IsOfLoading found → IsReadFault cwd old new found
+
+  where_it_runs : (aim : Option Aim) (Fact : Type 0) → Fact → IfSome aim (λ _. Fact)
+  where_it_runs None Fact fact = tt
+  where_it_runs (Some aim) Fact fact = fact
+
+  pub only_reads : (refusal : Refusal) (found : Option Refusal) → IfSome told (λ contents. LoadsAs (loaded words cwd contents) (Err refusal))
+      → ((path : List ℕ) → refusal ≡ Refusal.Load (LoadRefusal.ReadFault path) → IsFailedRead words cwd old new path) → IsSaid refusal found → IsOfLoading found
+      → IfRuns words (λ _. IfLoads words cwd told (IsReadFault cwd old new found))
+  only_reads refusal found loads read is_said of_loading =
+      where_it_runs (aim_for (command_of words)) (IfLoads words cwd told (IsReadFault cwd old new found))
+      (loads_weaker words cwd told (OnlyRead (Some refusal)) (IsReadFault cwd old new found)
+      (not_loaded (λ r. OnlyRead (Some r)) words cwd told refusal loads (λ never. absurd never) (λ path e _. let failed = read path e in (failed.1, failed.2)))
+      (λ only. said refusal found is_said OnlyRead (λ never. absurd never) only of_loading))
+
+  -- a read that failed, and was said
+  pub said_read : (refusal : Refusal) (found : Option Refusal) → ((path : List ℕ) → refusal ≡ Refusal.Load (LoadRefusal.ReadFault path) → IsFailedRead words cwd old new path)
+      → IsSaid refusal found → (path : List ℕ) → found ≡ Some (Refusal.Load (LoadRefusal.ReadFault path)) → IsFailedRead words cwd old new path
+  said_read refusal found read is_said path e =
+      let is : Some (Refusal.Load (LoadRefusal.ReadFault path)) ≡ Some refusal = subst (IsSaid refusal) e is_said in
+      let same : refusal ≡ Refusal.Load (LoadRefusal.ReadFault path) = cc in read path same
+
+-- words that were refused as no command's, and that was said
+pub said_words : (refusal : Refusal) (found : Option Refusal) (Fact : Type 0) → (refusal ≡ Refusal.NotBuilt Unbuilt.Words → Fact) → IsSaid refusal found → found ≡ Some (Refusal.NotBuilt Unbuilt.Words) → Fact
+said_words refusal found Fact words is_said e =
+    let is : Some (Refusal.NotBuilt Unbuilt.Words) ≡ Some refusal = subst (IsSaid refusal) e is_said in
+    let same : refusal ≡ Refusal.NotBuilt Unbuilt.Words = cc in words same

@@ -1,5 +1,5 @@
 -- What a call leaves, by what its run left.
-use Rattle.std.proofs.Common.{◌≡◌, ◌⊎◌, ℕ, zero, suc, ◌<◌, ◌≤◌, Bool, true, false, List, [], ◌∷◌, ◌++◌, Option, Some, None, length, take, refl, sym, ap, ◌∙◌, subst, inl, inr, arith}
+use Rattle.std.proofs.Common.{◌≡◌, ◌⊎◌, ℕ, zero, suc, ◌<◌, ◌≤◌, Bool, true, false, List, [], ◌∷◌, ◌++◌, Option, Some, None, length, take, refl, sym, ap, ◌∙◌, subst, inl, inr, arith, append-nil}
 use Rattle.std.specs.Prelude.{IfSome, IsSome, IsSomeAnd, Ok, if◌then◌else◌, option_map, slice_get}
 use Rattle.std.specs.Option.{option_map_or}
 use Rattle.engine_types.specs.declared.Engine.{Engine}
@@ -105,6 +105,27 @@ module _ (old new : ℕ) where
       at : (whole : Bool) → Wrote whole [] written_old written_new old new → (n : ℕ) × (n ≤ length report) × GrewBy written_old (take n report) written_new
       at true w = (0, omega arith, w)
       at false w = (0, omega arith, subst (λ (xs : List ℕ). GrewBy written_old xs written_new) (take_none w.1.0 [] refl) w.1.2)
+
+  none_more : (written_old written_new : Option (List ℕ)) (text : List ℕ) → text ≡ [] → GrewBy written_old text written_new → written_new ≡ written_old
+  none_more None written_new text e grew = grew
+  none_more (Some before) written_new text e grew = grew ∙ ap (λ (l : List ℕ). Some l) (ap (λ (l : List ℕ). before ++ l) e ∙ append-nil before)
+
+  says_none : (written_old written_new : Option (List ℕ)) (text : List ℕ) → text ≡ [] → Says text written_old written_new old new → written_new ≡ written_old
+  says_none written_old written_new text e says = at says.0 says.1
+    where
+      at : (whole : Bool) → Wrote whole text written_old written_new old new → written_new ≡ written_old
+      at true w = none_more written_old written_new text e w
+      at false w = none_more written_old written_new (take w.1.0 text) (take_none w.1.0 text e) w.1.2
+
+  -- of a journal without entries there is no report, and nothing is written
+  pub unwritten : (task : Task) (journal : List Entry) (fault : Option RunFault) (report : List ℕ) (written_old written_new : Option (List ℕ)) → IsReport (run_report task journal) fault report
+      → Says report written_old written_new old new → journal ≡ [] → written_new ≡ written_old
+  unwritten task journal fault report written_old written_new is says e =
+      says_none written_old written_new report (at (subst (λ (j : List Entry). IsReport (run_report task j) fault report) e is)) says
+    where
+      at : IsReport (run_report task []) fault report → report ≡ []
+      at (inl same) = same
+      at (inr none) = none.0
 
   -- the report that was written
   pub reports_by : (expected report : List ℕ) (fault : Option RunFault) (refusal found : Option Refusal) (written_old written_new : Option (List ℕ)) → IsReport expected fault report

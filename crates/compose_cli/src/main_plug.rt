@@ -1,4 +1,4 @@
-ghost use Rattle.std.specs.Prelude.{◌≡◌, None};
+ghost use Rattle.std.specs.Prelude.{◌≡◌, Some, None};
 
 use engine_hand::MemoryHand;
 use memory_engine::MemoryEngine;
@@ -6,19 +6,24 @@ use outside_api::{DialAnswer, Plug, Target};
 use std::alloc::Global;
 use tree_base::Text;
 
-/// The plug of the program: it makes hands of fresh Engines in memory. A socket is not built yet, and its
+/// The plug of the program: it makes hands of fresh Engines in memory, and counts them. A socket is not built yet, and its
 /// dial fails.
 #[derive(Debug, Drop)]
 pub struct MainPlug {
+    dialled: u64,
     failed: u64,
 }
 
 impl MainPlug {
     /// A plug that made no hand yet. No memory.
     pub fn new() -> MainPlug
+        ensures dialled { ⟦<MainPlug as Plug>⟧.dialled result ≡ Some 0 }
         ensures faults { ⟦<MainPlug as Plug>⟧.faults result ≡ 0 }
     {
-        MainPlug { failed: 0 }
+        MainPlug {
+            dialled: 0,
+            failed: 0,
+        }
     }
 }
 
@@ -27,7 +32,7 @@ impl Plug for MainPlug {
 
     ghost engine = { λ _. None };
 
-    ghost dialled = { λ _. None };
+    ghost dialled = { λ plug. Some plug.dialled };
 
     ghost faults = { λ plug. plug.failed };
 
@@ -40,7 +45,10 @@ impl Plug for MainPlug {
     ) -> DialAnswer<MemoryHand> {
         match target {
             Target::InMemory => match MemoryEngine::fresh(alloc) {
-                Ok(engine) => DialAnswer::Dialled(MemoryHand::new(alloc, engine)),
+                Ok(engine) => {
+                    self.dialled += 1;
+                    DialAnswer::Dialled(MemoryHand::new(alloc, engine))
+                }
                 Err(_) => DialAnswer::Memory,
             },
             Target::Socket(_) => {

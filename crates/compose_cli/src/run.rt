@@ -43,6 +43,7 @@ pub(crate) fn run_declared<P: Plug, O: Sink, G: Sink>(
     ensures dial { result.refusal ≡ Some (Refusal.Outside Part.Plug) → SendsNothing result × Rose (P.faults plug.old) (P.faults plug.new) }
     ensures dialled { CountsHands (P.dialled plug.old) (P.dialled plug.new) (length result.hands) }
     ensures unbegun { result.journal ≡ [] → IsUnbegun result.refusal }
+    ensures quiet_unbegun { result.journal ≡ [] → O.written out.new ≡ O.written out.old }
     ensures unsent { result.journal ≡ [] → (hand : P.Hand) → Among result.hands hand → P.Hand.log hand ≡ [] }
     ensures ran { IfBegun result.journal (RunsTask (λ h. P.Hand.log h) (λ h. P.Hand.heard h) (λ h. P.Hand.faults h) (task_of declared.now (aim_of aim)) result
         (O.written out.old) (O.written out.new) (O.faults out.old) (O.faults out.new)) }
@@ -97,6 +98,7 @@ fn run_with<H: Hand, O: Sink, G: Sink>(
     ensures hands { length result.hands ≡ 1 }
     ensures origin { IsOfRun result.refusal }
     ensures unbegun { result.journal ≡ [] → IsUnbegun result.refusal }
+    ensures quiet_unbegun { result.journal ≡ [] → O.written out.new ≡ O.written out.old }
     ensures unsent { result.journal ≡ [] → (hand : H) → Among result.hands hand → H.log hand ≡ [] }
     ensures ran { IfBegun result.journal (RunsTask (λ h. H.log h) (λ h. H.heard h) (λ h. H.faults h) (task_of declared.now (aim_of aim)) result
         (O.written out.old) (O.written out.new) (O.faults out.old) (O.faults out.new)) }

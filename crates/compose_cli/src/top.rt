@@ -1,8 +1,8 @@
-ghost use Rattle.std.specs.Prelude.{◌≡◌, ◌⊎◌, ◌<◌, ◌^◌, [], Some, None, IfSome, IfErr, IfOk, length, true, false, option_map};
+ghost use Rattle.std.specs.Prelude.{◌≡◌, ◌⊎◌, ◌<◌, ◌^◌, [], Some, None, IfSome, IfErr, length, true, false, option_map};
 ghost use Rattle.std.specs.Option.{ForSome};
 ghost use Rattle.compose_cli.specs.Ends.{CountsHands, IsRefusedWith, SendsNothing};
 ghost use Rattle.compose_cli.specs.Runs.{ForTask, HoldsExactly, HoldsNone, IfRuns, IsRefusalOf, IsStatusOf, IsUnbegun, LeadsOn, MovesEngine, Reports, RunsTask, aim_for, task_for};
-ghost use Rattle.config_command.specs.Commands.{ForProject, GrewByPrefix, IsOfConfig};
+ghost use Rattle.config_command.specs.Commands.{ForProject, GrewByPrefix, IfLoads, IsFailedRead, IsOfConfig, IsReadFault, OnlyOutsideFails};
 ghost use Rattle.config_command.specs.ProjectPages.{project_page};
 ghost use Rattle.outside_api.specs.Counts.{Rose};
 ghost use Rattle.outside_api.specs.Sinks.{GrewBy};
@@ -23,7 +23,7 @@ ghost use Rattle.run_model.specs.Logs.{GrowsBy};
 ghost use Rattle.run_model.specs.Observation.{is_up};
 ghost use Rattle.run_model.specs.Runs.{IsRun, run_exchanges, run_fault, run_report, run_status};
 ghost use Rattle.serial_run.specs.Serial.{aim_of};
-ghost use Rattle.text_output.specs.Saying.{SaysRefusal};
+ghost use Rattle.text_output.specs.Saying.{IsSaid, SaysRefusal};
 
 use crate::ended::Ended;
 use crate::run::{refused, run_declared};
@@ -56,9 +56,11 @@ pub fn serial_main<F: Files, P: Plug, O: Sink, G: Sink>(
     requires { ForSome (P.dialled plug.old) (λ n. n < 2 ^ 61) }
 
     // Where the words aren't built, or the files are told, what loading refuses is what the call is refused with.
-    ensures words { command_of words.now ≡ None → IsRefusedWith (Refusal.NotBuilt Unbuilt.Words) result }
+    ensures words { command_of words.now ≡ None → SendsNothing result × IsSaid (Refusal.NotBuilt Unbuilt.Words) result.refusal }
+    ensures words_only { result.refusal ≡ Some (Refusal.NotBuilt Unbuilt.Words) → command_of words.now ≡ None }
     ensures loading { IfSome (F.told files.old) (λ contents. IfErr (loaded words.now cwd.now contents) (λ refusal. IsRefusedWith refusal result)) }
-    ensures read_fault { (path : _) → result.refusal ≡ Some (Refusal.Load (LoadRefusal.ReadFault path)) → Rose (F.faults files.old) (F.faults files.new) }
+    ensures read_fault { (path : _) → result.refusal ≡ Some (Refusal.Load (LoadRefusal.ReadFault path))
+        → IsFailedRead words.now cwd.now (F.faults files.old) (F.faults files.new) path }
 
     // A refused project sends nothing, and neither does `config`, nor a call whose dial failed.
     ensures nothing_sent { IsOfLoading result.refusal → SendsNothing result }
@@ -78,11 +80,17 @@ pub fn serial_main<F: Files, P: Plug, O: Sink, G: Sink>(
 
     // Nothing else refuses `config`: a project that loads is printed, unless memory is wanted or something outside fails.
     ensures page_kind { command_of words.now ≡ Some Command.Config → IsOfConfig result.refusal }
-    ensures page_complete { command_of words.now ≡ Some Command.Config → IfSome (F.told files.old) (λ contents. IfOk (loaded words.now cwd.now contents) (λ _.
-        (result.status ≡ 0) ⊎ (result.status ≡ 9) ⊎ Rose (F.faults files.old) (F.faults files.new) ⊎ Rose (O.faults out.old) (O.faults out.new))) }
+    ensures page_complete { command_of words.now ≡ Some Command.Config → IfLoads words.now cwd.now (F.told files.old)
+        (OnlyOutsideFails cwd.now (F.faults files.old) (F.faults files.new) (O.faults out.old) (O.faults out.new) result.refusal) }
 
-    // The journal is empty only where the call was refused before its run, or wanted memory; then nothing was sent.
+    // Loading refuses no `up` or `down` of a project that loads, unless the read of its file fails.
+    ensures run_complete { IsOfLoading result.refusal → IfRuns words.now (λ aim. IfLoads words.now cwd.now (F.told files.old)
+        (IsReadFault cwd.now (F.faults files.old) (F.faults files.new) result.refusal)) }
+
+    // The journal is empty only where the call was refused before its run, or wanted memory; then nothing was sent, and nothing
+    // was written to `out`.
     ensures unbegun { IfRuns words.now (λ aim. result.journal ≡ [] → IsUnbegun result.refusal) }
+    ensures quiet_unbegun { IfRuns words.now (λ aim. result.journal ≡ [] → O.written out.new ≡ O.written out.old) }
     ensures unsent { result.journal ≡ [] → (hand : P.Hand) → Among result.hands hand → P.Hand.log hand ≡ [] }
 
     // Else the journal is that of a whole run of what the words ask for of the project, and the hand made its exchanges.
@@ -176,6 +184,7 @@ fn run_project<P: Plug, O: Sink, G: Sink>(
     ensures dial { result.refusal ≡ Some (Refusal.Outside Part.Plug) → SendsNothing result × Rose (P.faults plug.old) (P.faults plug.new) }
     ensures dialled { CountsHands (P.dialled plug.old) (P.dialled plug.new) (length result.hands) }
     ensures unbegun { result.journal ≡ [] → IsUnbegun result.refusal }
+    ensures quiet_unbegun { result.journal ≡ [] → O.written out.new ≡ O.written out.old }
     ensures unsent { result.journal ≡ [] → (hand : P.Hand) → Among result.hands hand → P.Hand.log hand ≡ [] }
     ensures ran { IfBegun result.journal (RunsTask (λ h. P.Hand.log h) (λ h. P.Hand.heard h) (λ h. P.Hand.faults h) (task_for (aim_of aim) project.now) result
         (O.written out.old) (O.written out.new) (O.faults out.old) (O.faults out.new)) }

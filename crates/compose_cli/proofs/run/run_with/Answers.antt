@@ -1,6 +1,6 @@
 use Rattle.std.proofs.Common.{◌≡◌, ◌∙◌, List, [], ◌∷◌, ◌++◌, true, false, ap}
 use Rattle.std.specs.Prelude.{is_ok}
-use Rattle.compose_cli.proofs.Ran.{exact_by, gone_by, runs_task, through_by, went_well}
+use Rattle.compose_cli.proofs.Ran.{exact_by, gone_by, runs_task, through_by, unwritten, went_well}
 use Rattle.project_run.specs.Whole.{task_of}
 use Rattle.serial_run.specs.Serial.{aim_of}
 use Rattle.compose_cli.proofs.run.run_with.Goals as goal
@@ -41,3 +41,8 @@ returns-clause-gone g c =
     (λ n. (c.run_project-journal.ensures.empty n).0) c.run_project-journal.ensures.world (λ well. c.run_project-journal.ensures.gone well down)
     (c.from_vec.ensures ∙ grown ∙ ap (λ (hands : List _). hands ++ c.run_project-journal.new.hand ∷ []) c.requires.empty)
     (went_well c.run_project-journal.result.fault (g.O.Sink.faults c.args.out.now) (g.O.Sink.faults c.write_report.new.out) c.write_report.result c.say_if_any-refusal.result c.write_report.ensures.refused c.say_if_any-refusal.ensures.refusal e)
+
+pub returns-clause-quiet_unbegun : goal.returns-clause-quiet_unbegun
+returns-clause-quiet_unbegun g c =
+    unwritten (g.O.Sink.faults c.args.out.now) (g.O.Sink.faults c.write_report.new.out) (task_of c.args.declared.now (aim_of c.args.aim)) c.run_project-journal.result.journal c.run_project-journal.result.fault
+    c.run_project-journal.result.report (g.O.Sink.written c.args.out.now) (g.O.Sink.written c.write_report.new.out) c.run_project-journal.ensures.report c.write_report.ensures.written

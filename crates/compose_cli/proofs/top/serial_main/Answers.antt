@@ -1,7 +1,7 @@
-use Rattle.std.proofs.Common.{[], ◌≡◌, true, false}
+use Rattle.std.proofs.Common.{[], ◌≡◌, Err, true, false, ap}
 use Rattle.plain_services.specs.Loading.{loaded}
-use Rattle.config_command.proofs.Loads.{IfSome-map}
-use Rattle.compose_cli.proofs.Ending.{refused_with, no_fault_of_plug}
+use Rattle.config_command.proofs.Loads.{IfSome-map, failed_read}
+use Rattle.compose_cli.proofs.Ending.{no_fault_of_plug, only_reads, refused_with, said_read, said_words}
 use Rattle.compose_cli.proofs.Ran.{asked, for_task, has_begun, if_begun, said_not_zero, status_by}
 use Rattle.compose_cli.specs.Runs.{HoldsExactly, HoldsNone, IsRefusalOf, IsStatusOf, LeadsOn, Reports, task_for}
 use Rattle.project_run.specs.Whole.{SparesKept}
@@ -18,6 +18,20 @@ pub returns-in-Err-clause-loading : goal.returns-in-Err-clause-loading
 returns-in-Err-clause-loading g c =
     IfSome-map (g.F.Files.told c.args.files.now) _ _ c.in-Err.ensures.told
     (λ contents loads. refused_with (loaded c.args.words.now c.args.cwd.now contents) c.in-Err.refusal c.refused.result c.refused.ensures.nothing loads c.refused.ensures.refusal)
+
+pub returns-in-Err-clause-run_complete : goal.returns-in-Err-clause-run_complete
+returns-in-Err-clause-run_complete g c =
+    only_reads c.args.words.now c.args.cwd.now (g.F.Files.told c.args.files.now) (g.F.Files.faults c.args.files.now) (g.F.Files.faults c.load.new.files) c.in-Err.refusal c.refused.result.refusal c.in-Err.ensures.told
+    (λ path e. failed_read c.args.words.now c.args.cwd.now (g.F.Files.faults c.args.files.now) (g.F.Files.faults c.load.new.files) (Err c.in-Err.refusal) c.in-Err.ensures.words c.in-Err.ensures.path c.in-Err.ensures.read path (ap Err e)) c.refused.ensures.refusal
+
+pub returns-in-Err-clause-read_fault : goal.returns-in-Err-clause-read_fault
+returns-in-Err-clause-read_fault g c =
+    said_read c.args.words.now c.args.cwd.now (g.F.Files.told c.args.files.now) (g.F.Files.faults c.args.files.now) (g.F.Files.faults c.load.new.files) c.in-Err.refusal c.refused.result.refusal
+    (λ path e. failed_read c.args.words.now c.args.cwd.now (g.F.Files.faults c.args.files.now) (g.F.Files.faults c.load.new.files) (Err c.in-Err.refusal) c.in-Err.ensures.words c.in-Err.ensures.path c.in-Err.ensures.read path (ap Err e)) c.refused.ensures.refusal
+
+pub returns-in-Err-clause-words_only : goal.returns-in-Err-clause-words_only
+returns-in-Err-clause-words_only g c =
+    said_words c.in-Err.refusal c.refused.result.refusal _ (λ e. c.in-Err.ensures.words_only (ap Err e)) c.refused.ensures.refusal
 
 pub returns-in-Err-clause-dial : goal.returns-in-Err-clause-dial
 returns-in-Err-clause-dial g c = λ e. absurd (no_fault_of_plug c.in-Err.refusal c.refused.result.refusal c.in-Err.ensures.kind c.refused.ensures.refusal e)
