@@ -6,8 +6,9 @@ use std::alloc::Global;
 use std::test::Fail;
 use tree_base::Text;
 
-/// What a dial answers, in a word.
-fn dial(alloc: Global, plug: &mut MainPlug, target: &Target) -> &'static str {
+/// What the first dial of a plug answers, in a word.
+fn dial(alloc: Global, target: &Target) -> &'static str {
+    let mut plug = MainPlug::new();
     match plug.dial(alloc, target, None, 0) {
         DialAnswer::Dialled(_) => "dialled",
         DialAnswer::Failed => "failed",
@@ -18,9 +19,8 @@ fn dial(alloc: Global, plug: &mut MainPlug, target: &Target) -> &'static str {
 #[test]
 fn the_plug_of_the_program_reaches_memory_and_no_socket(rt: HostRuntime) -> Result<(), Fail> {
     let alloc = rt.alloc();
-    let mut plug = MainPlug::new();
     let socket = Target::Socket(Text::from_str(alloc, "/var/run/docker.sock")?);
-    assert_eq!(rt; dial(alloc, &mut plug, &socket), "failed");
-    assert_eq!(rt; dial(alloc, &mut plug, &Target::InMemory), "dialled");
+    assert_eq!(rt; dial(alloc, &socket), "failed");
+    assert_eq!(rt; dial(alloc, &Target::InMemory), "dialled");
     Ok(())
 }
