@@ -14,7 +14,6 @@ use Rattle.world_laws.proofs.ExactWorlds.{exact_in_each_world}
 use Rattle.world_laws.proofs.GoneWorlds.{gone_in_each_world}
 use Rattle.world_laws.proofs.ToldRuns.{told_runs_have_worlds}
 use Rattle.world_laws.specs.OwnSpecs.{HasOwnSpecs}
-use Rattle.world_laws.specs.Told as laws
 use Rattle.project_run.specs.Whole.{IfBegun, IsFault, task_of}
 use Rattle.project_run.specs.Worlds.{EndsExact, EndsGone, GoesThrough}
 
@@ -23,15 +22,11 @@ none_told : (es : List Exchange) (now : Option Engine) → ToldBy es None now �
 none_told [] now e = e
 none_told (x ∷ es) now t = none_told es now (subst (λ (mid : Option Engine). ToldBy es mid now) t.1 t.2)
 
-same_told : (es : List Exchange) (old new : Option Engine) → ToldBy es old new → laws.ToldBy es old new
-same_told [] old new e = e
-same_told (x ∷ es) old new t = (t.0, t.1, same_told es t.0 new t.2)
-
 module _ (declared : Declared) (aim : Aim) (journal : List Entry) (whole : IsWhole declared) (run : IsRun (task_of declared aim) journal) where
   pub goes_through : (old new : Option Engine) → ToldBy (run_exchanges (task_of declared aim) journal 0) old new → GoesThrough (task_of declared aim) journal old new
   goes_through None new told = none_told (run_exchanges (task_of declared aim) journal 0) new told
   goes_through (Some first) new told =
-      told_runs_have_worlds (task_of declared aim) journal first new refl whole (inr refl) run (same_told (run_exchanges (task_of declared aim) journal 0) (Some first) new told)
+      told_runs_have_worlds (task_of declared aim) journal first new refl whole (inr refl) run told
 
   no_fault : (expected fault : Option RunFault) → IsFault expected fault → fault ≡ None → expected ≡ None
   no_fault expected fault (inl e) n = sym e ∙ n

@@ -27,7 +27,7 @@ use Rattle.project_run.specs.Opening.{IsCarriedOut, IsObservedBadly, Opens}
 use Rattle.project_run.specs.Whole.{IsCaused, Leaves, task_of}
 use Rattle.project_run.specs.declared.opening.Opening.{Opening}
 use Rattle.project_run.proofs.Joining.{exchanges_joined, seen_after}
-use Rattle.project_run.proofs.Told.{told_append, told_same}
+use Rattle.project_run.proofs.Told.{told_append}
 
 -- an end's cause within a longer time is one of it
 end_wider : (h g : Option (List Heard)) (a b c d : ℕ) (end : SeenEnd) → HearsMore h g → a ≤ b → b ≤ c → c ≤ d → HasCauseOfEnd g b c end → HasCauseOfEnd h a d end
@@ -73,7 +73,7 @@ module _ (declared : Declared) (aim : Aim) (journal : List Entry) (before now : 
     run = bad_run;
     begun = (Entry.Seen observation, [], refl);
     log = opens.log;
-    told = told_same observation.exchanges before.engine now.engine opens.told;
+    told = opens.told;
     caused = bad_caused;
     hears = opens.hears;
     hears_each = opens.hears_each;
@@ -155,7 +155,7 @@ module _ (declared : Declared) (aim : Aim) (seen : Seen) (actions : List Action)
         (grows-append look.exchanges (exchanges_since (serial_setup declared seen actions) old new) before.log mid.log now.log opens.log carried.log);
     told = subst (λ (l : List Exchange). ToldBy l before.engine now.engine) (sym exchanges)
         (told_append look.exchanges (exchanges_since (serial_setup declared seen actions) old new) before.engine mid.engine now.engine
-        (told_same look.exchanges before.engine mid.engine opens.told) carried.told);
+        opens.told carried.told);
     caused = caused;
     hears = hears-append before.heard mid.heard now.heard opens.hears carried.hears;
     hears_each = λ h. carried.hears_each (opens.hears_each h);

@@ -2,13 +2,7 @@
 use Rattle.std.proofs.Common.{List, [], ◌∷◌, ◌++◌, Option, subst}
 use Rattle.engine_types.specs.declared.Engine.{Engine}
 use Rattle.engine_types.specs.declared.Exchange.{Exchange}
-use Rattle.observe_project.specs.Exchanges as exchanges
 use Rattle.run_model.specs.EngineRules.{ToldBy}
-
--- an observation's exchanges are told in the same words as a plan's
-pub told_same : (es : List Exchange) (old new : Option Engine) → exchanges.ToldBy es old new → ToldBy es old new
-told_same [] old new e = e
-told_same (x ∷ es) old new t = (t.0, t.1, told_same es t.0 new t.2)
 
 pub told_append : (xs ys : List Exchange) (a b c : Option Engine) → ToldBy xs a b → ToldBy ys b c → ToldBy (xs ++ ys) a c
 told_append [] ys a b c e h = let P : Option Engine → Type 0 = λ k. ToldBy ys k c in subst P e h

@@ -7,7 +7,6 @@ use Rattle.engine_types.specs.declared.Observed.{Observed}
 use Rattle.engine_types.specs.declared.Seen.{Seen}
 use Rattle.engine_types.specs.declared.SeenEnd.{SeenEnd}
 use Rattle.engine_types.specs.declared.SeenFault.{SeenFault}
-use Rattle.observe_project.specs.Exchanges as exchanges
 use Rattle.observe_project.specs.Exchanges.{HasCauseOfEnd}
 use Rattle.outside_api.specs.Hands.{HearsEach, HearsMore}
 use Rattle.project_run.specs.declared.opening.Opening.{Opening}
@@ -35,7 +34,7 @@ pub record Opens (declared : Declared) (aim : Aim) (opening : Opening) (journal 
   pub observed : IsObserved declared aim observation
   pub follows : Follows declared aim observation.end opening
   pub log : GrowsBy observation.exchanges before.log now.log
-  pub told : exchanges.ToldBy observation.exchanges before.engine now.engine
+  pub told : ToldBy observation.exchanges before.engine now.engine
   pub cause : HasCauseOfEnd before.heard before.faults now.faults observation.end
   pub hears : HearsMore before.heard now.heard
   pub hears_each : HearsEach before.log before.heard → HearsEach now.log now.heard
