@@ -1,5 +1,5 @@
 use case_files::CaseFault;
-use outside_api::{DiskFiles, FileAnswer, Files};
+use outside_files::{DiskFiles, FileAnswer, Files};
 use std::alloc::Global;
 use tree_base::{List, Text, Tree};
 use yaml_lines::{YamlRefusal, scan};

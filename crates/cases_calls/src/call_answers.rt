@@ -9,7 +9,7 @@ use compose_cli::Ended;
 use engine_hand::MemoryHand;
 use engine_types::Engine;
 use identity::declare;
-use outside_api::MemoryFiles;
+use outside_files::MemoryFiles;
 use plain_services::{Command, Project, command_of, load};
 use std::alloc::Global;
 use tree_base::{List, Memory};

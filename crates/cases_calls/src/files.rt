@@ -1,5 +1,5 @@
 use case_files::{Answers, CaseFault, Fields, bytes_of};
-use outside_api::{FileAnswer, Files, MemoryFiles};
+use outside_files::{FileAnswer, Files, MemoryFiles};
 use std::alloc::Global;
 use std::str;
 use tree_base::{List, Text, TextMap, Tree};

@@ -18,7 +18,7 @@ fn write_bytes(
     answers: &mut Answers,
 ) -> Result<(), CaseFault> {
     let mut sink = sink_of(alloc, fields)?;
-    let whole = text_output::write_all(&mut sink, bytes);
+    let whole = outside_files::write_all(&mut sink, bytes);
     put_written(whole, &sink, answers)
 }
 

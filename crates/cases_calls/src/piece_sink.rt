@@ -1,4 +1,4 @@
-use outside_api::{MemorySink, Sink, SinkAnswer};
+use outside_files::{MemorySink, Sink, SinkAnswer};
 
 /// A sink in memory that takes at most so many bytes of each piece.
 #[derive(Drop)]

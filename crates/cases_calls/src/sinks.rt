@@ -1,6 +1,6 @@
 use crate::piece_sink::PieceSink;
 use case_files::{Answers, CaseFault, Fields, bytes_of};
-use outside_api::{MemorySink, Sink, SinkAnswer};
+use outside_files::{MemorySink, Sink, SinkAnswer};
 use std::alloc::Global;
 use tree_base::{List, Map, Text};
 

@@ -2,7 +2,7 @@ use crate::files::files_of;
 use crate::piece_sink::PieceSink;
 use crate::sinks::sink_at;
 use case_files::{CaseFault, Fields};
-use outside_api::MemoryFiles;
+use outside_files::MemoryFiles;
 use std::alloc::Global;
 
 /// What a call reads from and writes to.

@@ -1,7 +1,7 @@
 use crate::words::words_of;
 use case_files::{Answers, CaseFault, Fields};
 use cases_ground::Entries;
-use outside_api::MemoryFiles;
+use outside_files::MemoryFiles;
 use plain_services::{Command, PlainService, Project};
 use refusals::{Refusal, refusal_line};
 use std::alloc::Global;

@@ -3,7 +3,7 @@
 #![tactic(auto)]
 
 use compose_cli::{MainPlug, serial_main};
-use outside_api::{DiskFiles, OutSink};
+use outside_files::{DiskFiles, OutSink};
 use std::env;
 use std::process::ExitCode;
 use tree_base::{Env, List, Memory, Text};

@@ -5,7 +5,7 @@ use Rattle.compose_cli.specs.Ends.{IsRefusedWith, SendsNothing}
 use Rattle.config_command.specs.Commands.{IfLoads, IsFailedRead, IsReadFault}
 use Rattle.config_command.proofs.Loads.{IsRefusedAs, free_memory, loaded_refusal, loads_weaker, not_loaded}
 use Rattle.compose_cli.specs.Runs.{IfRuns, aim_for}
-use Rattle.outside_api.specs.Files.{Contents}
+use Rattle.outside_files.specs.Files.{Contents}
 use Rattle.refusals.specs.Origins.{IsBeforeDial, IsOfLoading}
 use Rattle.plain_services.specs.Commands.{command_of}
 use Rattle.plain_services.specs.Loading.{LoadsAs, loaded}

@@ -15,10 +15,10 @@ use Rattle.config_command.proofs.Loads.{for_project}
 use Rattle.plain_services.specs.Commands.{command_of}
 use Rattle.plain_services.specs.Loading.{IsSpelled, LoadsAs, loaded}
 use Rattle.plain_services.specs.declared.Project.{Project}
-use Rattle.outside_api.specs.Counts.{Rose}
-use Rattle.outside_api.specs.Files.{Contents}
+use Rattle.outside_files.specs.Counts.{Rose}
+use Rattle.outside_files.specs.Files.{Contents}
 use Rattle.outside_api.specs.Hands.{BeginsWith, HasCause, Heard, HearsMore}
-use Rattle.outside_api.specs.Sinks.{GrewBy}
+use Rattle.outside_files.specs.Sinks.{GrewBy}
 use Rattle.project_run.specs.Whole.{IfBegun, IsCaused, IsFault, IsReport, SparesKept}
 use Rattle.project_run.specs.Worlds.{EndsExact, EndsGone, GoesThrough}
 use Rattle.refusals.specs.Origins.{IsOfRun, run_refusal}
@@ -36,7 +36,7 @@ use Rattle.plain_services.specs.declared.Command.{Command}
 use Rattle.serial_run.specs.Serial.{aim_of}
 use Rattle.serial_run.specs.declared.plan_aim as given
 use Rattle.text_output.specs.Saying.{IsSaid, IsSaidIfAny}
-use Rattle.text_output.specs.Writing.{Says, Wrote}
+use Rattle.outside_files.specs.Writing.{Says, Wrote}
 use Rattle.text_output.proofs.Said.{said, unsaid}
 use Rattle.compose_cli.proofs.Statuses.{not_refused}
 

@@ -8,10 +8,10 @@ use Rattle.engine_types.specs.declared.RunFault.{RunFault}
 use Rattle.compose_cli.specs.declared.ended.Ended.{Ended}
 use Rattle.config_command.specs.Commands.{ForProject}
 use Rattle.identity.specs.Declaring.{declared_of}
-use Rattle.outside_api.specs.Counts.{Rose}
-use Rattle.outside_api.specs.Files.{Contents}
+use Rattle.outside_files.specs.Counts.{Rose}
+use Rattle.outside_files.specs.Files.{Contents}
 use Rattle.outside_api.specs.Hands.{Heard}
-use Rattle.outside_api.specs.Sinks.{GrewBy}
+use Rattle.outside_files.specs.Sinks.{GrewBy}
 use Rattle.plain_services.specs.Commands.{command_of}
 use Rattle.plain_services.specs.declared.Command.{Command}
 use Rattle.plain_services.specs.declared.Project.{Project}
@@ -27,7 +27,7 @@ use Rattle.run_model.specs.Observation.{is_up}
 use Rattle.run_model.specs.Plans.{Aim}
 use Rattle.run_model.specs.Runs.{IsRun, IsWorldOfRun, Task, run_exchanges, run_fault, run_report}
 use Rattle.run_model.specs.Worlds.{Move}
-use Rattle.text_output.specs.Writing.{Says}
+use Rattle.outside_files.specs.Writing.{Says}
 
 -- what a command's run is for: `up` and `down` leave volumes; `config` and other words run nothing
 abbrev pub aim_for : Option Command → Option Aim

@@ -2,7 +2,7 @@ ghost use Rattle.std.specs.Prelude.{◌≡◌, ◌+◌, ◌<◌, ◌^◌, [], So
 ghost use Rattle.std.specs.Option.{ForSome};
 ghost use Rattle.compose_cli.specs.Ends.{CountsHands, SendsNothing};
 ghost use Rattle.compose_cli.specs.Runs.{HoldsExactly, HoldsNone, IsRefusalOf, IsUnbegun, MovesEngine, RunsTask};
-ghost use Rattle.outside_api.specs.Counts.{Rose};
+ghost use Rattle.outside_files.specs.Counts.{Rose};
 ghost use Rattle.project_run.specs.Whole.{IfBegun, task_of};
 ghost use Rattle.project_run.specs.Worlds.{GoesThrough};
 ghost use Rattle.refusals.specs.Origins.{IsOfLoading, IsOfRun};
@@ -14,16 +14,17 @@ ghost use Rattle.run_model.specs.Observation.{is_up};
 ghost use Rattle.run_model.specs.Plans.{IsWhole};
 ghost use Rattle.serial_run.specs.Serial.{NeedsNoSlot, aim_of};
 ghost use Rattle.text_output.specs.Saying.{IsSaid, SaysRefusal};
-ghost use Rattle.text_output.specs.Writing.{Says};
+ghost use Rattle.outside_files.specs.Writing.{Says};
 ghost use Rattle.world_laws.specs.OwnSpecs.{HasOwnSpecs};
 
 use crate::ended::Ended;
 use engine_types::{Declared, RunFault};
-use outside_api::{DialAnswer, Hand, Plug, Sink, Target};
+use outside_api::{DialAnswer, Hand, Plug, Target};
+use outside_files::{Sink, write_all};
 use project_run::{Aim, Ran, run_project};
 use refusals::{Part, Refusal, refusal_of, refusal_status, status_of};
 use std::alloc::Global;
-use text_output::{say, say_if_any, write_all};
+use text_output::{say, say_if_any};
 use tree_base::{List, Text};
 
 /// Dials the hand, and does with it what an aim asks for of what is declared.

@@ -2,8 +2,8 @@
 use Rattle.std.proofs.Common.{◌≡◌, List, ℕ, Some, None, Ok, Err, refl, subst, sym, ap}
 use Rattle.std.specs.Prelude.{Option, Result, IfErr, IfOk, IfSome, IsNone, is_some}
 use Rattle.config_command.specs.Commands.{ForProject, IfLoads, IsFailedRead}
-use Rattle.outside_api.specs.Counts.{Rose}
-use Rattle.outside_api.specs.Files.{Contents}
+use Rattle.outside_files.specs.Counts.{Rose}
+use Rattle.outside_files.specs.Files.{Contents}
 use Rattle.plain_services.specs.Commands.{command_of}
 use Rattle.plain_services.specs.Loading.{IsSpelled, LoadsAs, compose_path, loaded}
 use Rattle.plain_services.specs.declared.Project.{Project}

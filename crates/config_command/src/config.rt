@@ -1,8 +1,8 @@
 ghost use Rattle.std.specs.Prelude.{◌≡◌, ◌⊎◌, ◌↔◌, Some, None, IfSome, IfErr};
 ghost use Rattle.config_command.specs.Commands.{ForProject, GrewByPrefix, IfLoads, IsConfigOrNone, IsFailedRead, IsOfConfig, OnlyOutsideFails, PrintsPage};
 ghost use Rattle.config_command.specs.ProjectPages.{project_page};
-ghost use Rattle.outside_api.specs.Counts.{Rose};
-ghost use Rattle.outside_api.specs.Sinks.{GrewBy};
+ghost use Rattle.outside_files.specs.Counts.{Rose};
+ghost use Rattle.outside_files.specs.Sinks.{GrewBy};
 ghost use Rattle.plain_services.specs.Commands.{command_of};
 ghost use Rattle.plain_services.specs.Loading.{loaded};
 ghost use Rattle.plain_services.specs.Projects.{IsInOrder};
@@ -16,11 +16,11 @@ ghost use Rattle.text_output.specs.Refused.{IsRefusal};
 ghost use Rattle.text_output.specs.Saying.{IsSaid, SaysRefusal};
 
 use crate::project_page::page_of;
-use outside_api::{Files, Sink};
+use outside_files::{Files, Sink, write_all};
 use plain_services::{Project, load};
 use refusals::{Part, Refusal, status_of};
 use std::alloc::Global;
-use text_output::{say_if_any, write_all};
+use text_output::say_if_any;
 use tree_base::{Env, List, Text};
 
 /// What came of a call of `config`: the exit status, and what the call is refused with, None exactly at status 0.

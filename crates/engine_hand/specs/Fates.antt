@@ -9,8 +9,8 @@ use Rattle.memory_engine.specs.declared.catalogue.Catalogue.{Catalogue}
 use Rattle.memory_engine.specs.declared.faults.FaultPlan.{FaultPlan}
 use Rattle.memory_engine.specs.declared.faults.LostAt.{LostAt}
 use Rattle.memory_engine.specs.Serving.{served}
-use Rattle.outside_api.specs.Counts.{one_more}
-use Rattle.outside_api.specs.Failures.{is_told}
+use Rattle.outside_files.specs.Counts.{one_more}
+use Rattle.outside_files.specs.Failures.{is_told}
 use Rattle.engine_hand.specs.declared.fate.Fate.{Fate}
 
 -- the fate of an exchange, of which a loss may be told, and whether it isn't sent: a loss goes before

@@ -3,7 +3,7 @@ use Rattle.std.specs.Prelude.{ℕ, List}
 use Rattle.engine_types.specs.declared.Exchange.{Exchange}
 use Rattle.memory_engine.specs.declared.state.MemoryEngine.{MemoryEngine}
 use Rattle.outside_api.specs.Clock.{Clock}
-use Rattle.outside_api.specs.Counts.{one_more}
+use Rattle.outside_files.specs.Counts.{one_more}
 use Rattle.engine_hand.specs.Fates.{fate_of}
 use Rattle.engine_hand.specs.HandClocks.{counts_of}
 use Rattle.engine_hand.specs.declared.fate.Fate.{Fate}

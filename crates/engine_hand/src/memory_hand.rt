@@ -1,7 +1,7 @@
 ghost use Rattle.std.specs.Prelude.{◌≡◌, ◌+◌, ◌<◌, ◌≤◌, ◌^◌, Some, None, [], min};
 ghost use Rattle.run_model.specs.EngineRules.{DriftsTold, Tells};
 ghost use Rattle.outside_api.specs.Clock.{new_clock, after_now, after_pause, after_asked};
-ghost use Rattle.outside_api.specs.Counts.{one_more};
+ghost use Rattle.outside_files.specs.Counts.{one_more};
 ghost use Rattle.outside_api.specs.Hands.{HasCause, Logs, logged};
 ghost use Rattle.memory_engine.specs.Ticking.{later, ticked};
 ghost use Rattle.engine_hand.specs.Fates.{ComesTo, faults_after, is_asked};

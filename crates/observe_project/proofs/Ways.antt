@@ -10,7 +10,7 @@ use Rattle.engine_types.specs.declared.Request.{Request}
 use Rattle.engine_types.specs.declared.SeenFault.{SeenFault}
 use Rattle.run_model.specs.EngineRules.{Tells, ToldBy}
 use Rattle.run_model.specs.Logs.{GrowsBy, IsLogOf}
-use Rattle.outside_api.specs.Counts.{Rose}
+use Rattle.outside_files.specs.Counts.{Rose}
 use Rattle.outside_api.specs.Hands.{Heard, HasCause, HearsEach, HearsMore, Logs}
 use Rattle.observe_project.specs.Exchanges.{HasCauseOfFault}
 use Rattle.observe_project.specs.Steps.{Makes, Standing}

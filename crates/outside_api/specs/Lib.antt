@@ -1,11 +1,5 @@
 pub mod Clock
-pub mod Counts
-pub mod Failures
-pub mod Files
-pub mod FilesInMemory
 pub mod Hands
 pub mod Pipes
 pub mod Plugs
-pub mod Sinks
-pub mod SinksInMemory
 pub mod Wires

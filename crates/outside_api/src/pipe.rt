@@ -1,8 +1,8 @@
 ghost use Rattle.std.specs.Prelude.{◌≡◌, ℕ, ◌<◌, ◌≤◌, Option, length, take};
-ghost use Rattle.outside_api.specs.Sinks.{IsWriteOf, taken};
+ghost use Rattle.outside_files.specs.Sinks.{IsWriteOf, taken};
 ghost use Rattle.outside_api.specs.Pipes.{Talk, ToldBy, IsGotOf, after_write, after_read};
 
-use crate::sink::SinkAnswer;
+use outside_files::SinkAnswer;
 
 /// What a read of a connection answers.
 #[derive(Debug, Clone, Copy, PartialEq, Eq)]

@@ -2,7 +2,7 @@ ghost use Rattle.std.specs.Prelude.{◌≡◌, ℕ, ◌+◌, ◌<◌, ◌≤◌,
 ghost use Rattle.std.specs.Option.{ForSome};
 ghost use Rattle.engine_types.specs.declared.Engine.{Engine};
 ghost use Rattle.outside_api.specs.Clock.{new_clock};
-ghost use Rattle.outside_api.specs.Counts.{Rose};
+ghost use Rattle.outside_files.specs.Counts.{Rose};
 ghost use Rattle.outside_api.specs.Hands.{BeginsWith, HeardNothing};
 ghost use Rattle.outside_api.specs.Plugs.{CountsDial};
 

@@ -1,6 +1,6 @@
 ghost use Rattle.std.specs.Prelude.{◌≡◌, ℕ, ◌+◌, ◌<◌, ◌≤◌, ◌^◌, ◌↔◌, List, [], ◌∷◌, ◌++◌, length, Option, Some, IfSome, IsSomeAnd, IsTrue};
 ghost use Rattle.outside_api.specs.Clock.{Clock, after_now, after_pause, after_asked};
-ghost use Rattle.outside_api.specs.Counts.{Rose};
+ghost use Rattle.outside_files.specs.Counts.{Rose};
 ghost use Rattle.outside_api.specs.Pipes.{Talk, silence};
 ghost use Rattle.outside_api.specs.Wires.{Dials, GrewByTalk, RoseBy};
 

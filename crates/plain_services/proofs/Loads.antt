@@ -2,7 +2,7 @@
 use Rattle.std.proofs.Common.{◌≡◌, ℕ, false, List, Option, Some, None, ◌≤◌, length, subst, refl, ap, sym, ◌∙◌, rules, tests}
 use Rattle.std.specs.Prelude.{Result, IfSome, is_none, nat_lt}
 use Rattle.tree_base.specs.Entries.{value_at}
-use Rattle.outside_api.specs.Files.{Contents}
+use Rattle.outside_files.specs.Files.{Contents}
 use Rattle.plain_services.specs.Commands.{command_of}
 use Rattle.plain_services.specs.Directories.{base_name}
 use Rattle.plain_services.specs.Loading.{loaded, loaded_for, read, spelled, tree_in, compose_path, file_limit, LoadsAs}

@@ -2,7 +2,7 @@
 use Rattle.std.specs.Prelude.{◌≡◌, ℕ, if◌then◌else◌, List, [], ◌∷◌, Option, Some, None, Result, Ok, Err, nat_lt, length, codes}
 use Rattle.tree_base.specs.Entries.{value_at}
 use Rattle.tree_base.specs.declared.Tree.{Tree}
-use Rattle.outside_api.specs.Files.{Contents}
+use Rattle.outside_files.specs.Files.{Contents}
 use Rattle.plain_services.specs.Commands.{command_of}
 use Rattle.plain_services.specs.Directories.{path_in, base_name}
 use Rattle.plain_services.specs.ProjectNames.{name_from}

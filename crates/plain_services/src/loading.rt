@@ -1,6 +1,6 @@
 ghost use Rattle.std.specs.Prelude.{◌≡◌, Err, None, IfSome, IfOk, IfErr, IsNone};
 ghost use Rattle.refusals.specs.Origins.{IsBeforeDial};
-ghost use Rattle.outside_api.specs.Counts.{Rose};
+ghost use Rattle.outside_files.specs.Counts.{Rose};
 ghost use Rattle.plain_services.specs.Commands.{command_of};
 ghost use Rattle.plain_services.specs.Directories.{base_name};
 ghost use Rattle.plain_services.specs.Loading.{loaded, spelled, project_of, named, tree_in, compose_path, IsSpelled, LoadsAs};
@@ -14,7 +14,7 @@ ghost use Rattle.refusals.specs.declared.Unbuilt.{Unbuilt};
 use crate::project::Project;
 use crate::shape::services_in;
 use crate::{command, directory, project_name};
-use outside_api::{FileAnswer, Files};
+use outside_files::{FileAnswer, Files};
 use refusals::{LoadRefusal, ProjectRefusal, Refusal, Unbuilt};
 use std::alloc::Global;
 use tree_base::{List, Memory, Text, Tree};

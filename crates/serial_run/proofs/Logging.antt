@@ -9,7 +9,7 @@ use Rattle.engine_types.specs.declared.Entry.{Entry}
 use Rattle.engine_types.specs.declared.Exchange.{Exchange}
 use Rattle.engine_types.specs.declared.Outcome.{Outcome}
 use Rattle.engine_types.specs.declared.Request.{Request}
-use Rattle.outside_api.specs.Counts.{Rose}
+use Rattle.outside_files.specs.Counts.{Rose}
 use Rattle.outside_api.specs.Hands.{HasCause, Heard, HearsMore, Logs}
 use Rattle.run_model.specs.EngineRules.{Tells, ToldBy}
 use Rattle.run_model.specs.Journals.{Setup}

@@ -1,6 +1,6 @@
 //! The files of the disk.
 
-use outside_api::{DiskFiles, FileAnswer, Files};
+use outside_files::{DiskFiles, FileAnswer, Files};
 use std::alloc::Global;
 use std::test::Fail;
 use tree_base::{Memory, Text};

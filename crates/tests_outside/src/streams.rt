@@ -1,6 +1,6 @@
 //! Streams that are written to.
 
-use outside_api::{OutSink, Sink, SinkAnswer};
+use outside_files::{OutSink, Sink, SinkAnswer};
 
 #[test]
 fn a_stream_is_written_to(rt: HostRuntime) {

@@ -2,7 +2,7 @@
 use Rattle.std.specs.Prelude.{◌≡◌, ℕ, List, Option, Some, None}
 use Rattle.refusals.specs.Lines.{refusal_line}
 use Rattle.refusals.specs.declared.Refusal.{Refusal}
-use Rattle.text_output.specs.Writing.{Says}
+use Rattle.outside_files.specs.Writing.{Says}
 
 -- the refusal that is said: this one, or a want of memory
 abbrev pub IsSaid : Refusal → Option Refusal → Type 0

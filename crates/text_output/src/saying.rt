@@ -1,10 +1,9 @@
 ghost use Rattle.std.specs.Prelude.{◌≡◌, Some};
 ghost use Rattle.text_output.specs.Saying.{IsSaid, IsSaidIfAny, SaysRefusal};
-ghost use Rattle.text_output.specs.Writing.{Says};
+ghost use Rattle.outside_files.specs.Writing.{Says};
 ghost use Rattle.refusals.specs.Lines.{refusal_line};
 
-use crate::writing::write_all;
-use outside_api::Sink;
+use outside_files::{Sink, write_all};
 use refusals::{Refusal, refusal_line};
 use std::alloc::Global;
 

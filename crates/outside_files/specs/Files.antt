@@ -1,8 +1,8 @@
 -- What a read of a file may answer.
 use Rattle.std.specs.Prelude.{◌≡◌, ℕ, ◌<◌, ◌≤◌, List, length, Some, None, IsSomeAnd}
 use Rattle.tree_base.specs.Entries.{value_at}
-use Rattle.outside_api.specs.declared.files.FileAnswer.{FileAnswer}
-use Rattle.outside_api.specs.declared.files.FileAnswer.TheVariants.{Bytes, Missing, Longer, Failed, Memory}
+use Rattle.outside_files.specs.declared.files.FileAnswer.{FileAnswer}
+use Rattle.outside_files.specs.declared.files.FileAnswer.TheVariants.{Bytes, Missing, Longer, Failed, Memory}
 
 -- the bytes of files under their paths
 abbrev pub Contents : Type 0

@@ -1,7 +1,7 @@
 -- Which calls of an object in memory fail: those whose numbers it was told.
 use Rattle.std.specs.Prelude.{ℕ, Bool, ◌==◌, List}
 use Rattle.std.specs.List.{list_any}
-use Rattle.outside_api.specs.Counts.{one_more}
+use Rattle.outside_files.specs.Counts.{one_more}
 
 -- whether a number is told
 abbrev pub is_told : List ℕ → ℕ → Bool

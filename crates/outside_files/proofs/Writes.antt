@@ -3,7 +3,7 @@ use Rattle.std.proofs.Common.{◌≡◌, ◌+◌, ℕ, List, ◌++◌, take, dro
 use Rattle.std.specs.Prelude.{Option}
 use Rattle.std.proofs.lemmas.List.{append_assoc}
 use Rattle.std.proofs.Math.Seq.{take-add}
-use Rattle.outside_api.specs.Sinks.{GrewBy}
+use Rattle.outside_files.specs.Sinks.{GrewBy}
 
 take_more : (i k : ℕ) (xs : List ℕ) → take i xs ++ take k (drop i xs) ≡ take (i + k) xs
 take_more i k xs = sym (take-add i k xs)

@@ -1,7 +1,7 @@
 -- What a text leaves in a sink.
 use Rattle.std.specs.Prelude.{ℕ, ◌≤◌, Bool, true, false, List, length, take, Option}
-use Rattle.outside_api.specs.Counts.{Rose}
-use Rattle.outside_api.specs.Sinks.{GrewBy}
+use Rattle.outside_files.specs.Counts.{Rose}
+use Rattle.outside_files.specs.Sinks.{GrewBy}
 
 -- a sink grew by the whole text, or by a prefix of it, where its count of faults rose
 abbrev pub Wrote : Bool → List ℕ → Option (List ℕ) → Option (List ℕ) → ℕ → ℕ → Type 0

@@ -1,8 +1,8 @@
 -- What a write may answer.
 use Rattle.std.specs.Prelude.{◌≡◌, ℕ, ◌<◌, ◌≤◌, List, ◌++◌, length, take, Option, Some, None, IfSome, IsSomeAnd}
-use Rattle.outside_api.specs.Counts.{Rose}
-use Rattle.outside_api.specs.declared.sink.SinkAnswer.{SinkAnswer}
-use Rattle.outside_api.specs.declared.sink.SinkAnswer.TheVariants.{Took, Failed}
+use Rattle.outside_files.specs.Counts.{Rose}
+use Rattle.outside_files.specs.declared.sink.SinkAnswer.{SinkAnswer}
+use Rattle.outside_files.specs.declared.sink.SinkAnswer.TheVariants.{Took, Failed}
 
 -- a write took the first so many bytes of the piece, or failed where the count of faults rose; to take none of a
 -- piece that isn't empty is a fault

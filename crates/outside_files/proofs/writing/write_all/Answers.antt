@@ -1,6 +1,6 @@
 use Rattle.std.proofs.Common.{arith}
-use Rattle.text_output.proofs.Writes.{GrewBy-more}
-use Rattle.text_output.proofs.writing.write_all.Goals as goal
+use Rattle.outside_files.proofs.Writes.{GrewBy-more}
+use Rattle.outside_files.proofs.writing.write_all.Goals as goal
 
 pub loop-at-preserved : goal.loop-at-preserved
 loop-at-preserved g c = record {

@@ -1,6 +1,6 @@
 ghost use Rattle.std.specs.Prelude.{◌≡◌, ◌≤◌, Some, [], IfOk, take, vec_len, vec_capacity, if◌then◌else◌};
-ghost use Rattle.outside_api.specs.Counts.{one_more};
-ghost use Rattle.outside_api.specs.Sinks.{IsWriteOf, GrewBy, taken};
+ghost use Rattle.outside_files.specs.Counts.{one_more};
+ghost use Rattle.outside_files.specs.Sinks.{IsWriteOf, GrewBy, taken};
 
 use crate::failing::Failing;
 use crate::sink::{Sink, SinkAnswer};
@@ -18,7 +18,7 @@ pub struct MemorySink {
 }
 
 impl MemorySink {
-    ghost use Rattle.outside_api.specs.SinksInMemory.{failing_writes, room_of, writes};
+    ghost use Rattle.outside_files.specs.SinksInMemory.{failing_writes, room_of, writes};
 
     /// An empty sink with its whole room, of which the writes with these numbers, from 1, fail. A write past
     /// the room takes what fits.
@@ -45,7 +45,7 @@ impl MemorySink {
 }
 
 impl Sink for MemorySink {
-    ghost use Rattle.outside_api.specs.SinksInMemory.{answer_of, bytes_of, failed_writes, failing_writes, is_fault, room_of, writes};
+    ghost use Rattle.outside_files.specs.SinksInMemory.{answer_of, bytes_of, failed_writes, failing_writes, is_fault, room_of, writes};
 
     ghost written = { λ sink. Some sink.bytes.items };
 

@@ -1,6 +1,6 @@
 use Rattle.std.proofs.Common.{◌≤◌, ◌-◌, length, take}
-use Rattle.outside_api.specs.Sinks.{GrewBy}
-use Rattle.text_output.proofs.writing.write_all.Given as goal
+use Rattle.outside_files.specs.Sinks.{GrewBy}
+use Rattle.outside_files.proofs.writing.write_all.Given as goal
 
 abbrev pub invariant-loop-at : goal.invariant-loop-at
 invariant-loop-at g l = record {

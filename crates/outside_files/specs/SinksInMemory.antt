@@ -1,9 +1,9 @@
 -- What a sink in memory shows, and what a write to it answers.
 use Rattle.std.specs.Prelude.{ℕ, ◌-◌, ◌==◌, ◌&&◌, ◌||◌, Bool, List, length, min, nat_lt, if◌then◌else◌}
-use Rattle.outside_api.specs.Failures.{next_fails}
-use Rattle.outside_api.specs.declared.memory_sink.MemorySink.{MemorySink}
-use Rattle.outside_api.specs.declared.sink.SinkAnswer.{SinkAnswer}
-use Rattle.outside_api.specs.declared.sink.SinkAnswer.TheVariants.{Took, Failed}
+use Rattle.outside_files.specs.Failures.{next_fails}
+use Rattle.outside_files.specs.declared.memory_sink.MemorySink.{MemorySink}
+use Rattle.outside_files.specs.declared.sink.SinkAnswer.{SinkAnswer}
+use Rattle.outside_files.specs.declared.sink.SinkAnswer.TheVariants.{Took, Failed}
 
 -- what was written
 abbrev pub bytes_of : MemorySink → List ℕ

@@ -1,5 +1,5 @@
 ghost use Rattle.std.specs.Prelude.{◌≡◌, ℕ, ◌≤◌, List, Option, take};
-ghost use Rattle.outside_api.specs.Sinks.{IsWriteOf, GrewBy, taken};
+ghost use Rattle.outside_files.specs.Sinks.{IsWriteOf, GrewBy, taken};
 
 /// What a write answers.
 #[derive(Debug, Clone, Copy, PartialEq, Eq)]

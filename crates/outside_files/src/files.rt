@@ -1,6 +1,6 @@
 ghost use Rattle.std.specs.Prelude.{◌≡◌, ℕ, ◌≤◌, Option, IfSome};
-ghost use Rattle.outside_api.specs.Counts.{Rose};
-ghost use Rattle.outside_api.specs.Files.{Contents, IsReadOf};
+ghost use Rattle.outside_files.specs.Counts.{Rose};
+ghost use Rattle.outside_files.specs.Files.{Contents, IsReadOf};
 
 use std::alloc::Global;
 use tree_base::{List, Text};

@@ -1,6 +1,6 @@
 ghost use Rattle.std.specs.Prelude.{◌≡◌, ◌≤◌, if◌then◌else◌};
-ghost use Rattle.outside_api.specs.Counts.{Rose, one_more};
-ghost use Rattle.outside_api.specs.Failures.{next_fails};
+ghost use Rattle.outside_files.specs.Counts.{Rose, one_more};
+ghost use Rattle.outside_files.specs.Failures.{next_fails};
 
 use tree_base::List;
 

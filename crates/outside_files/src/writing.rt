@@ -1,7 +1,7 @@
 ghost use Rattle.std.specs.Prelude.{◌≤◌};
-ghost use Rattle.text_output.specs.Writing.{Wrote};
+ghost use Rattle.outside_files.specs.Writing.{Wrote};
 
-use outside_api::{Sink, SinkAnswer};
+use crate::sink::{Sink, SinkAnswer};
 
 /// Writes all bytes, piece by piece; false where the sink failed, after a prefix of them. No memory.
 pub fn write_all<S: Sink>(sink: &mut S, bytes: &[u8]) -> bool

@@ -1,9 +1,9 @@
 -- What files in memory show, and which of their reads fail.
 use Rattle.std.specs.Prelude.{ℕ, Bool, true, false, List}
-use Rattle.outside_api.specs.Failures.{next_fails}
-use Rattle.outside_api.specs.Files.{Contents}
-use Rattle.outside_api.specs.declared.files.FileAnswer.{FileAnswer}
-use Rattle.outside_api.specs.declared.memory_files.MemoryFiles.{MemoryFiles}
+use Rattle.outside_files.specs.Failures.{next_fails}
+use Rattle.outside_files.specs.Files.{Contents}
+use Rattle.outside_files.specs.declared.files.FileAnswer.{FileAnswer}
+use Rattle.outside_files.specs.declared.memory_files.MemoryFiles.{MemoryFiles}
 
 -- the bytes of the files under their paths
 abbrev pub contents : MemoryFiles → Contents

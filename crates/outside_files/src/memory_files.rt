@@ -1,6 +1,6 @@
 ghost use Rattle.std.specs.Prelude.{◌≡◌, ◌≤◌, Some, if◌then◌else◌};
-ghost use Rattle.outside_api.specs.Counts.{Rose, one_more};
-ghost use Rattle.outside_api.specs.Files.{IsReadOf};
+ghost use Rattle.outside_files.specs.Counts.{Rose, one_more};
+ghost use Rattle.outside_files.specs.Files.{IsReadOf};
 
 use crate::failing::Failing;
 use crate::files::{FileAnswer, Files};
@@ -15,7 +15,7 @@ pub struct MemoryFiles {
 }
 
 impl MemoryFiles {
-    ghost use Rattle.outside_api.specs.FilesInMemory.{failing_reads, reads};
+    ghost use Rattle.outside_files.specs.FilesInMemory.{failing_reads, reads};
 
     /// These files, of which the reads with these numbers, from 1, fail. No memory.
     pub fn new(files: TextMap<List<u8>>, fails: List<u64>) -> MemoryFiles
@@ -32,7 +32,7 @@ impl MemoryFiles {
 }
 
 impl Files for MemoryFiles {
-    ghost use Rattle.outside_api.specs.FilesInMemory.{contents, failing_reads, reads, failed_reads, next_read_fails, is_failed};
+    ghost use Rattle.outside_files.specs.FilesInMemory.{contents, failing_reads, reads, failed_reads, next_read_fails, is_failed};
 
     ghost told = { λ memory. Some memory.files };
 

@@ -1,6 +1,6 @@
 ghost use Rattle.std.specs.Prelude.{◌≡◌, ◌≤◌, None};
-ghost use Rattle.outside_api.specs.Counts.{Rose};
-ghost use Rattle.outside_api.specs.declared.files.FileAnswer.TheVariants.{Failed};
+ghost use Rattle.outside_files.specs.Counts.{Rose};
+ghost use Rattle.outside_files.specs.declared.files.FileAnswer.TheVariants.{Failed};
 
 use crate::files::{FileAnswer, Files};
 use std::alloc::Global;

@@ -1,0 +1,7 @@
+pub mod Counts
+pub mod Failures
+pub mod Files
+pub mod FilesInMemory
+pub mod Sinks
+pub mod SinksInMemory
+pub mod Writing
