@@ -41,7 +41,7 @@ pub fn say(alloc: Global, fields: &Fields, answers: &mut Answers) -> Result<(), 
 
 /// Writes the line of a refusal, and names the one that was said.
 fn said(alloc: Global, refusal: Refusal, sink: &mut PieceSink) -> &'static str {
-    let said = text_output::say(alloc, refusal, sink);
+    let said = refusals::say(alloc, refusal, sink);
     let name = name_of(&said);
     drop(said);
     name
@@ -59,7 +59,7 @@ fn said_if_any(
     refusal: Option<Refusal>,
     sink: &mut PieceSink,
 ) -> Option<&'static str> {
-    let said = text_output::say_if_any(alloc, refusal, sink);
+    let said = refusals::say_if_any(alloc, refusal, sink);
     let name = said.as_ref().map(name_of);
     drop(said);
     name

@@ -2,8 +2,7 @@ use crate::words::words_of;
 use case_files::{Answers, CaseFault, Fields};
 use cases_ground::Entries;
 use outside_files::MemoryFiles;
-use plain_services::{Command, PlainService, Project};
-use refusals::{Refusal, refusal_line};
+use plain_services::{Command, PlainRefusal, PlainService, Project, refusal_words};
 use std::alloc::Global;
 use tree_base::{List, Memory, Text, TextMap, Tree};
 
@@ -66,7 +65,7 @@ fn load_words(
 /// What was loaded is dropped by a call: a drop in place is proved variant by variant.
 fn put_loaded(
     alloc: Global,
-    loaded: Result<Project, Refusal>,
+    loaded: Result<Project, PlainRefusal>,
     answers: &mut Answers,
 ) -> Result<(), CaseFault> {
     let answered = match &loaded {
@@ -95,17 +94,13 @@ fn only_file(alloc: Global, path: Text, bytes: List<u8>) -> Result<TextMap<List<
     }
 }
 
-fn refuse_load(alloc: Global, refusal: &Refusal, answers: &mut Answers) -> Result<(), CaseFault> {
-    let line = refusal_line(alloc, refusal)?;
-    match words_in(line.as_str()) {
-        Some(words) => answers.refuse(words),
-        None => Err(CaseFault::no_case(alloc, "the line isn't the program's")),
-    }
-}
-
-/// What a refusal's line says behind the program's name, without the line's end.
-fn words_in(line: &str) -> Option<&str> {
-    line.strip_prefix("compose: ")?.strip_suffix('\n')
+fn refuse_load(
+    alloc: Global,
+    refusal: &PlainRefusal,
+    answers: &mut Answers,
+) -> Result<(), CaseFault> {
+    let words = refusal_words(alloc, refusal)?;
+    answers.refuse(words.as_str())
 }
 
 fn put_project(alloc: Global, project: &Project, answers: &mut Answers) -> Result<(), CaseFault> {

@@ -1,38 +1,40 @@
 -- How a call ends that loading refuses.
-use Rattle.std.proofs.Common.{◌≡◌, Some, None, Ok, Err, subst}
+use Rattle.std.proofs.Common.{◌≡◌, Some, None, Ok, Err, subst, sym}
 use Rattle.std.specs.Prelude.{ℕ, List, Option, Result, IfErr, IfSome}
 use Rattle.compose_cli.specs.Ends.{IsRefusedWith, SendsNothing}
 use Rattle.config_command.specs.Commands.{IfLoads, IsFailedRead, IsReadFault}
-use Rattle.config_command.proofs.Loads.{IsRefusedAs, free_memory, loaded_refusal, loads_weaker, not_loaded}
+use Rattle.config_command.proofs.Loads.{IsRefusedAs, free_memory, joined_as, joined_refusal, loads_weaker, not_loaded}
 use Rattle.compose_cli.specs.Runs.{IfRuns, aim_for}
 use Rattle.outside_files.specs.Files.{Contents}
-use Rattle.refusals.specs.Origins.{IsBeforeDial, IsOfLoading}
+use Rattle.refusals.specs.Origins.{IsBeforeDial, IsOfLoading, loading_refusal}
 use Rattle.plain_services.specs.Commands.{command_of}
 use Rattle.plain_services.specs.Loading.{LoadsAs, loaded}
 use Rattle.compose_cli.specs.declared.ended.Ended.{Ended}
+use Rattle.plain_services.specs.declared.PlainRefusal.{PlainRefusal}
 use Rattle.plain_services.specs.declared.Project.{Project}
 use Rattle.run_model.specs.Plans.{Aim}
-use Rattle.refusals.specs.declared.LoadRefusal.{LoadRefusal}
+use Rattle.plain_services.specs.declared.LoadRefusal.{LoadRefusal}
 use Rattle.refusals.specs.declared.Part.{Part}
 use Rattle.refusals.specs.declared.Refusal.{Refusal}
-use Rattle.refusals.specs.declared.Unbuilt.{Unbuilt}
-use Rattle.text_output.specs.Refused.{IsRefusal}
-use Rattle.text_output.specs.Saying.{IsSaid}
-use Rattle.text_output.proofs.Said.{said}
+use Rattle.plain_services.specs.declared.Unbuilt.{Unbuilt}
+use Rattle.refusals.specs.Refused.{IsRefusal}
+use Rattle.refusals.specs.Saying.{IsSaid}
+use Rattle.refusals.proofs.Said.{said}
 
 -- what loading refuses is what the call is refused with
-pub refused_as : (expected : Result Project Refusal) (refusal : Refusal) (found : Option Refusal) → LoadsAs expected (Err refusal) → IsSaid refusal found → IsRefusedAs expected found
-refused_as expected refusal found loads is_said = said refusal found is_said (IsRefusedAs expected) (free_memory expected) (loaded_refusal expected refusal loads)
+pub refused_as : (expected : Result Project PlainRefusal) (refusal : PlainRefusal) (joined : Refusal) (found : Option Refusal) → joined ≡ loading_refusal refusal → LoadsAs expected (Err refusal) → IsSaid joined found
+    → IsRefusedAs expected found
+refused_as expected refusal joined found is loads is_said = said joined found is_said (IsRefusedAs expected) (free_memory expected) (joined_refusal expected refusal joined is loads)
 
-beside : {A : Type 0} (expected : Result Project Refusal) (P : Refusal → Type 0) → A → IfErr expected P → IfErr expected (λ refusal. A × P refusal)
+beside : {A : Type 0} (expected : Result Project PlainRefusal) (P : PlainRefusal → Type 0) → A → IfErr expected P → IfErr expected (λ refusal. A × P refusal)
 beside (Ok project) P a h = tt
 beside (Err refusal) P a h = (a, h)
 
 -- the same, where nothing was sent
-pub refused_with : {H : Type 0} (expected : Result Project Refusal) (refusal : Refusal) (ended : Ended H) → SendsNothing ended → LoadsAs expected (Err refusal)
-    → IsSaid refusal ended.refusal → IfErr expected (λ r. IsRefusedWith r ended)
-refused_with expected refusal ended nothing loads is_said =
-    beside expected (λ r. IsRefusal r ended.refusal) nothing (refused_as expected refusal ended.refusal loads is_said)
+pub refused_with : {H : Type 0} (expected : Result Project PlainRefusal) (refusal : PlainRefusal) (joined : Refusal) (ended : Ended H) → joined ≡ loading_refusal refusal → SendsNothing ended
+    → LoadsAs expected (Err refusal) → IsSaid joined ended.refusal → IfErr expected (λ r. IsRefusedWith (loading_refusal r) ended)
+refused_with expected refusal joined ended is nothing loads is_said =
+    beside expected (λ r. IsRefusal (loading_refusal r) ended.refusal) nothing (refused_as expected refusal joined ended.refusal is loads is_said)
 
 not_plug : (refusal : Refusal) → IsBeforeDial refusal → Some refusal ≡ Some (Refusal.Outside Part.Plug) → ⊥
 not_plug (Refusal.NotBuilt unbuilt) h e = cc
@@ -61,24 +63,26 @@ module _ (words : List (List ℕ)) (cwd : List ℕ) (told : Option Contents) (ol
   where_it_runs None Fact fact = tt
   where_it_runs (Some aim) Fact fact = fact
 
-  pub only_reads : (refusal : Refusal) (found : Option Refusal) → IfSome told (λ contents. LoadsAs (loaded words cwd contents) (Err refusal))
-      → ((path : List ℕ) → refusal ≡ Refusal.Load (LoadRefusal.ReadFault path) → IsFailedRead words cwd old new path) → IsSaid refusal found → IsOfLoading found
+  pub only_reads : (refusal : PlainRefusal) (joined : Refusal) (found : Option Refusal) → joined ≡ loading_refusal refusal → IfSome told (λ contents. LoadsAs (loaded words cwd contents) (Err refusal))
+      → ((path : List ℕ) → refusal ≡ PlainRefusal.Load (LoadRefusal.ReadFault path) → IsFailedRead words cwd old new path) → IsSaid joined found → IsOfLoading found
       → IfRuns words (λ _. IfLoads words cwd told (IsReadFault cwd old new found))
-  only_reads refusal found loads read is_said of_loading =
+  only_reads refusal joined found is loads read is_said of_loading =
       where_it_runs (aim_for (command_of words)) (IfLoads words cwd told (IsReadFault cwd old new found))
-      (loads_weaker words cwd told (OnlyRead (Some refusal)) (IsReadFault cwd old new found)
-      (not_loaded (λ r. OnlyRead (Some r)) words cwd told refusal loads (λ never. absurd never) (λ path e _. let failed = read path e in (failed.1, failed.2)))
-      (λ only. said refusal found is_said OnlyRead (λ never. absurd never) only of_loading))
+      (loads_weaker words cwd told (OnlyRead (Some joined)) (IsReadFault cwd old new found)
+      (not_loaded (λ r. OnlyRead (Some r)) words cwd told refusal joined is loads (λ never. absurd never) (λ path e _. let failed = read path e in (failed.1, failed.2)))
+      (λ only. said joined found is_said OnlyRead (λ never. absurd never) only of_loading))
 
   -- a read that failed, and was said
-  pub said_read : (refusal : Refusal) (found : Option Refusal) → ((path : List ℕ) → refusal ≡ Refusal.Load (LoadRefusal.ReadFault path) → IsFailedRead words cwd old new path)
-      → IsSaid refusal found → (path : List ℕ) → found ≡ Some (Refusal.Load (LoadRefusal.ReadFault path)) → IsFailedRead words cwd old new path
-  said_read refusal found read is_said path e =
-      let is : Some (Refusal.Load (LoadRefusal.ReadFault path)) ≡ Some refusal = subst (IsSaid refusal) e is_said in
-      let same : refusal ≡ Refusal.Load (LoadRefusal.ReadFault path) = cc in read path same
+  pub said_read : (refusal : PlainRefusal) (joined : Refusal) (found : Option Refusal) → joined ≡ loading_refusal refusal
+      → ((path : List ℕ) → refusal ≡ PlainRefusal.Load (LoadRefusal.ReadFault path) → IsFailedRead words cwd old new path)
+      → IsSaid joined found → (path : List ℕ) → found ≡ Some (Refusal.Load (LoadRefusal.ReadFault path)) → IsFailedRead words cwd old new path
+  said_read refusal joined found is read is_said path e =
+      let same : Some (Refusal.Load (LoadRefusal.ReadFault path)) ≡ Some joined = subst (IsSaid joined) e is_said in
+      read path (joined_as refusal (PlainRefusal.Load (LoadRefusal.ReadFault path)) joined is (sym same))
 
 -- words that were refused as no command's, and that was said
-pub said_words : (refusal : Refusal) (found : Option Refusal) (Fact : Type 0) → (refusal ≡ Refusal.NotBuilt Unbuilt.Words → Fact) → IsSaid refusal found → found ≡ Some (Refusal.NotBuilt Unbuilt.Words) → Fact
-said_words refusal found Fact words is_said e =
-    let is : Some (Refusal.NotBuilt Unbuilt.Words) ≡ Some refusal = subst (IsSaid refusal) e is_said in
-    let same : refusal ≡ Refusal.NotBuilt Unbuilt.Words = cc in words same
+pub said_words : (refusal : PlainRefusal) (joined : Refusal) (found : Option Refusal) (Fact : Type 0) → joined ≡ loading_refusal refusal → (refusal ≡ PlainRefusal.NotBuilt Unbuilt.Words → Fact) → IsSaid joined found
+    → found ≡ Some (Refusal.NotBuilt Unbuilt.Words) → Fact
+said_words refusal joined found Fact is words is_said e =
+    let same : Some (Refusal.NotBuilt Unbuilt.Words) ≡ Some joined = subst (IsSaid joined) e is_said in
+    words (joined_as refusal (PlainRefusal.NotBuilt Unbuilt.Words) joined is (sym same))

@@ -35,9 +35,9 @@ use Rattle.run_model.specs.Worlds.{Move}
 use Rattle.plain_services.specs.declared.Command.{Command}
 use Rattle.serial_run.specs.Serial.{aim_of}
 use Rattle.serial_run.specs.declared.plan_aim as given
-use Rattle.text_output.specs.Saying.{IsSaid, IsSaidIfAny}
+use Rattle.refusals.specs.Saying.{IsSaid, IsSaidIfAny}
 use Rattle.outside_files.specs.Writing.{Says, Wrote}
-use Rattle.text_output.proofs.Said.{said, unsaid}
+use Rattle.refusals.proofs.Said.{said, unsaid}
 use Rattle.compose_cli.proofs.Statuses.{not_refused}
 
 -- a run's refusal is no refusal of loading

@@ -4,11 +4,12 @@ use Rattle.std.specs.Prelude.{Option}
 use Rattle.engine_types.specs.declared.Outcome.{Outcome}
 use Rattle.engine_types.specs.declared.SeenFault.{SeenFault}
 use Rattle.engine_types.specs.declared.WireEnd.{WireEnd}
-use Rattle.refusals.specs.Statuses.{project_status, refusal_status, status_of, yaml_status}
-use Rattle.refusals.specs.declared.LoadRefusal.{LoadRefusal}
-use Rattle.refusals.specs.declared.ProjectRefusal.{ProjectRefusal}
+use Rattle.plain_services.specs.Statuses.{project_status, yaml_status}
+use Rattle.refusals.specs.Statuses.{refusal_status, status_of}
+use Rattle.plain_services.specs.declared.LoadRefusal.{LoadRefusal}
+use Rattle.plain_services.specs.declared.ProjectRefusal.{ProjectRefusal}
 use Rattle.refusals.specs.declared.Refusal.{Refusal}
-use Rattle.refusals.specs.declared.Unbuilt.{Unbuilt}
+use Rattle.plain_services.specs.declared.Unbuilt.{Unbuilt}
 use Rattle.run_model.specs.Ending.{lost_status, outcome_status, seen_status}
 use Rattle.yaml_lines.specs.declared.refusal.YamlRefusal.{YamlRefusal}
 

@@ -2,7 +2,7 @@
 use Rattle.std.specs.Prelude.{◌≡◌, ℕ, ◌+◌, [], Option, Some, None}
 use Rattle.compose_cli.specs.declared.ended.Ended.{Ended}
 use Rattle.refusals.specs.declared.Refusal.{Refusal}
-use Rattle.text_output.specs.Refused.{IsRefusal}
+use Rattle.refusals.specs.Refused.{IsRefusal}
 
 -- no hand was made, and the journal is empty
 abbrev pub SendsNothing : {H : Type 0} → Ended H → Type 0

@@ -13,7 +13,7 @@ ghost use Rattle.run_model.specs.EngineRules.{Among};
 ghost use Rattle.run_model.specs.Observation.{is_up};
 ghost use Rattle.run_model.specs.Plans.{IsWhole};
 ghost use Rattle.serial_run.specs.Serial.{NeedsNoSlot, aim_of};
-ghost use Rattle.text_output.specs.Saying.{IsSaid, SaysRefusal};
+ghost use Rattle.refusals.specs.Saying.{IsSaid, SaysRefusal};
 ghost use Rattle.outside_files.specs.Writing.{Says};
 ghost use Rattle.world_laws.specs.OwnSpecs.{HasOwnSpecs};
 
@@ -22,9 +22,8 @@ use engine_types::{Declared, RunFault};
 use outside_api::{DialAnswer, Hand, Plug, Target};
 use outside_files::{Sink, write_all};
 use project_run::{Aim, Ran, run_project};
-use refusals::{Part, Refusal, refusal_of, refusal_status, status_of};
+use refusals::{Part, Refusal, refusal_of, refusal_status, say, say_if_any, status_of};
 use std::alloc::Global;
-use text_output::{say, say_if_any};
 use tree_base::{List, Text};
 
 /// Dials the hand, and does with it what an aim asks for of what is declared.

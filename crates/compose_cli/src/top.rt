@@ -12,18 +12,18 @@ ghost use Rattle.plain_services.specs.Projects.{IsInOrder};
 ghost use Rattle.plain_services.specs.declared.Command.{Command};
 ghost use Rattle.project_run.specs.Whole.{IfBegun, IsCaused, SparesKept};
 ghost use Rattle.project_run.specs.Worlds.{EndsExact, EndsGone};
-ghost use Rattle.refusals.specs.Origins.{IsOfLoading};
+ghost use Rattle.refusals.specs.Origins.{IsOfLoading, loading_refusal};
 ghost use Rattle.refusals.specs.Statuses.{status_of};
-ghost use Rattle.refusals.specs.declared.LoadRefusal.{LoadRefusal};
+ghost use Rattle.plain_services.specs.declared.LoadRefusal.{LoadRefusal};
 ghost use Rattle.refusals.specs.declared.Part.{Part};
 ghost use Rattle.refusals.specs.declared.Refusal.{Refusal};
-ghost use Rattle.refusals.specs.declared.Unbuilt.{Unbuilt};
+ghost use Rattle.plain_services.specs.declared.Unbuilt.{Unbuilt};
 ghost use Rattle.run_model.specs.EngineRules.{Among};
 ghost use Rattle.run_model.specs.Logs.{GrowsBy};
 ghost use Rattle.run_model.specs.Observation.{is_up};
 ghost use Rattle.run_model.specs.Runs.{IsRun, run_exchanges, run_fault, run_report, run_status};
 ghost use Rattle.serial_run.specs.Serial.{aim_of};
-ghost use Rattle.text_output.specs.Saying.{IsSaid, SaysRefusal};
+ghost use Rattle.refusals.specs.Saying.{IsSaid, SaysRefusal};
 
 use crate::ended::Ended;
 use crate::run::{refused, run_declared};
@@ -59,7 +59,7 @@ pub fn serial_main<F: Files, P: Plug, O: Sink, G: Sink>(
     // Where the words aren't built, or the files are told, what loading refuses is what the call is refused with.
     ensures words { command_of words.now ≡ None → SendsNothing result × IsSaid (Refusal.NotBuilt Unbuilt.Words) result.refusal }
     ensures words_only { result.refusal ≡ Some (Refusal.NotBuilt Unbuilt.Words) → command_of words.now ≡ None }
-    ensures loading { IfSome (F.told files.old) (λ contents. IfErr (loaded words.now cwd.now contents) (λ refusal. IsRefusedWith refusal result)) }
+    ensures loading { IfSome (F.told files.old) (λ contents. IfErr (loaded words.now cwd.now contents) (λ refusal. IsRefusedWith (loading_refusal refusal) result)) }
     ensures read_fault { (path : _) → result.refusal ≡ Some (Refusal.Load (LoadRefusal.ReadFault path))
         → IsFailedRead words.now cwd.now (F.faults files.old) (F.faults files.new) path }
 
@@ -130,7 +130,7 @@ pub fn serial_main<F: Files, P: Plug, O: Sink, G: Sink>(
     };
     match load(alloc, words, cwd, files) {
         Ok(project) => run_project(alloc, &project, aim, plug, out, err),
-        Err(refusal) => refused(alloc, refusal, err),
+        Err(refusal) => refused(alloc, Refusal::from(refusal), err),
     }
 }
 

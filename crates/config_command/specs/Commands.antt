@@ -8,7 +8,7 @@ use Rattle.plain_services.specs.Commands.{command_of}
 use Rattle.plain_services.specs.Loading.{IsSpelled, compose_path, loaded}
 use Rattle.plain_services.specs.declared.Command.{Command}
 use Rattle.plain_services.specs.declared.Project.{Project}
-use Rattle.refusals.specs.declared.LoadRefusal.{LoadRefusal}
+use Rattle.plain_services.specs.declared.LoadRefusal.{LoadRefusal}
 use Rattle.refusals.specs.declared.Part.{Part}
 use Rattle.refusals.specs.declared.Refusal.{Refusal}
 

@@ -6,21 +6,20 @@ ghost use Rattle.outside_files.specs.Sinks.{GrewBy};
 ghost use Rattle.plain_services.specs.Commands.{command_of};
 ghost use Rattle.plain_services.specs.Loading.{loaded};
 ghost use Rattle.plain_services.specs.Projects.{IsInOrder};
-ghost use Rattle.refusals.specs.Origins.{IsOfLoading};
+ghost use Rattle.refusals.specs.Origins.{IsOfLoading, loading_refusal};
 ghost use Rattle.refusals.specs.Statuses.{status_of};
-ghost use Rattle.refusals.specs.declared.LoadRefusal.{LoadRefusal};
+ghost use Rattle.plain_services.specs.declared.LoadRefusal.{LoadRefusal};
 ghost use Rattle.refusals.specs.declared.Part.{Part};
 ghost use Rattle.refusals.specs.declared.Refusal.{Refusal};
-ghost use Rattle.refusals.specs.declared.Unbuilt.{Unbuilt};
-ghost use Rattle.text_output.specs.Refused.{IsRefusal};
-ghost use Rattle.text_output.specs.Saying.{IsSaid, SaysRefusal};
+ghost use Rattle.plain_services.specs.declared.Unbuilt.{Unbuilt};
+ghost use Rattle.refusals.specs.Refused.{IsRefusal};
+ghost use Rattle.refusals.specs.Saying.{IsSaid, SaysRefusal};
 
 use crate::project_page::page_of;
 use outside_files::{Files, Sink, write_all};
 use plain_services::{Project, load};
-use refusals::{Part, Refusal, status_of};
+use refusals::{Part, Refusal, say_if_any, status_of};
 use std::alloc::Global;
-use text_output::say_if_any;
 use tree_base::{Env, List, Text};
 
 /// What came of a call of `config`: the exit status, and what the call is refused with, None exactly at status 0.
@@ -48,7 +47,7 @@ pub fn config_run<F: Files, O: Sink, G: Sink>(
     // Where the words aren't built, or the files are told, what loading refuses is what the call is refused with.
     ensures words { command_of words.now ≡ None → IsSaid (Refusal.NotBuilt Unbuilt.Words) result.refusal }
     ensures words_only { result.refusal ≡ Some (Refusal.NotBuilt Unbuilt.Words) → command_of words.now ≡ None }
-    ensures loading { IfSome (F.told files.old) (λ contents. IfErr (loaded words.now cwd.now contents) (λ refusal. IsRefusal refusal result.refusal)) }
+    ensures loading { IfSome (F.told files.old) (λ contents. IfErr (loaded words.now cwd.now contents) (λ refusal. IsRefusal (loading_refusal refusal) result.refusal)) }
 
     // No other refusals than these come, and a fault is told only where something outside failed.
     ensures kind { IsOfConfig result.refusal }
@@ -90,7 +89,7 @@ fn print<F: Files, O: Sink>(
 ) -> Option<Refusal>
     ensures words { command_of words.now ≡ None → result ≡ Some (Refusal.NotBuilt Unbuilt.Words) }
     ensures words_only { result ≡ Some (Refusal.NotBuilt Unbuilt.Words) → command_of words.now ≡ None }
-    ensures loading { IfSome (F.told files.old) (λ contents. IfErr (loaded words.now cwd.now contents) (λ refusal. IsRefusal refusal result)) }
+    ensures loading { IfSome (F.told files.old) (λ contents. IfErr (loaded words.now cwd.now contents) (λ refusal. IsRefusal (loading_refusal refusal) result)) }
     ensures kind { IsOfConfig result }
     ensures read_fault { (path : _) → result ≡ Some (Refusal.Load (LoadRefusal.ReadFault path)) → IsFailedRead words.now cwd.now (F.faults files.old) (F.faults files.new) path }
     ensures output_fault { result ≡ Some (Refusal.Outside Part.Out) → Rose (O.faults out.old) (O.faults out.new) }
@@ -103,7 +102,7 @@ fn print<F: Files, O: Sink>(
 {
     match load(alloc, words, cwd, files) {
         Ok(project) => write_page(alloc, &project, out),
-        Err(refusal) => Some(refusal),
+        Err(refusal) => Some(Refusal::from(refusal)),
     }
 }
 

@@ -8,14 +8,14 @@ use Rattle.plain_services.specs.Directories.{base_name}
 use Rattle.plain_services.specs.Loading.{loaded, loaded_for, read, spelled, tree_in, compose_path, file_limit, LoadsAs}
 use Rattle.plain_services.specs.declared.command.Command.{Command}
 use Rattle.plain_services.specs.declared.project.Project.{Project}
-use Rattle.refusals.specs.declared.Refusal.{Refusal}
+use Rattle.plain_services.specs.declared.refusal.PlainRefusal.{PlainRefusal}
 
 pub IfSome-map : {A : Type 0} (o : Option A) (P Q : A → Type 0) → IfSome o P → ((x : A) → P x → Q x) → IfSome o Q
 IfSome-map None P Q h k = tt
 IfSome-map (Some x) P Q h k = k x h
 
 module _ (words : List (List ℕ)) (directory : List ℕ) (files : Contents) (path base : List ℕ) (asked : is_none (command_of words) ≡ false) (path_is : path ≡ compose_path directory)
-    (base_is : base ≡ base_name directory) (answer : Result Project Refusal) where
+    (base_is : base ≡ base_name directory) (answer : Result Project PlainRefusal) where
   is_read : loaded words directory files ≡ read path base (value_at files path)
   is_read = at (command_of words) asked ∙ ap (λ (p : List ℕ). read p (base_name directory) (value_at files p)) (sym path_is) ∙ ap (λ (b : List ℕ). read path b (value_at files path)) (sym base_is)
     where

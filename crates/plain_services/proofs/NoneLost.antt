@@ -4,8 +4,8 @@ use Rattle.std.specs.Prelude.{Result, nat_lt}
 use Rattle.tree_base.specs.declared.Step.{Step}
 use Rattle.tree_base.specs.declared.tree.Tree.{Tree, out-Tree}
 use Rattle.tree_base.specs.declared.tree.Tree.TheOpen.{Tree-F}
-use Rattle.refusals.specs.declared.ProjectRefusal.{ProjectRefusal}
-use Rattle.refusals.specs.declared.Refusal.{Refusal}
+use Rattle.plain_services.specs.declared.refusal.ProjectRefusal.{ProjectRefusal}
+use Rattle.plain_services.specs.declared.refusal.PlainRefusal.{PlainRefusal}
 use Rattle.plain_services.specs.Laws.{NoServiceIsLost}
 use Rattle.plain_services.specs.Marks.{counted}
 use Rattle.plain_services.specs.Shape.{◌>>=◌, Entries, few, in_byte_order, service_of, services_of, unless_unbuilt, with_both}
@@ -20,12 +20,12 @@ abbrev key_of : List ℕ × Tree → List ℕ
 key_of entry = entry.0
 
 -- what the first step gave where the next one gives something
-given_first : {A B : Type 0} (r : Result A Refusal) (next : A → Result B Refusal) (b : B) → (r >>= next) ≡ Ok b → (a : A) × (r ≡ Ok a) × (next a ≡ Ok b)
+given_first : {A B : Type 0} (r : Result A PlainRefusal) (next : A → Result B PlainRefusal) (b : B) → (r >>= next) ≡ Ok b → (a : A) × (r ≡ Ok a) × (next a ≡ Ok b)
 given_first (Ok a) next b e = (a, refl, e)
 given_first (Err refusal) next b e = absurd (cc e)
 
 -- what is given where nothing is found that is not built
-all_built : {A : Type 0} (found : Option (List Step)) (given : Result A Refusal) (a : A) → unless_unbuilt found given ≡ Ok a → given ≡ Ok a
+all_built : {A : Type 0} (found : Option (List Step)) (given : Result A PlainRefusal) (a : A) → unless_unbuilt found given ≡ Ok a → given ≡ Ok a
 all_built None given a e = e
 all_built (Some path) given a e = absurd (cc e)
 
@@ -54,7 +54,7 @@ were_few : (entries : Entries) (services : List PlainService) → (few entries >
 were_few entries services e = by (nat_lt 1000 (length entries)) e
   where
     by : (past : Bool)
-        → (cond past (Err (Refusal.Project (ProjectRefusal.TooManyServices (counted (length entries))))) (Ok entries) >>= λ more. services_of (in_byte_order more)) ≡ Ok services
+        → (cond past (Err (PlainRefusal.Project (ProjectRefusal.TooManyServices (counted (length entries))))) (Ok entries) >>= λ more. services_of (in_byte_order more)) ≡ Ok services
         → services_of (in_byte_order entries) ≡ Ok services
     by true f = absurd (cc f)
     by false f = f

@@ -14,31 +14,30 @@ use Rattle.plain_services.specs.Projects.{IsInOrder}
 use Rattle.plain_services.proofs.EntryOrder.{in_order_by_names}
 use Rattle.plain_services.specs.Shape.{◌>>=◌, Entries, few, first_entry, image_of, in_byte_order, service_of, services_of, services_of_file, services_under, unbuilt_top, unless_unbuilt, with_both}
 use Rattle.plain_services.specs.declared.project.PlainService.{PlainService}
-use Rattle.refusals.specs.Origins.{IsBeforeDial}
-use Rattle.refusals.specs.declared.Refusal.{Refusal}
-use Rattle.refusals.specs.declared.LoadRefusal.{LoadRefusal}
-use Rattle.refusals.specs.declared.ProjectRefusal.{ProjectRefusal}
-use Rattle.refusals.specs.declared.Unbuilt.{Unbuilt}
+use Rattle.plain_services.specs.declared.refusal.PlainRefusal.{PlainRefusal}
+use Rattle.plain_services.specs.declared.refusal.LoadRefusal.{LoadRefusal}
+use Rattle.plain_services.specs.declared.refusal.ProjectRefusal.{ProjectRefusal}
+use Rattle.plain_services.specs.declared.refusal.Unbuilt.{Unbuilt}
 
 -- a refusal that goes on into another answer
-pub gives_on : {A B : Type 0} (r : Refusal) (x : Result A Refusal) (y : Result B Refusal) → (x ≡ Err r → y ≡ Err r) → Gives (Err r) x → Gives (Err r) y
-gives_on Refusal.Memory x y k h = tt
+pub gives_on : {A B : Type 0} (r : PlainRefusal) (x : Result A PlainRefusal) (y : Result B PlainRefusal) → (x ≡ Err r → y ≡ Err r) → Gives (Err r) x → Gives (Err r) y
+gives_on PlainRefusal.Memory x y k h = tt
 gives_on r x y k h = k h
 
-pub gives_same : {A : Type 0} (given : Result A Refusal) (x y : Result A Refusal) → x ≡ y → Gives given x → Gives given y
-gives_same {A} given x y e h = subst (λ (z : Result A Refusal). Gives given z) e h
+pub gives_same : {A : Type 0} (given : Result A PlainRefusal) (x y : Result A PlainRefusal) → x ≡ y → Gives given x → Gives given y
+gives_same {A} given x y e h = subst (λ (z : Result A PlainRefusal). Gives given z) e h
 
 -- the refusals that a shape has: of what isn't built in a tree, or of what it declares
-abbrev pub IsOfShape : Refusal → Type 0
-IsOfShape (Refusal.NotBuilt (Unbuilt.Attribute path)) = Unit {0}
-IsOfShape (Refusal.Project refusal) = Unit {0}
+abbrev pub IsOfShape : PlainRefusal → Type 0
+IsOfShape (PlainRefusal.NotBuilt (Unbuilt.Attribute path)) = Unit {0}
+IsOfShape (PlainRefusal.Project refusal) = Unit {0}
 IsOfShape _ = ⊥
 
-then_of_shape : {A B : Type 0} (r : Result A Refusal) (f : A → Result B Refusal) → IfErr r IsOfShape → ((x : A) → IfErr (f x) IsOfShape) → IfErr (r >>= f) IsOfShape
+then_of_shape : {A B : Type 0} (r : Result A PlainRefusal) (f : A → Result B PlainRefusal) → IfErr r IsOfShape → ((x : A) → IfErr (f x) IsOfShape) → IfErr (r >>= f) IsOfShape
 then_of_shape (Ok x) f h k = k x
 then_of_shape (Err e) f h k = h
 
-unless_of_shape : {X : Type 0} (o : Option (List Step)) (r : Result X Refusal) → IfErr r IsOfShape → IfErr (unless_unbuilt o r) IsOfShape
+unless_of_shape : {X : Type 0} (o : Option (List Step)) (r : Result X PlainRefusal) → IfErr r IsOfShape → IfErr (unless_unbuilt o r) IsOfShape
 unless_of_shape None r h = h
 unless_of_shape (Some path) r h = tt
 
@@ -61,7 +60,7 @@ services_of_shape (entry ∷ entries) =
 few_of_shape : (entries : Entries) → IfErr (few entries) IsOfShape
 few_of_shape entries = at (nat_lt 1000 (length entries))
   where
-    at : (b : Bool) → IfErr (cond b (Err (Refusal.Project (ProjectRefusal.TooManyServices (counted (length entries))))) (Ok entries)) IsOfShape
+    at : (b : Bool) → IfErr (cond b (Err (PlainRefusal.Project (ProjectRefusal.TooManyServices (counted (length entries))))) (Ok entries)) IsOfShape
     at true = tt
     at false = tt
 
@@ -78,21 +77,12 @@ file_of_shape entries =
     (then_of_shape (services_under found >>= few) (λ services. services_of (in_byte_order services)) (then_of_shape (services_under found) few (under_of_shape found) few_of_shape)
     (λ services. services_of_shape (in_byte_order services)))
 
--- what is given of a shape comes before the dial, and is no refusal of words and no fault of a read
-pub before_dial : {X : Type 0} (given answer : Result X Refusal) → Gives given answer → IfErr answer IsOfShape → IfErr given IsBeforeDial
-before_dial (Ok x) answer h k = tt
-before_dial (Err Refusal.Memory) answer h k = tt
-before_dial (Err (Refusal.NotBuilt unbuilt)) answer h k = tt
-before_dial (Err (Refusal.Project refusal)) answer h k = tt
-before_dial (Err (Refusal.Load refusal)) answer h k = tt
-before_dial (Err (Refusal.Name refusal)) answer h k = tt
-before_dial (Err e) answer h k = absurd (IfErr-at_err IsOfShape h k)
+-- what is given of a shape is no refusal of words and no fault of a read
+pub no_words : {X : Type 0} (given answer : Result X PlainRefusal) → Gives given answer → IfErr answer IsOfShape → given ≡ Err (PlainRefusal.NotBuilt Unbuilt.Words) → ⊥
+no_words {X} given answer h k e = IfErr-at_err IsOfShape (subst (λ (g : Result X PlainRefusal). Gives g answer) e h) k
 
-pub no_words : {X : Type 0} (given answer : Result X Refusal) → Gives given answer → IfErr answer IsOfShape → given ≡ Err (Refusal.NotBuilt Unbuilt.Words) → ⊥
-no_words {X} given answer h k e = IfErr-at_err IsOfShape (subst (λ (g : Result X Refusal). Gives g answer) e h) k
-
-pub no_read : {X : Type 0} (given answer : Result X Refusal) → Gives given answer → IfErr answer IsOfShape → (path : List ℕ) → given ≡ Err (Refusal.Load (LoadRefusal.ReadFault path)) → ⊥
-no_read {X} given answer h k path e = IfErr-at_err IsOfShape (subst (λ (g : Result X Refusal). Gives g answer) e h) k
+pub no_read : {X : Type 0} (given answer : Result X PlainRefusal) → Gives given answer → IfErr answer IsOfShape → (path : List ℕ) → given ≡ Err (PlainRefusal.Load (LoadRefusal.ReadFault path)) → ⊥
+no_read {X} given answer h k path e = IfErr-at_err IsOfShape (subst (λ (g : Result X PlainRefusal). Gives g answer) e h) k
 
 -- a service has the name that its entry has
 both_named : (name : List ℕ) (image : Option (List ℕ)) (mode : Bool) (service : PlainService) → with_both name image mode ≡ Ok service → service.name ≡ name
@@ -114,20 +104,20 @@ services_named [] [] e = refl
 services_named [] (service ∷ services) e = absurd (cc e)
 services_named (entry ∷ entries) services e = first (services_named entries) (service_of entry.0 (out-Tree entry.1)) refl e
   where
-    rest : ((more : List PlainService) → services_of entries ≡ Ok more → map (λ service. service.name) more ≡ keys_of entries) → (service : PlainService) → service.name ≡ entry.0 → (r : Result (List PlainService) Refusal) → services_of entries ≡ r → (r >>= λ more. Ok (service ∷ more)) ≡ Ok services
+    rest : ((more : List PlainService) → services_of entries ≡ Ok more → map (λ service. service.name) more ≡ keys_of entries) → (service : PlainService) → service.name ≡ entry.0 → (r : Result (List PlainService) PlainRefusal) → services_of entries ≡ r → (r >>= λ more. Ok (service ∷ more)) ≡ Ok services
         → map (λ service. service.name) services ≡ keys_of (entry ∷ entries)
     rest later service named (Err refusal) is e = absurd (cc e)
     rest later service named (Ok more) is e =
         let same : service ∷ more ≡ services = cc e in
         sym (ap (map (λ (s : PlainService). s.name)) same) ∙ (λ i. named i ∷ later more is i)
 
-    first : ((more : List PlainService) → services_of entries ≡ Ok more → map (λ service. service.name) more ≡ keys_of entries) → (r : Result PlainService Refusal) → service_of entry.0 (out-Tree entry.1) ≡ r → (r >>= λ service. services_of entries >>= λ more. Ok (service ∷ more)) ≡ Ok services
+    first : ((more : List PlainService) → services_of entries ≡ Ok more → map (λ service. service.name) more ≡ keys_of entries) → (r : Result PlainService PlainRefusal) → service_of entry.0 (out-Tree entry.1) ≡ r → (r >>= λ service. services_of entries >>= λ more. Ok (service ∷ more)) ≡ Ok services
         → map (λ service. service.name) services ≡ keys_of (entry ∷ entries)
     first later (Err refusal) is e = absurd (cc e)
     first later (Ok service) is e = rest later service (service_named entry.0 (out-Tree entry.1) service is) (services_of entries) refl e
 
 -- services that are read one after another
-pub none_read : (r : Result (List PlainService) Refusal) → (r >>= λ services. Ok ([] ++ services)) ≡ r
+pub none_read : (r : Result (List PlainService) PlainRefusal) → (r >>= λ services. Ok ([] ++ services)) ≡ r
 none_read (Ok services) = refl
 none_read (Err refusal) = refl
 
@@ -135,19 +125,19 @@ pub one_read : (entry : List ℕ × Tree) (entries : Entries) (done : List Plain
     → (services_of entries >>= λ services. Ok ((done ++ service ∷ []) ++ services)) ≡ (services_of (entry ∷ entries) >>= λ services. Ok (done ++ services))
 one_read entry entries done service is =
     at (services_of entries)
-    ∙ sym (ap (λ (r : Result PlainService Refusal). (r >>= λ service. services_of entries >>= λ services. Ok (service ∷ services)) >>= λ services. Ok (done ++ services)) is)
+    ∙ sym (ap (λ (r : Result PlainService PlainRefusal). (r >>= λ service. services_of entries >>= λ services. Ok (service ∷ services)) >>= λ services. Ok (done ++ services)) is)
   where
-    at : (r : Result (List PlainService) Refusal) → (r >>= λ services. Ok ((done ++ service ∷ []) ++ services)) ≡ ((r >>= λ services. Ok (service ∷ services)) >>= λ services. Ok (done ++ services))
+    at : (r : Result (List PlainService) PlainRefusal) → (r >>= λ services. Ok ((done ++ service ∷ []) ++ services)) ≡ ((r >>= λ services. Ok (service ∷ services)) >>= λ services. Ok (done ++ services))
     at (Ok services) = ap (λ l. Ok l) (append_assoc done (service ∷ []) services)
     at (Err refusal) = refl
 
-pub one_refused : (entry : List ℕ × Tree) (entries : Entries) (done : List PlainService) (refusal : Refusal) → Gives (Err refusal) (service_of entry.0 (out-Tree entry.1))
+pub one_refused : (entry : List ℕ × Tree) (entries : Entries) (done : List PlainService) (refusal : PlainRefusal) → Gives (Err refusal) (service_of entry.0 (out-Tree entry.1))
     → Gives (Err refusal) (services_of (entry ∷ entries) >>= λ services. Ok (done ++ services))
 one_refused entry entries done refusal h =
     gives_on refusal (service_of entry.0 (out-Tree entry.1)) (services_of (entry ∷ entries) >>= λ services. Ok (done ++ services))
-    (λ is. ap (λ (r : Result PlainService Refusal). (r >>= λ service. services_of entries >>= λ services. Ok (service ∷ services)) >>= λ services. Ok (done ++ services)) is) h
+    (λ is. ap (λ (r : Result PlainService PlainRefusal). (r >>= λ service. services_of entries >>= λ services. Ok (service ∷ services)) >>= λ services. Ok (done ++ services)) is) h
 
 -- services of entries in byte order, whose keys differ, are in order
-pub in_order_given : (given : Result (List PlainService) Refusal) (sorted entries : Entries) → Gives given (services_of sorted) → sorted ≡ in_byte_order entries → HasDistinctKeys entries → IfOk given IsInOrder
+pub in_order_given : (given : Result (List PlainService) PlainRefusal) (sorted entries : Entries) → Gives given (services_of sorted) → sorted ≡ in_byte_order entries → HasDistinctKeys entries → IfOk given IsInOrder
 in_order_given (Err refusal) sorted entries h e d = tt
 in_order_given (Ok services) sorted entries h e d = in_order_by_names services entries d (services_named sorted services h ∙ ap (λ (es : Entries). keys_of es) e)

@@ -9,10 +9,10 @@ use Rattle.plain_services.specs.ProjectNames.{name_from}
 use Rattle.plain_services.specs.Shape.{◌>>=◌, services_in}
 use Rattle.plain_services.specs.declared.command.Command.{Command}
 use Rattle.plain_services.specs.declared.project.Project.{Project}
-use Rattle.refusals.specs.declared.Refusal.{Refusal}
-use Rattle.refusals.specs.declared.LoadRefusal.{LoadRefusal}
-use Rattle.refusals.specs.declared.ProjectRefusal.{ProjectRefusal}
-use Rattle.refusals.specs.declared.Unbuilt.{Unbuilt}
+use Rattle.plain_services.specs.declared.refusal.PlainRefusal.{PlainRefusal}
+use Rattle.plain_services.specs.declared.refusal.LoadRefusal.{LoadRefusal}
+use Rattle.plain_services.specs.declared.refusal.ProjectRefusal.{ProjectRefusal}
+use Rattle.plain_services.specs.declared.refusal.Unbuilt.{Unbuilt}
 use Rattle.yaml_lines.specs.Scan.{scan_of}
 use Rattle.yaml_lines.specs.declared.Lines.{Lines}
 use Rattle.yaml_lines.specs.declared.YamlRefusal.{YamlRefusal}
@@ -27,8 +27,8 @@ abbrev pub file_limit : ℕ
 file_limit = 4194304
 
 -- a project's name, unless nothing is left of it
-abbrev pub named : List ℕ → Result (List ℕ) Refusal
-named [] = Err (Refusal.Name (ProjectRefusal.BadName []))
+abbrev pub named : List ℕ → Result (List ℕ) PlainRefusal
+named [] = Err (PlainRefusal.Name (ProjectRefusal.BadName []))
 named (c ∷ cs) = Ok (c ∷ cs)
 
 -- the tree of a text's lines, where it has lines
@@ -41,35 +41,35 @@ abbrev pub tree_in : List ℕ → Result Tree YamlRefusal
 tree_in bytes = tree_of (scan_of 0 bytes)
 
 -- the project of a tree in a directory with this base name: first its name, then its services
-abbrev pub project_of : List ℕ → Tree → Result Project Refusal
+abbrev pub project_of : List ℕ → Tree → Result Project PlainRefusal
 project_of base tree = named (name_from base) >>= λ name. services_in tree >>= λ services. Ok (record { name = name; services = services })
 
 -- the project of a text in a directory with this base name, unless the text spells no tree
-abbrev pub spelled : List ℕ → List ℕ → Result Tree YamlRefusal → Result Project Refusal
-spelled path base (Err refusal) = Err (Refusal.Load (LoadRefusal.Yaml path refusal))
+abbrev pub spelled : List ℕ → List ℕ → Result Tree YamlRefusal → Result Project PlainRefusal
+spelled path base (Err refusal) = Err (PlainRefusal.Load (LoadRefusal.Yaml path refusal))
 spelled path base (Ok tree) = project_of base tree
 
 -- the project of a file, unless it isn't there or is too large
-abbrev pub read : List ℕ → List ℕ → Option (List ℕ) → Result Project Refusal
-read path base None = Err (Refusal.Load (LoadRefusal.NotFound path))
+abbrev pub read : List ℕ → List ℕ → Option (List ℕ) → Result Project PlainRefusal
+read path base None = Err (PlainRefusal.Load (LoadRefusal.NotFound path))
 read path base (Some bytes) =
-    if nat_lt file_limit (length bytes) then Err (Refusal.Load (LoadRefusal.FileTooLarge path)) else spelled path base (tree_in bytes)
+    if nat_lt file_limit (length bytes) then Err (PlainRefusal.Load (LoadRefusal.FileTooLarge path)) else spelled path base (tree_in bytes)
 
 -- some text spells the project in this directory
 abbrev pub IsSpelled : List ℕ → Project → Type 0
 IsSpelled directory project = (text : List ℕ) × (spelled (compose_path directory) (base_name directory) (tree_in text) ≡ Ok project)
 
 -- what is loaded where this is the command
-abbrev pub loaded_for : Option Command → List ℕ → Contents → Result Project Refusal
-loaded_for None directory files = Err (Refusal.NotBuilt Unbuilt.Words)
+abbrev pub loaded_for : Option Command → List ℕ → Contents → Result Project PlainRefusal
+loaded_for None directory files = Err (PlainRefusal.NotBuilt Unbuilt.Words)
 loaded_for (Some command) directory files = read (compose_path directory) (base_name directory) (value_at files (compose_path directory))
 
 -- what is loaded: words before the file, the file before its text, the text before the project's name, and that before its services
-abbrev pub loaded : List (List ℕ) → List ℕ → Contents → Result Project Refusal
+abbrev pub loaded : List (List ℕ) → List ℕ → Contents → Result Project PlainRefusal
 loaded words = loaded_for (command_of words)
 
 -- an answer is what is loaded; a read that failed and a want of memory may stand in its place
-abbrev pub LoadsAs : {X : Type 0} → Result X Refusal → Result X Refusal → Type 0
-LoadsAs expected (Err Refusal.Memory) = Unit {0}
-LoadsAs expected (Err (Refusal.Load (LoadRefusal.ReadFault path))) = Unit {0}
+abbrev pub LoadsAs : {X : Type 0} → Result X PlainRefusal → Result X PlainRefusal → Type 0
+LoadsAs expected (Err PlainRefusal.Memory) = Unit {0}
+LoadsAs expected (Err (PlainRefusal.Load (LoadRefusal.ReadFault path))) = Unit {0}
 LoadsAs expected answer = answer ≡ expected

@@ -9,14 +9,14 @@ use Rattle.tree_base.specs.declared.Tree.{Tree, out-Tree}
 use Rattle.tree_base.specs.declared.Tree.TheOpen.{Tree-F}
 use Rattle.plain_services.specs.Marks.{below, counted, first_of, mark_in}
 use Rattle.plain_services.specs.declared.project.PlainService.{PlainService}
-use Rattle.refusals.specs.declared.Refusal.{Refusal}
-use Rattle.refusals.specs.declared.ProjectRefusal.{ProjectRefusal}
-use Rattle.refusals.specs.declared.Unbuilt.{Unbuilt}
+use Rattle.plain_services.specs.declared.refusal.PlainRefusal.{PlainRefusal}
+use Rattle.plain_services.specs.declared.refusal.ProjectRefusal.{ProjectRefusal}
+use Rattle.plain_services.specs.declared.refusal.Unbuilt.{Unbuilt}
 use Rattle.tree_base.specs.ByteOrder.{by_key}
 
 infixl 10 ◌>>=◌
 -- what is given goes on into the next step; a refusal ends the loading
-abbrev pub ◌>>=◌ : {A B : Type 0} → Result A Refusal → (A → Result B Refusal) → Result B Refusal
+abbrev pub ◌>>=◌ : {A B : Type 0} → Result A PlainRefusal → (A → Result B PlainRefusal) → Result B PlainRefusal
 (Ok x) >>= f = f x
 (Err refusal) >>= f = Err refusal
 
@@ -29,11 +29,11 @@ abbrev pub in_byte_order : Entries → Entries
 in_byte_order = by_key (λ entry. entry.0)
 
 -- what stands at a path isn't built
-abbrev pub not_built : {X : Type 0} → List Step → Result X Refusal
-not_built path = Err (Refusal.NotBuilt (Unbuilt.Attribute path))
+abbrev pub not_built : {X : Type 0} → List Step → Result X PlainRefusal
+not_built path = Err (PlainRefusal.NotBuilt (Unbuilt.Attribute path))
 
 -- what is given, unless something at a path isn't built
-abbrev pub unless_unbuilt : {X : Type 0} → Option (List Step) → Result X Refusal → Result X Refusal
+abbrev pub unless_unbuilt : {X : Type 0} → Option (List Step) → Result X PlainRefusal → Result X PlainRefusal
 unless_unbuilt None given = given
 unless_unbuilt (Some path) given = not_built path
 
@@ -84,45 +84,45 @@ abbrev pub image_of : Entries → Option (List ℕ)
 image_of attributes = option_and_then (λ value. scalar_text (out-Tree value)) (value_at attributes (codes "image"))
 
 -- a service with both attributes, or else its own path
-abbrev pub with_both : List ℕ → Option (List ℕ) → Bool → Result PlainService Refusal
+abbrev pub with_both : List ℕ → Option (List ℕ) → Bool → Result PlainService PlainRefusal
 with_both name (Some image) true = Ok (record { name = name; image = image })
 with_both name image mode = not_built (path_of_service name)
 
 -- the service of a tree under a name
-abbrev pub service_of : List ℕ → Tree-F Tree → Result PlainService Refusal
+abbrev pub service_of : List ℕ → Tree-F Tree → Result PlainService PlainRefusal
 service_of name (Tree-F.Map attributes) =
     unless_unbuilt (below (Key (codes "services")) (below (Key name) (first_entry unbuilt_attribute attributes)))
     (with_both name (image_of attributes) (is_some (value_at attributes (codes "network_mode"))))
 service_of name tree = not_built (path_of_service name)
 
 -- the services of entries in their order, or the first refusal
-abbrev pub services_of : Entries → Result (List PlainService) Refusal
+abbrev pub services_of : Entries → Result (List PlainService) PlainRefusal
 services_of [] = Ok []
 services_of (entry ∷ entries) = service_of entry.0 (out-Tree entry.1) >>= λ service. services_of entries >>= λ services. Ok (service ∷ services)
 
 -- entries, at most 1,000
-abbrev pub few : Entries → Result Entries Refusal
-few entries = if nat_lt 1000 (length entries) then Err (Refusal.Project (ProjectRefusal.TooManyServices (counted (length entries)))) else Ok entries
+abbrev pub few : Entries → Result Entries PlainRefusal
+few entries = if nat_lt 1000 (length entries) then Err (PlainRefusal.Project (ProjectRefusal.TooManyServices (counted (length entries)))) else Ok entries
 
 -- the entries under `services`: none where nothing or null stands there
-abbrev pub services_under : Option (Tree-F Tree) → Result Entries Refusal
+abbrev pub services_under : Option (Tree-F Tree) → Result Entries PlainRefusal
 services_under None = Ok []
 services_under (Some Tree-F.Null) = Ok []
 services_under (Some (Tree-F.Map entries)) = Ok entries
 services_under (Some tree) = not_built (Key (codes "services") ∷ [])
 
 -- the services of a mapping's entries: first the other keys are asked, then the form of the services, then their number, then each of them
-abbrev pub services_of_file : Entries → Result (List PlainService) Refusal
+abbrev pub services_of_file : Entries → Result (List PlainService) PlainRefusal
 services_of_file entries =
     unless_unbuilt (first_entry unbuilt_top entries)
     (services_under (option_map out-Tree (value_at entries (codes "services"))) >>= few >>= λ services. services_of (in_byte_order services))
 
 -- the services of a tree, in byte order of their names; null has none
-abbrev pub services_from : Tree-F Tree → Result (List PlainService) Refusal
+abbrev pub services_from : Tree-F Tree → Result (List PlainService) PlainRefusal
 services_from Tree-F.Null = Ok []
 services_from (Tree-F.Map entries) = services_of_file entries
 services_from tree = not_built []
 
 -- the services of a tree that is built, or the first refusal
-abbrev pub services_in : Tree → Result (List PlainService) Refusal
+abbrev pub services_in : Tree → Result (List PlainService) PlainRefusal
 services_in tree = services_from (out-Tree tree)

@@ -1,5 +1,4 @@
-ghost use Rattle.std.specs.Prelude.{◌≡◌, Err, None, IfSome, IfOk, IfErr, IsNone};
-ghost use Rattle.refusals.specs.Origins.{IsBeforeDial};
+ghost use Rattle.std.specs.Prelude.{◌≡◌, Err, None, IfSome, IfOk, IsNone};
 ghost use Rattle.outside_files.specs.Counts.{Rose};
 ghost use Rattle.plain_services.specs.Commands.{command_of};
 ghost use Rattle.plain_services.specs.Directories.{base_name};
@@ -7,15 +6,15 @@ ghost use Rattle.plain_services.specs.Loading.{loaded, spelled, project_of, name
 ghost use Rattle.plain_services.specs.Projects.{IsInOrder};
 ghost use Rattle.plain_services.specs.ProjectNames.{name_from};
 ghost use Rattle.yaml_lines.specs.Answers.{Gives};
-ghost use Rattle.refusals.specs.declared.Refusal.{Refusal};
-ghost use Rattle.refusals.specs.declared.LoadRefusal.{LoadRefusal};
-ghost use Rattle.refusals.specs.declared.Unbuilt.{Unbuilt};
+ghost use Rattle.plain_services.specs.declared.refusal.PlainRefusal.{PlainRefusal};
+ghost use Rattle.plain_services.specs.declared.refusal.LoadRefusal.{LoadRefusal};
+ghost use Rattle.plain_services.specs.declared.refusal.Unbuilt.{Unbuilt};
 
 use crate::project::Project;
 use crate::shape::services_in;
 use crate::{command, directory, project_name};
 use outside_files::{FileAnswer, Files};
-use refusals::{LoadRefusal, ProjectRefusal, Refusal, Unbuilt};
+use crate::refusal::{LoadRefusal, ProjectRefusal, PlainRefusal, Unbuilt};
 use std::alloc::Global;
 use tree_base::{List, Memory, Text, Tree};
 use yaml_lines::{YamlRefusal, scan};
@@ -32,33 +31,32 @@ pub fn load<F: Files>(
     words: &List<Text>,
     directory: &Text,
     files: &mut F,
-) -> Result<Project, Refusal>
+) -> Result<Project, PlainRefusal>
     ensures told { IfSome (F.told files.old) (λ contents. LoadsAs (loaded words.now directory.now contents) result) }
-    ensures words { IsNone (command_of words.now) → result ≡ Err (Refusal.NotBuilt Unbuilt.Words) }
-    ensures words_only { result ≡ Err (Refusal.NotBuilt Unbuilt.Words) → command_of words.now ≡ None }
+    ensures words { IsNone (command_of words.now) → result ≡ Err (PlainRefusal.NotBuilt Unbuilt.Words) }
+    ensures words_only { result ≡ Err (PlainRefusal.NotBuilt Unbuilt.Words) → command_of words.now ≡ None }
 
     // Also of files that aren't told: some text spells the project, and its services are in order.
     ensures text { IfOk result (IsSpelled directory.now) }
     ensures order { IfOk result (λ project. IsInOrder project.services) }
 
     // A read that failed is that of the Compose file, and was counted.
-    ensures path { (path : _) → result ≡ Err (Refusal.Load (LoadRefusal.ReadFault path)) → path ≡ compose_path directory.now }
-    ensures read { (path : _) → result ≡ Err (Refusal.Load (LoadRefusal.ReadFault path)) → Rose (F.faults files.old) (F.faults files.new) }
-    ensures kind { IfErr result IsBeforeDial }
+    ensures path { (path : _) → result ≡ Err (PlainRefusal.Load (LoadRefusal.ReadFault path)) → path ≡ compose_path directory.now }
+    ensures read { (path : _) → result ≡ Err (PlainRefusal.Load (LoadRefusal.ReadFault path)) → Rose (F.faults files.old) (F.faults files.new) }
     ensures kept { F.told files.new ≡ F.told files.old }
 {
     if command::command_of(words).is_none() {
-        return Err(Refusal::NotBuilt(Unbuilt::Words));
+        return Err(PlainRefusal::NotBuilt(Unbuilt::Words));
     }
     let Ok((path, base)) = locate(alloc, directory) else {
-        return Err(Refusal::Memory);
+        return Err(PlainRefusal::Memory);
     };
     match files.read(alloc, &path, FILE_LIMIT) {
         FileAnswer::Bytes(bytes) => spelled(alloc, path, base, bytes.as_slice()),
-        FileAnswer::Missing => Err(Refusal::Load(LoadRefusal::NotFound { path })),
-        FileAnswer::Longer => Err(Refusal::Load(LoadRefusal::FileTooLarge { path })),
-        FileAnswer::Failed => Err(Refusal::Load(LoadRefusal::ReadFault { path })),
-        FileAnswer::Memory => Err(Refusal::Memory),
+        FileAnswer::Missing => Err(PlainRefusal::Load(LoadRefusal::NotFound { path })),
+        FileAnswer::Longer => Err(PlainRefusal::Load(LoadRefusal::FileTooLarge { path })),
+        FileAnswer::Failed => Err(PlainRefusal::Load(LoadRefusal::ReadFault { path })),
+        FileAnswer::Memory => Err(PlainRefusal::Memory),
     }
 }
 
@@ -74,17 +72,16 @@ fn locate(alloc: Global, directory: &Text) -> Result<(Text, &str), Memory>
 }
 
 /// The project that a text spells, in a directory with this base name.
-fn spelled(alloc: Global, path: Text, base: &str, bytes: &[u8]) -> Result<Project, Refusal>
+fn spelled(alloc: Global, path: Text, base: &str, bytes: &[u8]) -> Result<Project, PlainRefusal>
     ensures told { LoadsAs (spelled path base.now (tree_in bytes.now)) result }
     ensures order { IfOk result (λ project. IsInOrder project.services) }
-    ensures words { result ≡ Err (Refusal.NotBuilt Unbuilt.Words) → ⊥ }
-    ensures read { (path : _) → result ≡ Err (Refusal.Load (LoadRefusal.ReadFault path)) → ⊥ }
-    ensures kind { IfErr result IsBeforeDial }
+    ensures words { result ≡ Err (PlainRefusal.NotBuilt Unbuilt.Words) → ⊥ }
+    ensures read { (path : _) → result ≡ Err (PlainRefusal.Load (LoadRefusal.ReadFault path)) → ⊥ }
 {
     match tree_in(alloc, bytes) {
         Ok(tree) => project_of(alloc, base, &tree),
-        Err(YamlRefusal::Memory) => Err(Refusal::Memory),
-        Err(refusal) => Err(Refusal::Load(LoadRefusal::Yaml { path, refusal })),
+        Err(YamlRefusal::Memory) => Err(PlainRefusal::Memory),
+        Err(refusal) => Err(PlainRefusal::Load(LoadRefusal::Yaml { path, refusal })),
     }
 }
 
@@ -97,12 +94,11 @@ fn tree_in(alloc: Global, bytes: &[u8]) -> Result<Tree, YamlRefusal>
 }
 
 /// The project of a tree in a directory with this base name: first its name, then its services.
-fn project_of(alloc: Global, base: &str, tree: &Tree) -> Result<Project, Refusal>
+fn project_of(alloc: Global, base: &str, tree: &Tree) -> Result<Project, PlainRefusal>
     ensures told { LoadsAs (project_of base.now tree.now) result }
     ensures order { IfOk result (λ project. IsInOrder project.services) }
-    ensures words { result ≡ Err (Refusal.NotBuilt Unbuilt.Words) → ⊥ }
-    ensures read { (path : _) → result ≡ Err (Refusal.Load (LoadRefusal.ReadFault path)) → ⊥ }
-    ensures kind { IfErr result IsBeforeDial }
+    ensures words { result ≡ Err (PlainRefusal.NotBuilt Unbuilt.Words) → ⊥ }
+    ensures read { (path : _) → result ≡ Err (PlainRefusal.Load (LoadRefusal.ReadFault path)) → ⊥ }
 {
     let name = named(alloc, base)?;
     let services = services_in(alloc, tree)?;
@@ -110,17 +106,16 @@ fn project_of(alloc: Global, base: &str, tree: &Tree) -> Result<Project, Refusal
 }
 
 /// The name that a directory's base name gives.
-fn named(alloc: Global, base: &str) -> Result<Text, Refusal>
+fn named(alloc: Global, base: &str) -> Result<Text, PlainRefusal>
     ensures told { LoadsAs (named (name_from base.now)) result }
-    ensures words { result ≡ Err (Refusal.NotBuilt Unbuilt.Words) → ⊥ }
-    ensures read { (path : _) → result ≡ Err (Refusal.Load (LoadRefusal.ReadFault path)) → ⊥ }
-    ensures kind { IfErr result IsBeforeDial }
+    ensures words { result ≡ Err (PlainRefusal.NotBuilt Unbuilt.Words) → ⊥ }
+    ensures read { (path : _) → result ≡ Err (PlainRefusal.Load (LoadRefusal.ReadFault path)) → ⊥ }
 {
     let Ok(name) = project_name::name_from(alloc, base) else {
-        return Err(Refusal::Memory);
+        return Err(PlainRefusal::Memory);
     };
     if name.is_empty() {
-        return Err(Refusal::Name(ProjectRefusal::BadName { name }));
+        return Err(PlainRefusal::Name(ProjectRefusal::BadName { name }));
     }
     Ok(name)
 }

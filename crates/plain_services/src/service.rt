@@ -9,12 +9,12 @@ ghost use Rattle.plain_services.specs.Shape.{image_of, path_of_service, service_
 use crate::entries::value_under;
 use crate::project::PlainService;
 use crate::unbuilt::{Level, below_key, first_unbuilt, refusal_at};
-use refusals::Refusal;
+use crate::refusal::PlainRefusal;
 use std::alloc::Global;
 use tree_base::{List, Map, Memory, Path, Text, Tree};
 
 /// The service of a tree under a name: first its attributes are asked, then that both stand there.
-pub(crate) fn service_of(alloc: Global, name: &Text, value: &Tree) -> Result<PlainService, Refusal>
+pub(crate) fn service_of(alloc: Global, name: &Text, value: &Tree) -> Result<PlainService, PlainRefusal>
     ensures { Gives result (service_of name.now (out-Tree value.now)) }
 {
     match value {
@@ -23,23 +23,23 @@ pub(crate) fn service_of(alloc: Global, name: &Text, value: &Tree) -> Result<Pla
     }
 }
 
-fn service_with(alloc: Global, name: &Text, attributes: &Map) -> Result<PlainService, Refusal>
+fn service_with(alloc: Global, name: &Text, attributes: &Map) -> Result<PlainService, PlainRefusal>
     ensures { Gives result (service_of name.now (Tree-F.Map attributes.now)) }
 {
     match first_unbuilt(alloc, attributes, Level::Service) {
         Ok(None) => with_both(alloc, name, attributes),
         Ok(Some(path)) => Err(refusal_at(in_service(alloc, name, path))),
-        Err(Memory) => Err(Refusal::Memory),
+        Err(Memory) => Err(PlainRefusal::Memory),
     }
 }
 
-fn with_both(alloc: Global, name: &Text, attributes: &Map) -> Result<PlainService, Refusal>
+fn with_both(alloc: Global, name: &Text, attributes: &Map) -> Result<PlainService, PlainRefusal>
     ensures { Gives result (with_both name.now (image_of attributes.now) (is_some (value_at attributes.now (codes "network_mode")))) }
 {
     match image_beside_mode(alloc, attributes) {
         Ok(Some(image)) => plain_service(alloc, name, image),
         Ok(None) => Err(refusal_at(in_service(alloc, name, List::new(alloc)))),
-        Err(Memory) => Err(Refusal::Memory),
+        Err(Memory) => Err(PlainRefusal::Memory),
     }
 }
 
@@ -56,14 +56,14 @@ fn image_beside_mode<'a>(alloc: Global, attributes: &'a Map) -> Result<Option<&'
     }
 }
 
-fn plain_service(alloc: Global, name: &Text, image: &Text) -> Result<PlainService, Refusal>
+fn plain_service(alloc: Global, name: &Text, image: &Text) -> Result<PlainService, PlainRefusal>
     ensures { Gives result (Ok (record { name = name.now; image = image.now })) }
 {
     let Ok(name) = name.copy(alloc) else {
-        return Err(Refusal::Memory);
+        return Err(PlainRefusal::Memory);
     };
     let Ok(image) = image.copy(alloc) else {
-        return Err(Refusal::Memory);
+        return Err(PlainRefusal::Memory);
     };
     Ok(PlainService { name, image })
 }

@@ -1,4 +1,4 @@
-ghost use Rattle.std.specs.Prelude.{◌≡◌, Err, IfOk, IfErr, map, codes};
+ghost use Rattle.std.specs.Prelude.{◌≡◌, Err, IfOk, map, codes};
 ghost use Rattle.std.specs.Option.{option_map};
 ghost use Rattle.tree_base.specs.Entries.{value_at};
 ghost use Rattle.tree_base.specs.declared.Tree.{out-Tree};
@@ -7,17 +7,16 @@ ghost use Rattle.plain_services.specs.Loading.{LoadsAs};
 ghost use Rattle.plain_services.specs.Projects.{IsInOrder};
 ghost use Rattle.plain_services.specs.Parts.{services_found, services_of_few};
 ghost use Rattle.plain_services.specs.Shape.{services_in, services_of, services_of_file};
-ghost use Rattle.refusals.specs.Origins.{IsBeforeDial};
-ghost use Rattle.refusals.specs.declared.Refusal.{Refusal};
-ghost use Rattle.refusals.specs.declared.LoadRefusal.{LoadRefusal};
-ghost use Rattle.refusals.specs.declared.Unbuilt.{Unbuilt};
+ghost use Rattle.plain_services.specs.declared.refusal.PlainRefusal.{PlainRefusal};
+ghost use Rattle.plain_services.specs.declared.refusal.LoadRefusal.{LoadRefusal};
+ghost use Rattle.plain_services.specs.declared.refusal.Unbuilt.{Unbuilt};
 
 use crate::entries::{Entry, in_byte_order, value_under};
 use crate::marks::counted;
 use crate::project::PlainService;
 use crate::service::service_of;
 use crate::unbuilt::{Level, below_key, first_unbuilt, refusal_at};
-use refusals::{ProjectRefusal, Refusal};
+use crate::refusal::{ProjectRefusal, PlainRefusal};
 use std::alloc::Global;
 use tree_base::{List, Map, Memory, Tree};
 
@@ -27,12 +26,11 @@ const MOST_SERVICES: usize = 1_000;
 /// The services of a tree, in byte order of their names. Refuses, in this order: a tree that is neither null nor a
 /// mapping, another top-level key than `services`, `version` and those that begin with `x-`, `services` of another form,
 /// more than 1,000 of them, and what is no service with an image and no network.
-pub(crate) fn services_in(alloc: Global, tree: &Tree) -> Result<List<PlainService>, Refusal>
+pub(crate) fn services_in(alloc: Global, tree: &Tree) -> Result<List<PlainService>, PlainRefusal>
     ensures told { LoadsAs (services_in tree.now) result }
     ensures order { IfOk result IsInOrder }
-    ensures words { result ≡ Err (Refusal.NotBuilt Unbuilt.Words) → ⊥ }
-    ensures read { (path : _) → result ≡ Err (Refusal.Load (LoadRefusal.ReadFault path)) → ⊥ }
-    ensures kind { IfErr result IsBeforeDial }
+    ensures words { result ≡ Err (PlainRefusal.NotBuilt Unbuilt.Words) → ⊥ }
+    ensures read { (path : _) → result ≡ Err (PlainRefusal.Load (LoadRefusal.ReadFault path)) → ⊥ }
 {
     match tree {
         Tree::Null => Ok(List::new(alloc)),
@@ -42,19 +40,19 @@ pub(crate) fn services_in(alloc: Global, tree: &Tree) -> Result<List<PlainServic
 }
 
 /// The services of a mapping's entries: first the other keys are asked, then the services.
-fn services_of_file(alloc: Global, entries: &Map) -> Result<List<PlainService>, Refusal>
+fn services_of_file(alloc: Global, entries: &Map) -> Result<List<PlainService>, PlainRefusal>
     ensures told { Gives result (services_of_file entries.now) }
     ensures order { IfOk result IsInOrder }
 {
     match first_unbuilt(alloc, entries, Level::File) {
         Ok(None) => services_under(alloc, entries),
         Ok(Some(path)) => Err(refusal_at(Ok(path))),
-        Err(Memory) => Err(Refusal::Memory),
+        Err(Memory) => Err(PlainRefusal::Memory),
     }
 }
 
 /// The services under their key.
-fn services_under(alloc: Global, entries: &Map) -> Result<List<PlainService>, Refusal>
+fn services_under(alloc: Global, entries: &Map) -> Result<List<PlainService>, PlainRefusal>
     ensures told { Gives result (services_found (option_map out-Tree (value_at entries.now (codes "services")))) }
     ensures order { IfOk result IsInOrder }
 {
@@ -63,35 +61,35 @@ fn services_under(alloc: Global, entries: &Map) -> Result<List<PlainService>, Re
         Ok(Some(Tree::Null)) => Ok(List::new(alloc)),
         Ok(Some(Tree::Map(services))) => few_services(alloc, services.get()),
         Ok(Some(_)) => Err(refusal_at(below_key(alloc, "services", List::new(alloc)))),
-        Err(Memory) => Err(Refusal::Memory),
+        Err(Memory) => Err(PlainRefusal::Memory),
     }
 }
 
 /// The services of at most 1,000 entries.
-fn few_services(alloc: Global, services: &Map) -> Result<List<PlainService>, Refusal>
+fn few_services(alloc: Global, services: &Map) -> Result<List<PlainService>, PlainRefusal>
     ensures told { Gives result (services_of_few services.now) }
     ensures order { IfOk result IsInOrder }
 {
     let count = services.len();
     if count > MOST_SERVICES {
         let count = counted(count);
-        return Err(Refusal::Project(ProjectRefusal::TooManyServices { count }));
+        return Err(PlainRefusal::Project(ProjectRefusal::TooManyServices { count }));
     }
     match in_byte_order(alloc, services) {
         Ok(entries) => services_of(alloc, entries.as_slice()),
-        Err(Memory) => Err(Refusal::Memory),
+        Err(Memory) => Err(PlainRefusal::Memory),
     }
 }
 
 /// The services of entries, in their order.
-fn services_of(alloc: Global, entries: &[Entry]) -> Result<List<PlainService>, Refusal>
+fn services_of(alloc: Global, entries: &[Entry]) -> Result<List<PlainService>, PlainRefusal>
     ensures { Gives result (services_of (map (λ entry. (entry.key.now, entry.value.now)) entries.now)) }
 {
     let mut services = List::new(alloc);
     for entry in entries {
         let service = service_of(alloc, entry.key, entry.value)?;
         let Ok(()) = services.push(service) else {
-            return Err(Refusal::Memory);
+            return Err(PlainRefusal::Memory);
         };
     }
     Ok(services)

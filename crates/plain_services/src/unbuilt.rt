@@ -4,12 +4,12 @@ ghost use Rattle.tree_base.specs.declared.Tree.{out-Tree};
 ghost use Rattle.plain_services.specs.Parts.{unbuilt_at};
 ghost use Rattle.plain_services.specs.Marks.{below};
 ghost use Rattle.plain_services.specs.Shape.{first_entry, is_built, is_extension, is_none_scalar, is_scalar, unbuilt_attribute, unbuilt_top};
-ghost use Rattle.refusals.specs.declared.Refusal.{Refusal};
-ghost use Rattle.refusals.specs.declared.Unbuilt.{Unbuilt};
+ghost use Rattle.plain_services.specs.declared.refusal.PlainRefusal.{PlainRefusal};
+ghost use Rattle.plain_services.specs.declared.refusal.Unbuilt.{Unbuilt};
 
 use crate::entries::{Entry, in_byte_order};
 use crate::marks::mark_in;
-use refusals::{Refusal, Unbuilt};
+use crate::refusal::{PlainRefusal, Unbuilt};
 use std::alloc::Global;
 use tree_base::{List, Map, Memory, Path, Step, Text, Tree};
 
@@ -122,11 +122,11 @@ pub(crate) fn below_key(alloc: Global, key: &str, path: Path) -> Result<Path, Me
 }
 
 /// The refusal of what stands at a path, which memory may be wanted for.
-pub(crate) fn refusal_at(path: Result<Path, Memory>) -> Refusal
-    ensures { MatchResult path (λ path. result ≡ Refusal.NotBuilt (Unbuilt.Attribute path)) (λ memory. result ≡ Refusal.Memory) }
+pub(crate) fn refusal_at(path: Result<Path, Memory>) -> PlainRefusal
+    ensures { MatchResult path (λ path. result ≡ PlainRefusal.NotBuilt (Unbuilt.Attribute path)) (λ memory. result ≡ PlainRefusal.Memory) }
 {
     match path {
-        Ok(path) => Refusal::NotBuilt(Unbuilt::Attribute { path }),
-        Err(Memory) => Refusal::Memory,
+        Ok(path) => PlainRefusal::NotBuilt(Unbuilt::Attribute { path }),
+        Err(Memory) => PlainRefusal::Memory,
     }
 }

@@ -1,4 +1,5 @@
 pub mod Lines
 pub mod Origins
-pub mod Paths
+pub mod Refused
+pub mod Saying
 pub mod Statuses

@@ -1,31 +1,10 @@
 -- The line that each refusal prints.
-use Rattle.std.specs.Prelude.{ℕ, List, ◌++◌, codes, decimal}
+use Rattle.std.specs.Prelude.{ℕ, List, ◌++◌, codes}
 use Rattle.run_model.specs.Lines.{line, fault_words}
 use Rattle.engine_types.specs.declared.RunFault.{RunFault}
-use Rattle.refusals.specs.declared.refusal.Refusal.{Refusal}
-use Rattle.refusals.specs.declared.refusal.LoadRefusal.{LoadRefusal}
-use Rattle.refusals.specs.declared.refusal.ProjectRefusal.{ProjectRefusal}
+use Rattle.plain_services.specs.Messages.{load_words, project_words, unbuilt_words}
 use Rattle.refusals.specs.declared.refusal.Part.{Part}
-use Rattle.refusals.specs.declared.refusal.Unbuilt.{Unbuilt}
-use Rattle.refusals.specs.Paths.{path_words}
-use Rattle.yaml_lines.specs.Printed.{refusal_text}
-
--- what stands at a path is named by it
-abbrev pub unbuilt_words : Unbuilt → List ℕ
-unbuilt_words Unbuilt.Words = codes "not built: words"
-unbuilt_words (Unbuilt.Attribute path) = path_words path ++ codes ": not built"
-
--- a file is named by its path; where its text is refused, the place and the name of the fault follow
-abbrev pub load_words : LoadRefusal → List ℕ
-load_words (LoadRefusal.NotFound path) = path ++ codes ": NotFound"
-load_words (LoadRefusal.ReadFault path) = path ++ codes ": ReadFault"
-load_words (LoadRefusal.FileTooLarge path) = path ++ codes ": FileTooLarge"
-load_words (LoadRefusal.Yaml path refusal) = path ++ codes ":" ++ refusal_text refusal
-
--- a name that is none stands as it is, and a number past its limit behind the limit's name
-abbrev pub project_words : ProjectRefusal → List ℕ
-project_words (ProjectRefusal.BadName name) = codes "bad project name: " ++ name
-project_words (ProjectRefusal.TooManyServices count) = codes "TooManyServices: " ++ decimal count
+use Rattle.refusals.specs.declared.refusal.Refusal.{Refusal}
 
 -- the part of the outside that failed
 abbrev pub part_words : Part → List ℕ

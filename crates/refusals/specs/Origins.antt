@@ -1,6 +1,7 @@
 -- Where in a call a refusal comes from: before a hand is made, or from the run.
 use Rattle.std.specs.Prelude.{Option, Some}
 use Rattle.engine_types.specs.declared.RunFault.{RunFault}
+use Rattle.plain_services.specs.declared.PlainRefusal.{PlainRefusal}
 use Rattle.refusals.specs.declared.refusal.Refusal.{Refusal}
 use Rattle.refusals.specs.declared.refusal.Part.{Part}
 
@@ -29,6 +30,14 @@ IsOfRun (Some (Refusal.Name refusal)) = ⊥
 IsOfRun (Some (Refusal.Project refusal)) = ⊥
 IsOfRun (Some (Refusal.Outside Part.Plug)) = ⊥
 IsOfRun _ = Unit {0}
+
+-- what a call is refused with where loading refuses so
+abbrev pub loading_refusal : PlainRefusal → Refusal
+loading_refusal (PlainRefusal.NotBuilt unbuilt) = Refusal.NotBuilt unbuilt
+loading_refusal (PlainRefusal.Load refusal) = Refusal.Load refusal
+loading_refusal (PlainRefusal.Name refusal) = Refusal.Name refusal
+loading_refusal (PlainRefusal.Project refusal) = Refusal.Project refusal
+loading_refusal PlainRefusal.Memory = Refusal.Memory
 
 -- what a call is refused with where its run is refused so
 abbrev pub run_refusal : RunFault → Refusal

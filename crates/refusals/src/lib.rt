@@ -1,16 +1,22 @@
-//! Why a call of `compose` ended otherwise than well, with the exit status and the line of each reason.
+//! Why a call of `compose` ended otherwise than well, with the exit status and the line of each reason: what loading
+//! refuses, what a run is refused with, and the faults of the outside.
 //!
-//! Contracts say the status and the line of every refusal exactly.
+//! Contracts say the status and the line of every refusal exactly, and what a sink grew by that a line was said to: the
+//! whole line, or a prefix of it where the sink's count of faults rose. A refusal whose line finds no memory is said as a
+//! want of memory.
 #![tactic(auto)]
 
 mod condition;
 mod line;
-mod path;
+mod load_refusal;
 mod refusal;
 mod run_refusal;
+mod saying;
 mod status;
 
 pub use line::refusal_line;
-pub use refusal::{LoadRefusal, Part, ProjectRefusal, Refusal, Unbuilt};
+pub use plain_services::{LoadRefusal, ProjectRefusal, Unbuilt};
+pub use refusal::{Part, Refusal};
 pub use run_refusal::refusal_of;
+pub use saying::{say, say_if_any};
 pub use status::{refusal_status, status_of};

@@ -2,18 +2,15 @@ ghost use Rattle.std.specs.Prelude.{◌≡◌, ◌++◌, IfOk};
 ghost use Rattle.run_model.specs.Lines.{request_words, cause_words, kind_words, refused_words, lost_words, not_sent_words, outcome_words, seen_words};
 ghost use Rattle.engine_types.specs.declared.Outcome.{Outcome};
 ghost use Rattle.engine_types.specs.declared.SeenFault.{SeenFault};
-ghost use Rattle.refusals.specs.declared.refusal.LoadRefusal.{LoadRefusal};
 ghost use Rattle.refusals.specs.declared.refusal.Refusal.{Refusal};
-ghost use Rattle.refusals.specs.declared.refusal.ProjectRefusal.{ProjectRefusal};
-ghost use Rattle.refusals.specs.Lines.{refusal_line, refusal_words, unbuilt_words, load_words, project_words, part_words};
+ghost use Rattle.refusals.specs.Lines.{refusal_line, refusal_words};
 
 use crate::condition::failed_words;
-use crate::path::path_words;
-use crate::refusal::{LoadRefusal, Part, ProjectRefusal, Refusal, Unbuilt};
+use crate::refusal::{Part, Refusal};
 use engine_types::{Kind, Outcome, Reply, Request, SeenFault, WireEnd};
+use plain_services::{load_words, project_words, unbuilt_words};
 use std::alloc::Global;
 use tree_base::{Memory, Text};
-use yaml_lines::YamlRefusal;
 
 /// The line that a refusal prints, with its line feed.
 pub fn refusal_line(alloc: Global, refusal: &Refusal) -> Result<Text, Memory>
@@ -46,61 +43,11 @@ fn refusal_words(alloc: Global, refusal: &Refusal) -> Result<Text, Memory>
     }
 }
 
-fn unbuilt_words(alloc: Global, unbuilt: &Unbuilt) -> Result<Text, Memory>
-    ensures { IfOk result (λ words. words ≡ unbuilt_words unbuilt.now) }
-{
-    match unbuilt {
-        Unbuilt::Words => Text::from_str(alloc, "not built: words"),
-        Unbuilt::Attribute { path } => after_text(alloc, &path_words(alloc, path)?, ": not built"),
-    }
-}
-
-fn load_words(alloc: Global, refusal: &LoadRefusal) -> Result<Text, Memory>
-    ensures { IfOk result (λ words. words ≡ load_words refusal.now) }
-{
-    match refusal {
-        LoadRefusal::NotFound { path } => after_text(alloc, path, ": NotFound"),
-        LoadRefusal::ReadFault { path } => after_text(alloc, path, ": ReadFault"),
-        LoadRefusal::FileTooLarge { path } => after_text(alloc, path, ": FileTooLarge"),
-        LoadRefusal::Yaml { path, refusal } => yaml_words(alloc, path, refusal),
-    }
-}
-
-fn yaml_words(alloc: Global, path: &Text, refusal: &YamlRefusal) -> Result<Text, Memory>
-    ensures { IfOk result (λ words. words ≡ load_words (LoadRefusal.Yaml path.now refusal.now)) }
-{
-    let words = format!(in alloc; "{path}:{refusal}")?;
-    Ok(Text::from_string(words))
-}
-
-fn after_text(alloc: Global, text: &Text, words: &str) -> Result<Text, Memory>
-    ensures { IfOk result (λ all. all ≡ text.now ++ words.now) }
-{
-    let all = format!(in alloc; "{text}{words}")?;
-    Ok(Text::from_string(all))
-}
-
 pub(crate) fn before_text(alloc: Global, words: &str, text: &Text) -> Result<Text, Memory>
     ensures { IfOk result (λ all. all ≡ words.now ++ text.now) }
 {
     let all = format!(in alloc; "{words}{text}")?;
     Ok(Text::from_string(all))
-}
-
-fn project_words(alloc: Global, refusal: &ProjectRefusal) -> Result<Text, Memory>
-    ensures { IfOk result (λ words. words ≡ project_words refusal.now) }
-{
-    match refusal {
-        ProjectRefusal::BadName { name } => before_text(alloc, "bad project name: ", name),
-        ProjectRefusal::TooManyServices { count } => services_words(alloc, *count),
-    }
-}
-
-fn services_words(alloc: Global, count: u32) -> Result<Text, Memory>
-    ensures { IfOk result (λ words. words ≡ project_words (ProjectRefusal.TooManyServices count)) }
-{
-    let words = format!(in alloc; "TooManyServices: {count}")?;
-    Ok(Text::from_string(words))
 }
 
 fn fault_words(alloc: Global, part: Part) -> Result<Text, Memory>
@@ -131,7 +78,7 @@ fn seen_words(alloc: Global, fault: &SeenFault) -> Result<Text, Memory>
         } => twice_words(alloc, name, first, second),
         SeenFault::ForeignNetwork { name, id } => foreign_words(alloc, name, id),
         SeenFault::ExternalMissing { kind, name } => missing_words(alloc, *kind, name),
-        SeenFault::NeedsBuild { service } => after_text(alloc, service, " needs a build"),
+        SeenFault::NeedsBuild { service } => build_words(alloc, service),
         SeenFault::TooManyActions { count } => count_words(alloc, *count),
         SeenFault::Memory => Text::from_str(alloc, "memory"),
     }
@@ -163,6 +110,13 @@ fn missing_words(alloc: Global, kind: Kind, name: &Text) -> Result<Text, Memory>
 {
     let kind = kind_words(kind);
     let words = format!(in alloc; "external {kind} {name} is missing")?;
+    Ok(Text::from_string(words))
+}
+
+fn build_words(alloc: Global, service: &Text) -> Result<Text, Memory>
+    ensures { IfOk result (λ words. words ≡ seen_words (SeenFault.NeedsBuild service.now)) }
+{
+    let words = format!(in alloc; "{service} needs a build")?;
     Ok(Text::from_string(words))
 }
 

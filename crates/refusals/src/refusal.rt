@@ -1,6 +1,6 @@
 use engine_types::{Condition, LateWhy, Outcome, Report, Request, SeenFault};
-use tree_base::{Path, Text};
-use yaml_lines::YamlRefusal;
+use plain_services::{LoadRefusal, ProjectRefusal, Unbuilt};
+use tree_base::Text;
 
 /// Why a call ended otherwise than well. Each has its exit status and the line that it prints.
 #[derive(Drop)]
@@ -34,35 +34,6 @@ pub enum Refusal {
     Outside(Part),
     /// Memory was wanted.
     Memory,
-}
-
-/// What is not built yet.
-#[derive(Debug, Drop)]
-pub enum Unbuilt {
-    /// The words of the command line.
-    Words,
-    /// What stands at a path of the project's tree.
-    Attribute { path: Path },
-}
-
-/// Why a project couldn't be loaded, with the path of the file.
-#[derive(Debug, Drop)]
-pub enum LoadRefusal {
-    NotFound { path: Text },
-    ReadFault { path: Text },
-    /// The file has more bytes than the limit.
-    FileTooLarge { path: Text },
-    /// The file's text is no YAML, or YAML past a limit of its reader.
-    Yaml { path: Text, refusal: YamlRefusal },
-}
-
-/// What is wrong with a project.
-#[derive(Debug, Drop)]
-pub enum ProjectRefusal {
-    /// The project's name, or what is left of the directory's name, isn't one.
-    BadName { name: Text },
-    /// The project has more services than the limit.
-    TooManyServices { count: u32 },
 }
 
 /// The parts of the outside whose faults end a call.

@@ -1,10 +1,10 @@
 ghost use Rattle.std.specs.Prelude.{◌≡◌};
 ghost use Rattle.run_model.specs.Ending.{lost_status, seen_status, outcome_status};
-ghost use Rattle.refusals.specs.Statuses.{unbuilt_status, yaml_status, load_status, project_status, refusal_status, status_of};
+ghost use Rattle.refusals.specs.Statuses.{refusal_status, status_of};
 
-use crate::refusal::{LoadRefusal, ProjectRefusal, Refusal, Unbuilt};
+use crate::refusal::Refusal;
 use engine_types::{Outcome, SeenFault, WireEnd};
-use yaml_lines::YamlRefusal;
+use plain_services::{load_status, project_status, unbuilt_status};
 
 /// The exit status of a call: 0 where nothing is refused.
 pub fn status_of(refusal: &Option<Refusal>) -> u8
@@ -32,47 +32,6 @@ pub fn refusal_status(refusal: &Refusal) -> u8
         Refusal::Late(_) => 6,
         Refusal::Outside(_) => 7,
         Refusal::Memory => 9,
-    }
-}
-
-fn unbuilt_status(unbuilt: &Unbuilt) -> u8
-    ensures { result ≡ unbuilt_status unbuilt.now }
-{
-    match unbuilt {
-        Unbuilt::Words => 1,
-        Unbuilt::Attribute { .. } => 2,
-    }
-}
-
-fn project_status(refusal: &ProjectRefusal) -> u8
-    ensures { result ≡ project_status refusal.now }
-{
-    match refusal {
-        ProjectRefusal::BadName { .. } => 2,
-        ProjectRefusal::TooManyServices { .. } => 8,
-    }
-}
-
-fn load_status(refusal: &LoadRefusal) -> u8
-    ensures { result ≡ load_status refusal.now }
-{
-    match refusal {
-        LoadRefusal::NotFound { .. } => 2,
-        LoadRefusal::ReadFault { .. } => 7,
-        LoadRefusal::FileTooLarge { .. } => 8,
-        LoadRefusal::Yaml { refusal, .. } => yaml_status(refusal),
-    }
-}
-
-fn yaml_status(refusal: &YamlRefusal) -> u8
-    ensures { result ≡ yaml_status refusal.now }
-{
-    match refusal {
-        YamlRefusal::Bad { .. } => 2,
-        YamlRefusal::TooDeep { .. } => 8,
-        YamlRefusal::TooManyNodes { .. } => 8,
-        YamlRefusal::TooMuchText { .. } => 8,
-        YamlRefusal::Memory => 9,
     }
 }
 

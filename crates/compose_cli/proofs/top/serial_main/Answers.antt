@@ -17,24 +17,24 @@ use Rattle.compose_cli.proofs.top.serial_main.Goals as goal
 pub returns-in-Err-clause-loading : goal.returns-in-Err-clause-loading
 returns-in-Err-clause-loading g c =
     IfSome-map (g.F.Files.told c.args.files.now) _ _ c.in-Err.ensures.told
-    (λ contents loads. refused_with (loaded c.args.words.now c.args.cwd.now contents) c.in-Err.refusal c.refused.result c.refused.ensures.nothing loads c.refused.ensures.refusal)
+    (λ contents loads. refused_with (loaded c.args.words.now c.args.cwd.now contents) c.in-Err.refusal c.from.result c.refused.result c.from.ensures.refusal c.refused.ensures.nothing loads c.refused.ensures.refusal)
 
 pub returns-in-Err-clause-run_complete : goal.returns-in-Err-clause-run_complete
 returns-in-Err-clause-run_complete g c =
-    only_reads c.args.words.now c.args.cwd.now (g.F.Files.told c.args.files.now) (g.F.Files.faults c.args.files.now) (g.F.Files.faults c.load.new.files) c.in-Err.refusal c.refused.result.refusal c.in-Err.ensures.told
+    only_reads c.args.words.now c.args.cwd.now (g.F.Files.told c.args.files.now) (g.F.Files.faults c.args.files.now) (g.F.Files.faults c.load.new.files) c.in-Err.refusal c.from.result c.refused.result.refusal c.from.ensures.refusal c.in-Err.ensures.told
     (λ path e. failed_read c.args.words.now c.args.cwd.now (g.F.Files.faults c.args.files.now) (g.F.Files.faults c.load.new.files) (Err c.in-Err.refusal) c.in-Err.ensures.words c.in-Err.ensures.path c.in-Err.ensures.read path (ap Err e)) c.refused.ensures.refusal
 
 pub returns-in-Err-clause-read_fault : goal.returns-in-Err-clause-read_fault
 returns-in-Err-clause-read_fault g c =
-    said_read c.args.words.now c.args.cwd.now (g.F.Files.told c.args.files.now) (g.F.Files.faults c.args.files.now) (g.F.Files.faults c.load.new.files) c.in-Err.refusal c.refused.result.refusal
+    said_read c.args.words.now c.args.cwd.now (g.F.Files.told c.args.files.now) (g.F.Files.faults c.args.files.now) (g.F.Files.faults c.load.new.files) c.in-Err.refusal c.from.result c.refused.result.refusal c.from.ensures.refusal
     (λ path e. failed_read c.args.words.now c.args.cwd.now (g.F.Files.faults c.args.files.now) (g.F.Files.faults c.load.new.files) (Err c.in-Err.refusal) c.in-Err.ensures.words c.in-Err.ensures.path c.in-Err.ensures.read path (ap Err e)) c.refused.ensures.refusal
 
 pub returns-in-Err-clause-words_only : goal.returns-in-Err-clause-words_only
 returns-in-Err-clause-words_only g c =
-    said_words c.in-Err.refusal c.refused.result.refusal _ (λ e. c.in-Err.ensures.words_only (ap Err e)) c.refused.ensures.refusal
+    said_words c.in-Err.refusal c.from.result c.refused.result.refusal _ c.from.ensures.refusal (λ e. c.in-Err.ensures.words_only (ap Err e)) c.refused.ensures.refusal
 
 pub returns-in-Err-clause-dial : goal.returns-in-Err-clause-dial
-returns-in-Err-clause-dial g c = λ e. absurd (no_fault_of_plug c.in-Err.refusal c.refused.result.refusal c.in-Err.ensures.kind c.refused.ensures.refusal e)
+returns-in-Err-clause-dial g c = λ e. absurd (no_fault_of_plug c.from.result c.refused.result.refusal c.from.ensures.kind c.refused.ensures.refusal e)
 
 pub returns-in-Ok-clause-legal : goal.returns-in-Ok-clause-legal
 returns-in-Ok-clause-legal g c = if_begun c.run_project.result.journal c.run_project.ensures.ran (λ ran.
@@ -81,13 +81,13 @@ returns-in-Ok-clause-gone_in_each_world g c = λ zero. let none = not_refused c.
     for_task c.args.words.now c.args.cwd.now (g.F.Files.told c.args.files.now) (aim_of c.in-Some.aim) c.in-Ok.project (λ task. is_up task.aim.purpose ≡ false → EndsGone task c.run_project.result.journal) (asked c.command_of.result c.args.words.now c.aim_for.result c.in-Some.aim c.command_of.ensures c.aim_for.ensures c.in-Some.is) c.in-Ok.ensures.told c.in-Ok.ensures.text ((has_begun c.run_project.result.journal c.run_project.result.refusal c.run_project.ensures.unbegun none c.run_project.ensures.ran).gone none)
 
 pub returns-in-Err-clause-exact : goal.returns-in-Err-clause-exact
-returns-in-Err-clause-exact g c = λ zero. absurd (said_not_zero c.in-Err.refusal c.refused.result.refusal c.refused.result.status c.refused.ensures.refusal c.refused.ensures.status zero)
+returns-in-Err-clause-exact g c = λ zero. absurd (said_not_zero c.from.result c.refused.result.refusal c.refused.result.status c.refused.ensures.refusal c.refused.ensures.status zero)
 
 pub returns-in-Err-clause-gone : goal.returns-in-Err-clause-gone
-returns-in-Err-clause-gone g c = λ zero. absurd (said_not_zero c.in-Err.refusal c.refused.result.refusal c.refused.result.status c.refused.ensures.refusal c.refused.ensures.status zero)
+returns-in-Err-clause-gone g c = λ zero. absurd (said_not_zero c.from.result c.refused.result.refusal c.refused.result.status c.refused.ensures.refusal c.refused.ensures.status zero)
 
 pub returns-in-Err-clause-exact_in_each_world : goal.returns-in-Err-clause-exact_in_each_world
-returns-in-Err-clause-exact_in_each_world g c = λ zero. absurd (said_not_zero c.in-Err.refusal c.refused.result.refusal c.refused.result.status c.refused.ensures.refusal c.refused.ensures.status zero)
+returns-in-Err-clause-exact_in_each_world g c = λ zero. absurd (said_not_zero c.from.result c.refused.result.refusal c.refused.result.status c.refused.ensures.refusal c.refused.ensures.status zero)
 
 pub returns-in-Err-clause-gone_in_each_world : goal.returns-in-Err-clause-gone_in_each_world
-returns-in-Err-clause-gone_in_each_world g c = λ zero. absurd (said_not_zero c.in-Err.refusal c.refused.result.refusal c.refused.result.status c.refused.ensures.refusal c.refused.ensures.status zero)
+returns-in-Err-clause-gone_in_each_world g c = λ zero. absurd (said_not_zero c.from.result c.refused.result.refusal c.refused.result.status c.refused.ensures.refusal c.refused.ensures.status zero)

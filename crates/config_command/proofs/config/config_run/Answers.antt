@@ -1,7 +1,7 @@
 use Rattle.config_command.specs.Commands.{OnlyOutsideFails}
 use Rattle.config_command.proofs.Loads.{IfSome-map, IsRefusedAs, free_memory, loads_weaker}
 use Rattle.plain_services.specs.Loading.{loaded}
-use Rattle.text_output.proofs.Said.{said_if_any}
+use Rattle.refusals.proofs.Said.{said_if_any}
 use Rattle.config_command.proofs.config.config_run.Goals as goal
 
 pub returns-clause-complete : goal.returns-clause-complete

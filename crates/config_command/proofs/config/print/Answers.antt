@@ -1,11 +1,11 @@
 use Rattle.std.proofs.Common.{Some, Err, ap, inr}
 use Rattle.config_command.specs.Commands.{GrewByPrefix, OnlyOutsideFails}
-use Rattle.config_command.proofs.Loads.{IfSome-map, failed_read, for_project, if_loads, loaded_refusal, not_loaded, same_refusal}
+use Rattle.config_command.proofs.Loads.{IfSome-map, failed_read, for_project, if_loads, joined_refusal, not_loaded, same_refusal}
 use Rattle.config_command.proofs.Printed.{page_complete, page_prefix}
 use Rattle.plain_services.specs.Loading.{loaded}
-use Rattle.refusals.specs.declared.LoadRefusal.{LoadRefusal}
-use Rattle.refusals.specs.declared.Refusal.{Refusal}
-use Rattle.refusals.specs.declared.Unbuilt.{Unbuilt}
+use Rattle.plain_services.specs.declared.LoadRefusal.{LoadRefusal}
+use Rattle.plain_services.specs.declared.PlainRefusal.{PlainRefusal}
+use Rattle.plain_services.specs.declared.Unbuilt.{Unbuilt}
 use Rattle.config_command.proofs.config.print.Goals as goal
 
 pub returns-in-Ok-clause-prefix : goal.returns-in-Ok-clause-prefix
@@ -16,7 +16,7 @@ returns-in-Ok-clause-prefix g c =
 pub returns-in-Err-clause-loading : goal.returns-in-Err-clause-loading
 returns-in-Err-clause-loading g c =
     IfSome-map (g.F.Files.told c.args.files.now) _ _ c.in-Err.ensures.told
-    (λ contents loads. loaded_refusal (loaded c.args.words.now c.args.cwd.now contents) c.in-Err.refusal loads)
+    (λ contents loads. joined_refusal (loaded c.args.words.now c.args.cwd.now contents) c.in-Err.refusal c.from.result c.from.ensures.refusal loads)
 
 pub returns-in-Ok-clause-complete : goal.returns-in-Ok-clause-complete
 returns-in-Ok-clause-complete g c =
@@ -27,13 +27,13 @@ returns-in-Ok-clause-complete g c =
 pub returns-in-Err-clause-complete : goal.returns-in-Err-clause-complete
 returns-in-Err-clause-complete g c =
     not_loaded (λ refusal. OnlyOutsideFails c.args.cwd.now (g.F.Files.faults c.args.files.now) (g.F.Files.faults c.load.new.files) (g.O.Sink.faults c.args.out.now) (g.O.Sink.faults c.args.out.now) (Some refusal))
-    c.args.words.now c.args.cwd.now (g.F.Files.told c.args.files.now) c.in-Err.refusal c.in-Err.ensures.told tt
+    c.args.words.now c.args.cwd.now (g.F.Files.told c.args.files.now) c.in-Err.refusal c.from.result c.from.ensures.refusal c.in-Err.ensures.told tt
     (λ path e. (c.in-Err.ensures.path path (ap Err e), c.in-Err.ensures.read path (ap Err e)))
 
 pub returns-in-Err-clause-read_fault : goal.returns-in-Err-clause-read_fault
 returns-in-Err-clause-read_fault g c = λ path e.
     failed_read c.args.words.now c.args.cwd.now (g.F.Files.faults c.args.files.now) (g.F.Files.faults c.load.new.files) (Err c.in-Err.refusal)
-    c.in-Err.ensures.words c.in-Err.ensures.path c.in-Err.ensures.read path (same_refusal c.in-Err.refusal (Refusal.Load (LoadRefusal.ReadFault path)) e)
+    c.in-Err.ensures.words c.in-Err.ensures.path c.in-Err.ensures.read path (same_refusal c.in-Err.refusal (PlainRefusal.Load (LoadRefusal.ReadFault path)) c.from.result c.from.ensures.refusal e)
 
 pub returns-in-Err-clause-words_only : goal.returns-in-Err-clause-words_only
-returns-in-Err-clause-words_only g c = λ e. c.in-Err.ensures.words_only (same_refusal c.in-Err.refusal (Refusal.NotBuilt Unbuilt.Words) e)
+returns-in-Err-clause-words_only g c = λ e. c.in-Err.ensures.words_only (same_refusal c.in-Err.refusal (PlainRefusal.NotBuilt Unbuilt.Words) c.from.result c.from.ensures.refusal e)

@@ -1,10 +1,11 @@
 ghost use Rattle.std.specs.Prelude.{◌≡◌, Some};
-ghost use Rattle.text_output.specs.Saying.{IsSaid, IsSaidIfAny, SaysRefusal};
+ghost use Rattle.refusals.specs.Saying.{IsSaid, IsSaidIfAny, SaysRefusal};
 ghost use Rattle.outside_files.specs.Writing.{Says};
 ghost use Rattle.refusals.specs.Lines.{refusal_line};
 
+use crate::line::refusal_line;
+use crate::refusal::Refusal;
 use outside_files::{Sink, write_all};
-use refusals::{Refusal, refusal_line};
 use std::alloc::Global;
 
 /// Writes the line of a refusal. Where there is no memory for the line, the refusal is Memory.

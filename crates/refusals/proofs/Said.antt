@@ -2,7 +2,7 @@
 use Rattle.std.proofs.Common.{◌≡◌, Some, None, sym, subst, refl}
 use Rattle.std.specs.Prelude.{Option}
 use Rattle.refusals.specs.declared.Refusal.{Refusal}
-use Rattle.text_output.specs.Saying.{IsSaid, IsSaidIfAny}
+use Rattle.refusals.specs.Saying.{IsSaid, IsSaidIfAny}
 
 -- what holds of the refusal, and of a want of memory, holds of what is said
 pub said : (refusal : Refusal) (found : Option Refusal) → IsSaid refusal found → (P : Option Refusal → Type 0) → P (Some Refusal.Memory) → P (Some refusal) → P found

@@ -1,6 +1,6 @@
 -- What a call is refused with.
 use Rattle.std.specs.Prelude.{◌≡◌, Option, Some}
-use Rattle.refusals.specs.declared.LoadRefusal.{LoadRefusal}
+use Rattle.plain_services.specs.declared.LoadRefusal.{LoadRefusal}
 use Rattle.refusals.specs.declared.Refusal.{Refusal}
 
 -- the refusal is this one; a read that failed and a want of memory may stand in its place

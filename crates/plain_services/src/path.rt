@@ -1,6 +1,6 @@
 ghost use Rattle.std.specs.Prelude.{◌≡◌, ◌++◌, IfOk, OnOk};
 ghost use Rattle.std.specs.List.{flat_map};
-ghost use Rattle.refusals.specs.Paths.{path_words, step_words};
+ghost use Rattle.plain_services.specs.Paths.{path_words, step_words};
 
 use std::alloc::Global;
 use tree_base::{Memory, Path, Step, Text};
