@@ -1,6 +1,6 @@
 use case_files::{Answers, CaseFault, Fields};
 use cases_ground::{scalar_in, under_keys};
-use project_print::{Dollars, Node, json_text, page_json};
+use project_print::{Dollars, Node, json_text, node_page, node_page_json};
 use std::alloc::Global;
 use tree_base::{List, Map, Text, Tree};
 use yaml_lines::{YamlRefusal, scan};
@@ -22,13 +22,13 @@ fn put_pages(alloc: Global, node: &Node, answers: &mut Answers) -> Result<(), Ca
 }
 
 fn put_yaml(alloc: Global, node: &Node, answers: &mut Answers) -> Result<(), CaseFault> {
-    let page = project_print::page(alloc, node)?;
+    let page = node_page(alloc, node)?;
     answers.put_text("yaml", page.as_str())?;
     put_read_back(alloc, page.as_str(), answers)
 }
 
 fn put_json(alloc: Global, node: &Node, answers: &mut Answers) -> Result<(), CaseFault> {
-    let json = page_json(alloc, node)?;
+    let json = node_page_json(alloc, node)?;
     answers.put_text("json", json.as_str())
 }
 
@@ -62,9 +62,9 @@ pub(crate) fn page_scalar(
 }
 
 fn put_spelling(alloc: Global, node: &Node, answers: &mut Answers) -> Result<(), CaseFault> {
-    let page = project_print::page(alloc, node)?;
+    let page = node_page(alloc, node)?;
     put_line(alloc, "yaml", page.as_str(), answers)?;
-    let json = page_json(alloc, node)?;
+    let json = node_page_json(alloc, node)?;
     put_line(alloc, "json", json.as_str(), answers)
 }
 

@@ -1,8 +1,13 @@
+ghost use Rattle.std.specs.Prelude.{IfOk};
+ghost use Rattle.service_attrs.specs.Projects.{IsInOrder};
+
 use crate::words::words_of;
 use case_files::{Answers, CaseFault, Fields};
 use cases_ground::Entries;
 use outside_files::MemoryFiles;
-use plain_services::{Command, PlainRefusal, PlainService, Project, refusal_words};
+use plain_services::{Command, PlainRefusal, refusal_status, refusal_words};
+use project_print::{page, page_json};
+use service_attrs::{Project, Service};
 use std::alloc::Global;
 use tree_base::{List, Memory, Text, TextMap, Tree};
 
@@ -35,7 +40,8 @@ fn put_with_orphans(name: &str, orphans: bool, answers: &mut Answers) -> Result<
 
 /// `load: TEXT` by `words` (`config`) in a `directory` (`/w/shop`), where the text stands in `file`
 /// (`/w/shop/compose.yaml`) and the reads with the numbers `failing` fail, so many `times` (once): the `project` that the
-/// last one gives, with the `count` of its services, and the `bytes` of their names and images.
+/// last one gives, with the `count` of its services, the `bytes` of their keys and images, and its page as `yaml` and as
+/// `json`; or the exit `status` of its refusal.
 pub(crate) fn load(alloc: Global, fields: &Fields, answers: &mut Answers) -> Result<(), CaseFault> {
     let mut files = files_of(alloc, fields)?;
     let answered = load_words(alloc, fields, &mut files, answers);
@@ -67,7 +73,9 @@ fn put_loaded(
     alloc: Global,
     loaded: Result<Project, PlainRefusal>,
     answers: &mut Answers,
-) -> Result<(), CaseFault> {
+) -> Result<(), CaseFault>
+    requires order { IfOk loaded (λ project. IsInOrder project.services) }
+{
     let answered = match &loaded {
         Ok(project) => put_project(alloc, project, answers),
         Err(refusal) => refuse_load(alloc, refusal, answers),
@@ -99,38 +107,51 @@ fn refuse_load(
     refusal: &PlainRefusal,
     answers: &mut Answers,
 ) -> Result<(), CaseFault> {
+    answers.put_number("status", u64::from(refusal_status(refusal)))?;
     let words = refusal_words(alloc, refusal)?;
     answers.refuse(words.as_str())
 }
 
-fn put_project(alloc: Global, project: &Project, answers: &mut Answers) -> Result<(), CaseFault> {
+fn put_project(alloc: Global, project: &Project, answers: &mut Answers) -> Result<(), CaseFault>
+    requires order { IsInOrder project.now.services }
+{
+    put_pages(alloc, project, answers)?;
     let services = project.services.as_slice();
     answers.put_number("count", services.len() as u64)?;
     answers.put_number("bytes", bytes_in(services))?;
     answers.put("project", project_tree(alloc, &project.name, services)?)
 }
 
-fn bytes_in(services: &[PlainService]) -> u64 {
+fn put_pages(alloc: Global, project: &Project, answers: &mut Answers) -> Result<(), CaseFault>
+    requires order { IsInOrder project.now.services }
+{
+    let yaml = page(alloc, project)?;
+    answers.put_text("yaml", yaml.as_str())?;
+    let json = page_json(alloc, project)?;
+    answers.put_text("json", json.as_str())
+}
+
+fn bytes_in(services: &[Service]) -> u64 {
     let mut bytes = 0u64;
     for service in services {
-        let both = (service.name.len() as u64).saturating_add(service.image.len() as u64);
+        let both = (service.key.len() as u64).saturating_add(service.image.len() as u64);
         bytes = bytes.saturating_add(both);
     }
     bytes
 }
 
 /// `{name: NAME, services: {SERVICE: IMAGE, ..}}`
-fn project_tree(alloc: Global, name: &Text, services: &[PlainService]) -> Result<Tree, Memory> {
+fn project_tree(alloc: Global, name: &Text, services: &[Service]) -> Result<Tree, Memory> {
     let mut entries = Entries::new(alloc);
     entries.text("name", name.as_str());
     entries.tree("services", images_tree(alloc, services));
     entries.whole()
 }
 
-fn images_tree(alloc: Global, services: &[PlainService]) -> Result<Tree, Memory> {
+fn images_tree(alloc: Global, services: &[Service]) -> Result<Tree, Memory> {
     let mut images = Entries::new(alloc);
     for service in services {
-        images.text(service.name.as_str(), service.image.as_str());
+        images.text(service.key.as_str(), service.image.as_str());
     }
     images.whole()
 }

@@ -1,7 +1,7 @@
 use case_files::{Answers, CaseFault, Fields};
 use engine_types::{Declared, Slot, label, labels};
 use identity::declare as declare_project;
-use plain_services::{PlainService, Project};
+use service_attrs::{Project, Service};
 use std::alloc::Global;
 use tree_base::{Env, List, Memory, Text};
 
@@ -18,7 +18,7 @@ pub(crate) fn declare(
     answers.put_texts("slots", slot_lines(alloc, &declared)?)
 }
 
-fn services_of(alloc: Global, images: &Env) -> Result<List<PlainService>, Memory> {
+fn services_of(alloc: Global, images: &Env) -> Result<List<Service>, Memory> {
     let mut services = List::new(alloc);
     for (name, image) in images.keys().iter().zip(images.values()) {
         services.push(service_of(alloc, name, image)?)?;
@@ -26,9 +26,9 @@ fn services_of(alloc: Global, images: &Env) -> Result<List<PlainService>, Memory
     Ok(services)
 }
 
-fn service_of(alloc: Global, name: &Text, image: &Text) -> Result<PlainService, Memory> {
-    Ok(PlainService {
-        name: name.copy(alloc)?,
+fn service_of(alloc: Global, name: &Text, image: &Text) -> Result<Service, Memory> {
+    Ok(Service {
+        key: name.copy(alloc)?,
         image: image.copy(alloc)?,
     })
 }

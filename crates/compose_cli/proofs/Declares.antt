@@ -3,8 +3,8 @@ use Rattle.std.proofs.Common.{◌≡◌, ℕ, List, subst}
 use Rattle.engine_types.specs.declared.Slot.{Slot}
 use Rattle.identity.proofs.Declares.{declares_plain, each_slot, own_endpoint, own_hash, own_image, own_labels, own_number}
 use Rattle.identity.specs.Declaring.{declared_of, slot_of}
-use Rattle.plain_services.specs.declared.PlainService.{PlainService}
-use Rattle.plain_services.specs.declared.Project.{Project}
+use Rattle.service_attrs.specs.declared.Service.{Service}
+use Rattle.service_attrs.specs.declared.Project.{Project}
 use Rattle.run_model.specs.EngineRules.{Among}
 use Rattle.serial_run.specs.Serial.{NeedsNoSlot}
 use Rattle.world_laws.specs.OwnSpecs.{HasOwnSpecs, IsOwnSpec}
@@ -13,7 +13,7 @@ module _ (project : Project) where
   pub needs_no_slot : NeedsNoSlot (declared_of project)
   needs_no_slot = declares_plain project
 
-  own_spec : (service : PlainService) → IsOwnSpec (declared_of project) (slot_of project.name service)
+  own_spec : (service : Service) → IsOwnSpec (declared_of project) (slot_of project.name service)
   own_spec service = record {
     labels = own_labels project.name service;
     hash = own_hash project.name service;

@@ -11,7 +11,7 @@ use Rattle.plain_services.specs.Commands.{command_of}
 use Rattle.plain_services.specs.Loading.{LoadsAs, loaded}
 use Rattle.compose_cli.specs.declared.ended.Ended.{Ended}
 use Rattle.plain_services.specs.declared.PlainRefusal.{PlainRefusal}
-use Rattle.plain_services.specs.declared.Project.{Project}
+use Rattle.service_attrs.specs.declared.Project.{Project}
 use Rattle.run_model.specs.Plans.{Aim}
 use Rattle.plain_services.specs.declared.LoadRefusal.{LoadRefusal}
 use Rattle.refusals.specs.declared.Part.{Part}

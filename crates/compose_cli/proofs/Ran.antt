@@ -14,7 +14,7 @@ use Rattle.observe_project.specs.Exchanges.{HasCauseOfEnd, HasCauseOfFault}
 use Rattle.config_command.proofs.Loads.{for_project}
 use Rattle.plain_services.specs.Commands.{command_of}
 use Rattle.plain_services.specs.Loading.{IsSpelled, LoadsAs, loaded}
-use Rattle.plain_services.specs.declared.Project.{Project}
+use Rattle.service_attrs.specs.declared.Project.{Project}
 use Rattle.outside_files.specs.Counts.{Rose}
 use Rattle.outside_files.specs.Files.{Contents}
 use Rattle.outside_api.specs.Hands.{BeginsWith, HasCause, Heard, HearsMore}

@@ -14,7 +14,7 @@ use Rattle.outside_api.specs.Hands.{Heard}
 use Rattle.outside_files.specs.Sinks.{GrewBy}
 use Rattle.plain_services.specs.Commands.{command_of}
 use Rattle.plain_services.specs.declared.Command.{Command}
-use Rattle.plain_services.specs.declared.Project.{Project}
+use Rattle.service_attrs.specs.declared.Project.{Project}
 use Rattle.project_run.specs.Whole.{IfBegun, IsCaused, SparesKept, task_of}
 use Rattle.project_run.specs.Worlds.{EndsExact, EndsGone}
 use Rattle.refusals.specs.Origins.{run_refusal}

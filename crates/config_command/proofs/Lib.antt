@@ -1,4 +1,3 @@
-pub mod Entries
 pub mod Lines
 pub mod Loads
 pub mod PlainWords

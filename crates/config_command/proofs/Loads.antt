@@ -7,7 +7,7 @@ use Rattle.outside_files.specs.Files.{Contents}
 use Rattle.plain_services.specs.Commands.{command_of}
 use Rattle.plain_services.specs.Loading.{IsSpelled, LoadsAs, compose_path, loaded}
 use Rattle.plain_services.specs.declared.PlainRefusal.{PlainRefusal}
-use Rattle.plain_services.specs.declared.Project.{Project}
+use Rattle.service_attrs.specs.declared.Project.{Project}
 use Rattle.plain_services.specs.declared.LoadRefusal.{LoadRefusal}
 use Rattle.refusals.specs.Origins.{loading_refusal}
 use Rattle.refusals.specs.declared.Refusal.{Refusal}

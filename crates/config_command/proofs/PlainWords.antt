@@ -5,7 +5,7 @@ use Rattle.std.specs.List.{list_all}
 use Rattle.std.proofs.lemmas.List.Elements.{All-head, All-tail}
 use Rattle.config_command.specs.Laws.{PlainPagesAreFiles, service_lines, text_word}
 use Rattle.plain_services.specs.Laws.{print_of}
-use Rattle.plain_services.specs.declared.PlainService.{PlainService}
+use Rattle.service_attrs.specs.declared.Service.{Service}
 use Rattle.project_print.specs.Scalars.{begins_plain, doubled, in_quotes, is_plain, is_plain_byte, is_word, means_more, scalar}
 use Rattle.config_command.proofs.Lines.{pages}
 
@@ -38,13 +38,13 @@ plain_text text e =
     let word : is_word text ≡ true = (both (is_word text) (not (means_more text)) e).0 in
     ap scalar (undoubled text (both (begins_plain text) (list_all is_plain_byte text) word).1) ∙ plain_key text e
 
-all_plain : (services : List PlainService) → All (λ service. is_plain service.name ≡ true) services → All (λ service. is_plain service.image ≡ true) services
+all_plain : (services : List Service) → All (λ service. is_plain service.key ≡ true) services → All (λ service. is_plain service.image ≡ true) services
     → flat_map service_lines services ≡ flat_map print_of services
 all_plain [] names images = refl
 all_plain (service ∷ services) names images =
-    let name = plain_key service.name (All-head (λ s. is_plain s.name ≡ true) service services names) in
+    let name = plain_key service.key (All-head (λ s. is_plain s.key ≡ true) service services names) in
     let image = plain_text service.image (All-head (λ s. is_plain s.image ≡ true) service services images) in
-    let rest = all_plain services (All-tail (λ s. is_plain s.name ≡ true) service services names) (All-tail (λ s. is_plain s.image ≡ true) service services images) in
+    let rest = all_plain services (All-tail (λ s. is_plain s.key ≡ true) service services names) (All-tail (λ s. is_plain s.image ≡ true) service services images) in
     (λ i. (codes "  " ++ (name i ++ (codes ":\n    image: " ++ (image i ++ codes "\n    network_mode: none\n")))) ++ rest i)
 
 pub plain_pages : PlainPagesAreFiles

@@ -3,9 +3,9 @@ use Rattle.std.proofs.Common.{ℕ, List, Some, None, length, sym, subst, arith}
 use Rattle.std.specs.Prelude.{Option}
 use Rattle.std.proofs.Math.Seq.{take-length}
 use Rattle.config_command.specs.Commands.{GrewByPrefix, OnlyOutsideFails, PrintsPage}
-use Rattle.config_command.specs.ProjectPages.{project_page}
+use Rattle.project_print.specs.ProjectPages.{project_page}
 use Rattle.outside_files.specs.Sinks.{GrewBy}
-use Rattle.plain_services.specs.declared.Project.{Project}
+use Rattle.service_attrs.specs.declared.Project.{Project}
 use Rattle.refusals.specs.declared.Part.{Part}
 use Rattle.refusals.specs.declared.Refusal.{Refusal}
 

@@ -1,13 +1,13 @@
 -- What the command `config` leaves.
 use Rattle.std.specs.Prelude.{◌≡◌, ◌≢◌, ◌≤◌, ℕ, List, Option, Some, None, IfSome, Ok, IfOk, length, take}
-use Rattle.config_command.specs.ProjectPages.{project_page}
+use Rattle.project_print.specs.ProjectPages.{project_page}
 use Rattle.outside_files.specs.Counts.{Rose}
 use Rattle.outside_files.specs.Files.{Contents}
 use Rattle.outside_files.specs.Sinks.{GrewBy}
 use Rattle.plain_services.specs.Commands.{command_of}
 use Rattle.plain_services.specs.Loading.{IsSpelled, compose_path, loaded}
 use Rattle.plain_services.specs.declared.Command.{Command}
-use Rattle.plain_services.specs.declared.Project.{Project}
+use Rattle.service_attrs.specs.declared.Project.{Project}
 use Rattle.plain_services.specs.declared.LoadRefusal.{LoadRefusal}
 use Rattle.refusals.specs.declared.Part.{Part}
 use Rattle.refusals.specs.declared.Refusal.{Refusal}

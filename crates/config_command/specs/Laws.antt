@@ -1,9 +1,9 @@
 -- Laws about the page of a project.
 use Rattle.std.specs.Prelude.{◌≡◌, ◌<◌, ℕ, true, List, [], ◌++◌, All, codes, flat_map, length}
-use Rattle.config_command.specs.ProjectPages.{project_page}
+use Rattle.project_print.specs.ProjectPages.{project_page}
 use Rattle.plain_services.specs.Laws.{prints_of}
-use Rattle.plain_services.specs.declared.PlainService.{PlainService}
-use Rattle.plain_services.specs.declared.Project.{Project}
+use Rattle.service_attrs.specs.declared.Service.{Service}
+use Rattle.service_attrs.specs.declared.Project.{Project}
 use Rattle.project_print.specs.Scalars.{doubled, is_plain, scalar}
 
 -- a text as a page has it: each dollar twice, and in quotes where it has to be
@@ -11,9 +11,9 @@ abbrev pub text_word : List ℕ → List ℕ
 text_word text = scalar (doubled text)
 
 -- the lines of a service, by its key and its image
-abbrev pub service_lines : PlainService → List ℕ
+abbrev pub service_lines : Service → List ℕ
 service_lines service =
-    codes "  " ++ (scalar service.name ++ (codes ":\n    image: " ++ (text_word service.image ++ codes "\n    network_mode: none\n")))
+    codes "  " ++ (scalar service.key ++ (codes ":\n    image: " ++ (text_word service.image ++ codes "\n    network_mode: none\n")))
 
 -- the page of a project that has a service is the line of its name, a line above the services, and the lines of each service
 abbrev pub PagesHaveTheirLines : Type 0
@@ -31,5 +31,5 @@ EmptyProjectsHaveTwoLines =
 abbrev pub PlainPagesAreFiles : Type 0
 PlainPagesAreFiles =
     (project : Project) → 0 < length project.services
-    → All (λ service. is_plain service.name ≡ true) project.services → All (λ service. is_plain service.image ≡ true) project.services
+    → All (λ service. is_plain service.key ≡ true) project.services → All (λ service. is_plain service.image ≡ true) project.services
     → project_page project ≡ codes "name: " ++ (text_word project.name ++ (codes "\n" ++ prints_of project.services))

@@ -1,11 +1,11 @@
 ghost use Rattle.std.specs.Prelude.{◌≡◌, ◌⊎◌, ◌↔◌, Some, None, IfSome, IfErr};
 ghost use Rattle.config_command.specs.Commands.{ForProject, GrewByPrefix, IfLoads, IsConfigOrNone, IsFailedRead, IsOfConfig, OnlyOutsideFails, PrintsPage};
-ghost use Rattle.config_command.specs.ProjectPages.{project_page};
+ghost use Rattle.project_print.specs.ProjectPages.{project_page};
 ghost use Rattle.outside_files.specs.Counts.{Rose};
 ghost use Rattle.outside_files.specs.Sinks.{GrewBy};
 ghost use Rattle.plain_services.specs.Commands.{command_of};
 ghost use Rattle.plain_services.specs.Loading.{loaded};
-ghost use Rattle.plain_services.specs.Projects.{IsInOrder};
+ghost use Rattle.service_attrs.specs.Projects.{IsInOrder};
 ghost use Rattle.refusals.specs.Origins.{IsOfLoading, loading_refusal};
 ghost use Rattle.refusals.specs.Statuses.{status_of};
 ghost use Rattle.plain_services.specs.declared.LoadRefusal.{LoadRefusal};
@@ -15,10 +15,11 @@ ghost use Rattle.plain_services.specs.declared.Unbuilt.{Unbuilt};
 ghost use Rattle.refusals.specs.Refused.{IsRefusal};
 ghost use Rattle.refusals.specs.Saying.{IsSaid, SaysRefusal};
 
-use crate::project_page::page_of;
 use outside_files::{Files, Sink, write_all};
-use plain_services::{Project, load};
+use plain_services::load;
+use project_print::page;
 use refusals::{Part, Refusal, say_if_any, status_of};
+use service_attrs::Project;
 use std::alloc::Global;
 use tree_base::{Env, List, Text};
 
@@ -111,7 +112,7 @@ fn write_page<O: Sink>(alloc: Global, project: &Project, out: &mut O) -> Option<
     requires order { IsInOrder project.now.services }
     ensures { PrintsPage project.now result (O.written out.old) (O.written out.new) (O.faults out.old) (O.faults out.new) }
 {
-    let Ok(page) = page_of(alloc, project) else {
+    let Ok(page) = page(alloc, project) else {
         return Some(Refusal::Memory);
     };
     if write_all(out, page.as_str().as_bytes()) {

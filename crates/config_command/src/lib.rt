@@ -7,7 +7,6 @@
 
 mod config;
 mod laws;
-mod project_page;
 
 pub use config::{ConfigEnd, config_run};
 pub use laws::{empty_projects_have_two_lines, pages_have_their_lines, plain_pages_are_files};

@@ -10,9 +10,9 @@ use Rattle.engine_types.specs.declared.Attach.{Attach}
 use Rattle.engine_types.specs.declared.Declared.{Declared}
 use Rattle.engine_types.specs.declared.Slot.{Slot}
 use Rattle.identity.specs.Declaring.{config_hash, declared_of, slot_of}
-use Rattle.plain_services.specs.Projects.{IsInOrder}
-use Rattle.plain_services.specs.declared.PlainService.{PlainService}
-use Rattle.plain_services.specs.declared.Project.{Project}
+use Rattle.service_attrs.specs.Projects.{IsInOrder}
+use Rattle.service_attrs.specs.declared.Service.{Service}
+use Rattle.service_attrs.specs.declared.Project.{Project}
 use Rattle.run_model.specs.EngineRules.{Among, endpoints_of, has_label}
 use Rattle.run_model.specs.Labels.{is_of_slot}
 use Rattle.run_model.specs.Plans.{IsWhole, is_slot_before, network_name}
@@ -38,11 +38,11 @@ mapped_among f (x ∷ xs) y (inr m) = mapped_among f xs y m
 
 module _ (project : Project) where
   -- each slot is that of a service
-  pub slot_is : (slot : Slot) → Among (declared_of project).slots slot → (service : PlainService) × (slot ≡ slot_of project.name service)
+  pub slot_is : (slot : Slot) → Among (declared_of project).slots slot → (service : Service) × (slot ≡ slot_of project.name service)
   slot_is slot m = mapped_among (slot_of project.name) project.services slot m
 
   -- what holds of the slot of each service holds of each slot
-  pub each_slot : (P : Slot → Type 0) → ((service : PlainService) → P (slot_of project.name service)) → (slot : Slot) → Among (declared_of project).slots slot → P slot
+  pub each_slot : (P : Slot → Type 0) → ((service : Service) → P (slot_of project.name service)) → (slot : Slot) → Among (declared_of project).slots slot → P slot
   each_slot P h slot m = subst P (sym (slot_is slot m).1) (h (slot_is slot m).0)
 
   slots_ascend : IsInOrder project.services → IsAscending is_slot_before (declared_of project).slots
@@ -68,13 +68,13 @@ module _ (project : Project) where
   declares_plain slot m = ap (λ (s : Slot). s.needs) (slot_is slot m).1
 
 -- a service's slot has a spec that is made for it, joins no network, and has a number of 32 bits
-module _ (project : List ℕ) (service : PlainService) where
+module _ (project : List ℕ) (service : Service) where
   pub own_number : (slot_of project service).number < 2 ^ 32
   own_number = omega arith
 
   pub own_labels : is_of_slot project (slot_of project service) (slot_of project service).spec.labels ≡ true
   unfolding digits
-  own_labels = rw (same_text project, same_text service.name) refl
+  own_labels = rw (same_text project, same_text service.key) refl
 
   pub own_hash : has_label (slot_of project service).spec.labels the.hash_label (slot_of project service).hash ≡ true
   own_hash = same_text (config_hash service.image)

@@ -10,8 +10,8 @@ use Rattle.engine_types.specs.declared.Declared.{Declared}
 use Rattle.engine_types.specs.declared.Policy.{Policy}
 use Rattle.engine_types.specs.declared.Slot.{Slot}
 use Rattle.run_model.specs.OneService.{plain_spec}
-use Rattle.plain_services.specs.declared.PlainService.{PlainService}
-use Rattle.plain_services.specs.declared.Project.{Project}
+use Rattle.service_attrs.specs.declared.Service.{Service}
+use Rattle.service_attrs.specs.declared.Project.{Project}
 
 -- a service's attributes as JSON (RFC 8259) without spaces, under the names of the Compose Specification
 abbrev pub attributes_text : List ℕ → List ℕ
@@ -22,20 +22,20 @@ abbrev pub config_hash : List ℕ → List ℕ
 config_hash image = encode_lower (sha256 (attributes_text image))
 
 -- the name of a service's first container in a project of this name, as Docker Compose gives it
-abbrev pub container_name : List ℕ → PlainService → List ℕ
-container_name project service = project ++ codes "-" ++ service.name ++ codes "-1"
+abbrev pub container_name : List ℕ → Service → List ℕ
+container_name project service = project ++ codes "-" ++ service.key ++ codes "-1"
 
 -- the labels of that container, in byte order of their names
-abbrev pub container_labels : List ℕ → PlainService → List Var
+abbrev pub container_labels : List ℕ → Service → List Var
 container_labels project service =
     record { name = hash_label; value = config_hash service.image } ∷ record { name = number_label; value = codes "1" }
     ∷ record { name = oneoff_label; value = not_oneoff } ∷ record { name = project_label; value = project }
-    ∷ record { name = service_label; value = service.name } ∷ []
+    ∷ record { name = service_label; value = service.key } ∷ []
 
 -- a service's one slot: its image is pulled where it is missing, it needs nothing, and a stop waits for ten seconds
-abbrev pub slot_of : List ℕ → PlainService → Slot
+abbrev pub slot_of : List ℕ → Service → Slot
 slot_of project service = record {
-  service = service.name;
+  service = service.key;
   number = 1;
   name = container_name project service;
   image = service.image;

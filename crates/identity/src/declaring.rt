@@ -4,7 +4,7 @@ ghost use Rattle.identity.specs.Declaring.{config_hash, container_labels, contai
 use crate::hash::config_hash;
 use crate::spec::container_spec;
 use engine_types::{Condition, Declared, Pairs, Policy, Slot, labels};
-use plain_services::{PlainService, Project};
+use service_attrs::{Project, Service};
 use std::alloc::Global;
 use tree_base::{Boxed, List, Memory, Text, Var};
 
@@ -25,7 +25,7 @@ pub fn declare(alloc: Global, project: &Project) -> Result<Declared, Memory>
     })
 }
 
-fn slots_of(alloc: Global, project: &Text, services: &[PlainService]) -> Result<List<Slot>, Memory>
+fn slots_of(alloc: Global, project: &Text, services: &[Service]) -> Result<List<Slot>, Memory>
     ensures { IfOk result (λ slots. slots ≡ map (slot_of project.now) services.now) }
 {
     let mut slots = List::new(alloc);
@@ -35,13 +35,13 @@ fn slots_of(alloc: Global, project: &Text, services: &[PlainService]) -> Result<
     Ok(slots)
 }
 
-fn slot_of(alloc: Global, project: &Text, service: &PlainService) -> Result<Slot, Memory>
+fn slot_of(alloc: Global, project: &Text, service: &Service) -> Result<Slot, Memory>
     ensures { IfOk result (λ slot. slot ≡ slot_of project.now service.now) }
 {
     let hash = config_hash(alloc, service.image.as_str())?;
     let labels = container_labels(alloc, project, service, &hash)?;
     Ok(Slot {
-        service: service.name.copy(alloc)?,
+        service: service.key.copy(alloc)?,
         number: 1,
         name: container_name(alloc, project, service)?,
         image: service.image.copy(alloc)?,
@@ -56,10 +56,10 @@ fn slot_of(alloc: Global, project: &Text, service: &PlainService) -> Result<Slot
     })
 }
 
-fn container_name(alloc: Global, project: &Text, service: &PlainService) -> Result<Text, Memory>
+fn container_name(alloc: Global, project: &Text, service: &Service) -> Result<Text, Memory>
     ensures { IfOk result (λ name. name ≡ container_name project.now service.now) }
 {
-    let service = &service.name;
+    let service = &service.key;
     let name = format!(in alloc; "{project}-{service}-1")?;
     Ok(Text::from_string(name))
 }
@@ -67,7 +67,7 @@ fn container_name(alloc: Global, project: &Text, service: &PlainService) -> Resu
 fn container_labels(
     alloc: Global,
     project: &Text,
-    service: &PlainService,
+    service: &Service,
     hash: &Text,
 ) -> Result<Pairs, Memory>
     requires { hash.now ≡ config_hash service.now.image }
@@ -78,7 +78,7 @@ fn container_labels(
     push_label(alloc, &mut pairs, labels::NUMBER, "1")?;
     push_label(alloc, &mut pairs, labels::ONEOFF, labels::NOT_ONEOFF)?;
     push_label(alloc, &mut pairs, labels::PROJECT, project.as_str())?;
-    push_label(alloc, &mut pairs, labels::SERVICE, service.name.as_str())?;
+    push_label(alloc, &mut pairs, labels::SERVICE, service.key.as_str())?;
     Ok(pairs)
 }
 

@@ -17,9 +17,9 @@ use Rattle.tree_base.specs.declared.Step.{Step}
 use Rattle.tree_base.specs.declared.Step.TheVariants.{Key}
 use Rattle.plain_services.specs.Marks.{below, first_of}
 use Rattle.plain_services.specs.Parts.{unbuilt_at}
-use Rattle.plain_services.specs.Projects.{IsInOrder}
+use Rattle.service_attrs.specs.Projects.{IsInOrder}
 use Rattle.plain_services.specs.Shape.{Entries, first_entry, in_byte_order}
-use Rattle.plain_services.specs.declared.project.PlainService.{PlainService}
+use Rattle.service_attrs.specs.declared.Service.{Service}
 use Rattle.plain_services.specs.declared.unbuilt.Level.{Level}
 use Rattle.plain_services.proofs.Walks.{map_seen}
 use Rattle.plain_services.proofs.Ordering.{by_key_ascends, keys_sorted, map-by_key, sorted_by_key}
@@ -44,12 +44,12 @@ itself [] = refl
 itself (key ∷ keys) = ap (λ l. key ∷ l) (itself keys)
 
 -- services that have the names of entries in byte order are in order
-pub in_order_by_names : (services : List PlainService) (entries : Entries) → IsDistinct bytes_eq (keys_of entries) → map (λ service. service.name) services ≡ keys_of (in_byte_order entries) → IsInOrder services
+pub in_order_by_names : (services : List Service) (entries : Entries) → IsDistinct bytes_eq (keys_of entries) → map (λ service. service.key) services ≡ keys_of (in_byte_order entries) → IsInOrder services
 in_order_by_names services entries d names i j x y less one other =
     let keys = keys_of entries in
-    let name : PlainService → List ℕ = λ service. service.name in
+    let name : Service → List ℕ = λ service. service.key in
     let same : map name services ≡ by_key (λ (t : List ℕ). t) keys = names ∙ map-by_key key_of entries in
-    by_key_ascends (λ (t : List ℕ). t) keys (subst (λ (l : List (List ℕ)). IsDistinct bytes_eq l) (sym (itself keys)) d) i j x.name y.name less
+    by_key_ascends (λ (t : List ℕ). t) keys (subst (λ (l : List (List ℕ)). IsDistinct bytes_eq l) (sym (itself keys)) d) i j x.key y.key less
     (ap (λ (l : List (List ℕ)). slice_get l i) (sym same) ∙ slice_get-map name services i ∙ ap (λ o. option_map name o) one)
     (ap (λ (l : List (List ℕ)). slice_get l j) (sym same) ∙ slice_get-map name services j ∙ ap (λ o. option_map name o) other)
 

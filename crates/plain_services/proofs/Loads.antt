@@ -7,7 +7,7 @@ use Rattle.plain_services.specs.Commands.{command_of}
 use Rattle.plain_services.specs.Directories.{base_name}
 use Rattle.plain_services.specs.Loading.{loaded, loaded_for, read, spelled, tree_in, compose_path, file_limit, LoadsAs}
 use Rattle.plain_services.specs.declared.command.Command.{Command}
-use Rattle.plain_services.specs.declared.project.Project.{Project}
+use Rattle.service_attrs.specs.declared.Project.{Project}
 use Rattle.plain_services.specs.declared.refusal.PlainRefusal.{PlainRefusal}
 
 pub IfSome-map : {A : Type 0} (o : Option A) (P Q : A → Type 0) → IfSome o P → ((x : A) → P x → Q x) → IfSome o Q

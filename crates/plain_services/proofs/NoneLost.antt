@@ -9,12 +9,12 @@ use Rattle.plain_services.specs.declared.refusal.PlainRefusal.{PlainRefusal}
 use Rattle.plain_services.specs.Laws.{NoServiceIsLost}
 use Rattle.plain_services.specs.Marks.{counted}
 use Rattle.plain_services.specs.Shape.{◌>>=◌, Entries, few, in_byte_order, service_of, services_of, unless_unbuilt, with_both}
-use Rattle.plain_services.specs.declared.project.PlainService.{PlainService}
+use Rattle.service_attrs.specs.declared.Service.{Service}
 use Rattle.plain_services.proofs.KeptKeys.{map-by_key}
 use Rattle.plain_services.proofs.Opened.{opened}
 
-abbrev name_of : PlainService → List ℕ
-name_of service = service.name
+abbrev name_of : Service → List ℕ
+name_of service = service.key
 
 abbrev key_of : List ℕ × Tree → List ℕ
 key_of entry = entry.0
@@ -29,17 +29,17 @@ all_built : {A : Type 0} (found : Option (List Step)) (given : Result A PlainRef
 all_built None given a e = e
 all_built (Some path) given a e = absurd (cc e)
 
-keeps_name : (name : List ℕ) (image : Option (List ℕ)) (mode : Bool) (service : PlainService) → with_both name image mode ≡ Ok service → service.name ≡ name
-keeps_name name (Some image) true service e = let same : record { name = name; image = image } ≡ service = cc e in sym (ap name_of same)
+keeps_name : (name : List ℕ) (image : Option (List ℕ)) (mode : Bool) (service : Service) → with_both name image mode ≡ Ok service → service.key ≡ name
+keeps_name name (Some image) true service e = let same : record { key = name; image = image } ≡ service = cc e in sym (ap name_of same)
 keeps_name name (Some image) false service e = absurd (cc e)
 keeps_name name None mode service e = absurd (cc e)
 
 -- the service of a tree under a name has that name
-has_name : (name : List ℕ) (tree : Tree-F Tree) (service : PlainService) → service_of name tree ≡ Ok service → service.name ≡ name
+has_name : (name : List ℕ) (tree : Tree-F Tree) (service : Service) → service_of name tree ≡ Ok service → service.key ≡ name
 has_name name (Tree-F.Map attributes) service e = keeps_name name _ _ service (all_built _ _ service e)
 has_name name _ service e = absurd (cc e)
 
-have_names : (entries : Entries) (services : List PlainService) → services_of entries ≡ Ok services → map name_of services ≡ map key_of entries
+have_names : (entries : Entries) (services : List Service) → services_of entries ≡ Ok services → map name_of services ≡ map key_of entries
 have_names [] services e = let none : [] ≡ services = cc e in sym (ap (map name_of) none)
 have_names (entry ∷ entries) services e =
     let first = given_first (service_of entry.0 (out-Tree entry.1)) (λ service. services_of entries >>= λ more. Ok (service ∷ more)) services e in
@@ -49,7 +49,7 @@ have_names (entry ∷ entries) services e =
     ∙ ap (λ names. entry.0 ∷ names) (have_names entries later.0 later.1)
 
 -- services that few entries give are those of these entries
-were_few : (entries : Entries) (services : List PlainService) → (few entries >>= λ more. services_of (in_byte_order more)) ≡ Ok services
+were_few : (entries : Entries) (services : List Service) → (few entries >>= λ more. services_of (in_byte_order more)) ≡ Ok services
     → services_of (in_byte_order entries) ≡ Ok services
 were_few entries services e = by (nat_lt 1000 (length entries)) e
   where

@@ -10,10 +10,10 @@ use Rattle.tree_base.specs.declared.Tree.TheOpen.{Tree-F}
 use Rattle.tree_base.specs.Entries.{value_at, HasDistinctKeys}
 use Rattle.plain_services.specs.Answers.{Gives}
 use Rattle.plain_services.specs.Marks.{counted}
-use Rattle.plain_services.specs.Projects.{IsInOrder}
+use Rattle.service_attrs.specs.Projects.{IsInOrder}
 use Rattle.plain_services.proofs.EntryOrder.{in_order_by_names}
 use Rattle.plain_services.specs.Shape.{◌>>=◌, Entries, few, first_entry, image_of, in_byte_order, service_of, services_of, services_of_file, services_under, unbuilt_top, unless_unbuilt, with_both}
-use Rattle.plain_services.specs.declared.project.PlainService.{PlainService}
+use Rattle.service_attrs.specs.declared.Service.{Service}
 use Rattle.plain_services.specs.declared.refusal.PlainRefusal.{PlainRefusal}
 use Rattle.plain_services.specs.declared.refusal.LoadRefusal.{LoadRefusal}
 use Rattle.plain_services.specs.declared.refusal.ProjectRefusal.{ProjectRefusal}
@@ -85,59 +85,59 @@ pub no_read : {X : Type 0} (given answer : Result X PlainRefusal) → Gives give
 no_read {X} given answer h k path e = IfErr-at_err IsOfShape (subst (λ (g : Result X PlainRefusal). Gives g answer) e h) k
 
 -- a service has the name that its entry has
-both_named : (name : List ℕ) (image : Option (List ℕ)) (mode : Bool) (service : PlainService) → with_both name image mode ≡ Ok service → service.name ≡ name
+both_named : (name : List ℕ) (image : Option (List ℕ)) (mode : Bool) (service : Service) → with_both name image mode ≡ Ok service → service.key ≡ name
 both_named name None mode service e = absurd (cc e)
-both_named name (Some image) true service e = let same : record { name = name; image = image } ≡ service = cc e in sym (ap (λ (s : PlainService). s.name) same)
+both_named name (Some image) true service e = let same : record { key = name; image = image } ≡ service = cc e in sym (ap (λ (s : Service). s.key) same)
 both_named name (Some image) false service e = absurd (cc e)
 
-unless_named : (name : List ℕ) (o : Option (List Step)) (image : Option (List ℕ)) (mode : Bool) (service : PlainService) → unless_unbuilt o (with_both name image mode) ≡ Ok service → service.name ≡ name
+unless_named : (name : List ℕ) (o : Option (List Step)) (image : Option (List ℕ)) (mode : Bool) (service : Service) → unless_unbuilt o (with_both name image mode) ≡ Ok service → service.key ≡ name
 unless_named name None image mode service e = both_named name image mode service e
 unless_named name (Some path) image mode service e = absurd (cc e)
 
-service_named : (name : List ℕ) (tree : Tree-F Tree) (service : PlainService) → service_of name tree ≡ Ok service → service.name ≡ name
+service_named : (name : List ℕ) (tree : Tree-F Tree) (service : Service) → service_of name tree ≡ Ok service → service.key ≡ name
 service_named name (Tree-F.Map attributes) service e = unless_named name _ (image_of attributes) (is_some (value_at attributes (codes "network_mode"))) service e
 service_named name tree service e = absurd (cc e)
 
 -- services have the names that their entries have
-pub services_named : (entries : Entries) (services : List PlainService) → services_of entries ≡ Ok services → map (λ service. service.name) services ≡ keys_of entries
+pub services_named : (entries : Entries) (services : List Service) → services_of entries ≡ Ok services → map (λ service. service.key) services ≡ keys_of entries
 services_named [] [] e = refl
 services_named [] (service ∷ services) e = absurd (cc e)
 services_named (entry ∷ entries) services e = first (services_named entries) (service_of entry.0 (out-Tree entry.1)) refl e
   where
-    rest : ((more : List PlainService) → services_of entries ≡ Ok more → map (λ service. service.name) more ≡ keys_of entries) → (service : PlainService) → service.name ≡ entry.0 → (r : Result (List PlainService) PlainRefusal) → services_of entries ≡ r → (r >>= λ more. Ok (service ∷ more)) ≡ Ok services
-        → map (λ service. service.name) services ≡ keys_of (entry ∷ entries)
+    rest : ((more : List Service) → services_of entries ≡ Ok more → map (λ service. service.key) more ≡ keys_of entries) → (service : Service) → service.key ≡ entry.0 → (r : Result (List Service) PlainRefusal) → services_of entries ≡ r → (r >>= λ more. Ok (service ∷ more)) ≡ Ok services
+        → map (λ service. service.key) services ≡ keys_of (entry ∷ entries)
     rest later service named (Err refusal) is e = absurd (cc e)
     rest later service named (Ok more) is e =
         let same : service ∷ more ≡ services = cc e in
-        sym (ap (map (λ (s : PlainService). s.name)) same) ∙ (λ i. named i ∷ later more is i)
+        sym (ap (map (λ (s : Service). s.key)) same) ∙ (λ i. named i ∷ later more is i)
 
-    first : ((more : List PlainService) → services_of entries ≡ Ok more → map (λ service. service.name) more ≡ keys_of entries) → (r : Result PlainService PlainRefusal) → service_of entry.0 (out-Tree entry.1) ≡ r → (r >>= λ service. services_of entries >>= λ more. Ok (service ∷ more)) ≡ Ok services
-        → map (λ service. service.name) services ≡ keys_of (entry ∷ entries)
+    first : ((more : List Service) → services_of entries ≡ Ok more → map (λ service. service.key) more ≡ keys_of entries) → (r : Result Service PlainRefusal) → service_of entry.0 (out-Tree entry.1) ≡ r → (r >>= λ service. services_of entries >>= λ more. Ok (service ∷ more)) ≡ Ok services
+        → map (λ service. service.key) services ≡ keys_of (entry ∷ entries)
     first later (Err refusal) is e = absurd (cc e)
     first later (Ok service) is e = rest later service (service_named entry.0 (out-Tree entry.1) service is) (services_of entries) refl e
 
 -- services that are read one after another
-pub none_read : (r : Result (List PlainService) PlainRefusal) → (r >>= λ services. Ok ([] ++ services)) ≡ r
+pub none_read : (r : Result (List Service) PlainRefusal) → (r >>= λ services. Ok ([] ++ services)) ≡ r
 none_read (Ok services) = refl
 none_read (Err refusal) = refl
 
-pub one_read : (entry : List ℕ × Tree) (entries : Entries) (done : List PlainService) (service : PlainService) → service_of entry.0 (out-Tree entry.1) ≡ Ok service
+pub one_read : (entry : List ℕ × Tree) (entries : Entries) (done : List Service) (service : Service) → service_of entry.0 (out-Tree entry.1) ≡ Ok service
     → (services_of entries >>= λ services. Ok ((done ++ service ∷ []) ++ services)) ≡ (services_of (entry ∷ entries) >>= λ services. Ok (done ++ services))
 one_read entry entries done service is =
     at (services_of entries)
-    ∙ sym (ap (λ (r : Result PlainService PlainRefusal). (r >>= λ service. services_of entries >>= λ services. Ok (service ∷ services)) >>= λ services. Ok (done ++ services)) is)
+    ∙ sym (ap (λ (r : Result Service PlainRefusal). (r >>= λ service. services_of entries >>= λ services. Ok (service ∷ services)) >>= λ services. Ok (done ++ services)) is)
   where
-    at : (r : Result (List PlainService) PlainRefusal) → (r >>= λ services. Ok ((done ++ service ∷ []) ++ services)) ≡ ((r >>= λ services. Ok (service ∷ services)) >>= λ services. Ok (done ++ services))
+    at : (r : Result (List Service) PlainRefusal) → (r >>= λ services. Ok ((done ++ service ∷ []) ++ services)) ≡ ((r >>= λ services. Ok (service ∷ services)) >>= λ services. Ok (done ++ services))
     at (Ok services) = ap (λ l. Ok l) (append_assoc done (service ∷ []) services)
     at (Err refusal) = refl
 
-pub one_refused : (entry : List ℕ × Tree) (entries : Entries) (done : List PlainService) (refusal : PlainRefusal) → Gives (Err refusal) (service_of entry.0 (out-Tree entry.1))
+pub one_refused : (entry : List ℕ × Tree) (entries : Entries) (done : List Service) (refusal : PlainRefusal) → Gives (Err refusal) (service_of entry.0 (out-Tree entry.1))
     → Gives (Err refusal) (services_of (entry ∷ entries) >>= λ services. Ok (done ++ services))
 one_refused entry entries done refusal h =
     gives_on refusal (service_of entry.0 (out-Tree entry.1)) (services_of (entry ∷ entries) >>= λ services. Ok (done ++ services))
-    (λ is. ap (λ (r : Result PlainService PlainRefusal). (r >>= λ service. services_of entries >>= λ services. Ok (service ∷ services)) >>= λ services. Ok (done ++ services)) is) h
+    (λ is. ap (λ (r : Result Service PlainRefusal). (r >>= λ service. services_of entries >>= λ services. Ok (service ∷ services)) >>= λ services. Ok (done ++ services)) is) h
 
 -- services of entries in byte order, whose keys differ, are in order
-pub in_order_given : (given : Result (List PlainService) PlainRefusal) (sorted entries : Entries) → Gives given (services_of sorted) → sorted ≡ in_byte_order entries → HasDistinctKeys entries → IfOk given IsInOrder
+pub in_order_given : (given : Result (List Service) PlainRefusal) (sorted entries : Entries) → Gives given (services_of sorted) → sorted ≡ in_byte_order entries → HasDistinctKeys entries → IfOk given IsInOrder
 in_order_given (Err refusal) sorted entries h e d = tt
 in_order_given (Ok services) sorted entries h e d = in_order_by_names services entries d (services_named sorted services h ∙ ap (λ (es : Entries). keys_of es) e)

@@ -8,6 +8,5 @@ pub mod Messages
 pub mod Parts
 pub mod Paths
 pub mod ProjectNames
-pub mod Projects
 pub mod Shape
 pub mod Statuses

@@ -8,7 +8,7 @@ use Rattle.plain_services.specs.Directories.{path_in, base_name}
 use Rattle.plain_services.specs.ProjectNames.{name_from}
 use Rattle.plain_services.specs.Shape.{◌>>=◌, services_in}
 use Rattle.plain_services.specs.declared.command.Command.{Command}
-use Rattle.plain_services.specs.declared.project.Project.{Project}
+use Rattle.service_attrs.specs.declared.Project.{Project}
 use Rattle.plain_services.specs.declared.refusal.PlainRefusal.{PlainRefusal}
 use Rattle.plain_services.specs.declared.refusal.LoadRefusal.{LoadRefusal}
 use Rattle.plain_services.specs.declared.refusal.ProjectRefusal.{ProjectRefusal}

@@ -8,7 +8,7 @@ use Rattle.tree_base.specs.declared.Step.TheVariants.{Key}
 use Rattle.tree_base.specs.declared.Tree.{Tree, out-Tree}
 use Rattle.tree_base.specs.declared.Tree.TheOpen.{Tree-F}
 use Rattle.plain_services.specs.Marks.{below, counted, first_of, mark_in}
-use Rattle.plain_services.specs.declared.project.PlainService.{PlainService}
+use Rattle.service_attrs.specs.declared.Service.{Service}
 use Rattle.plain_services.specs.declared.refusal.PlainRefusal.{PlainRefusal}
 use Rattle.plain_services.specs.declared.refusal.ProjectRefusal.{ProjectRefusal}
 use Rattle.plain_services.specs.declared.refusal.Unbuilt.{Unbuilt}
@@ -84,19 +84,19 @@ abbrev pub image_of : Entries → Option (List ℕ)
 image_of attributes = option_and_then (λ value. scalar_text (out-Tree value)) (value_at attributes (codes "image"))
 
 -- a service with both attributes, or else its own path
-abbrev pub with_both : List ℕ → Option (List ℕ) → Bool → Result PlainService PlainRefusal
-with_both name (Some image) true = Ok (record { name = name; image = image })
+abbrev pub with_both : List ℕ → Option (List ℕ) → Bool → Result Service PlainRefusal
+with_both name (Some image) true = Ok (record { key = name; image = image })
 with_both name image mode = not_built (path_of_service name)
 
 -- the service of a tree under a name
-abbrev pub service_of : List ℕ → Tree-F Tree → Result PlainService PlainRefusal
+abbrev pub service_of : List ℕ → Tree-F Tree → Result Service PlainRefusal
 service_of name (Tree-F.Map attributes) =
     unless_unbuilt (below (Key (codes "services")) (below (Key name) (first_entry unbuilt_attribute attributes)))
     (with_both name (image_of attributes) (is_some (value_at attributes (codes "network_mode"))))
 service_of name tree = not_built (path_of_service name)
 
 -- the services of entries in their order, or the first refusal
-abbrev pub services_of : Entries → Result (List PlainService) PlainRefusal
+abbrev pub services_of : Entries → Result (List Service) PlainRefusal
 services_of [] = Ok []
 services_of (entry ∷ entries) = service_of entry.0 (out-Tree entry.1) >>= λ service. services_of entries >>= λ services. Ok (service ∷ services)
 
@@ -112,17 +112,17 @@ services_under (Some (Tree-F.Map entries)) = Ok entries
 services_under (Some tree) = not_built (Key (codes "services") ∷ [])
 
 -- the services of a mapping's entries: first the other keys are asked, then the form of the services, then their number, then each of them
-abbrev pub services_of_file : Entries → Result (List PlainService) PlainRefusal
+abbrev pub services_of_file : Entries → Result (List Service) PlainRefusal
 services_of_file entries =
     unless_unbuilt (first_entry unbuilt_top entries)
     (services_under (option_map out-Tree (value_at entries (codes "services"))) >>= few >>= λ services. services_of (in_byte_order services))
 
 -- the services of a tree, in byte order of their names; null has none
-abbrev pub services_from : Tree-F Tree → Result (List PlainService) PlainRefusal
+abbrev pub services_from : Tree-F Tree → Result (List Service) PlainRefusal
 services_from Tree-F.Null = Ok []
 services_from (Tree-F.Map entries) = services_of_file entries
 services_from tree = not_built []
 
 -- the services of a tree that is built, or the first refusal
-abbrev pub services_in : Tree → Result (List PlainService) PlainRefusal
+abbrev pub services_in : Tree → Result (List Service) PlainRefusal
 services_in tree = services_from (out-Tree tree)

@@ -7,14 +7,14 @@ ghost use Rattle.plain_services.specs.Answers.{Gives};
 ghost use Rattle.plain_services.specs.Shape.{image_of, path_of_service, service_of, with_both};
 
 use crate::entries::value_under;
-use crate::project::PlainService;
 use crate::unbuilt::{Level, below_key, first_unbuilt, refusal_at};
 use crate::refusal::PlainRefusal;
+use service_attrs::Service;
 use std::alloc::Global;
 use tree_base::{List, Map, Memory, Path, Text, Tree};
 
 /// The service of a tree under a name: first its attributes are asked, then that both stand there.
-pub(crate) fn service_of(alloc: Global, name: &Text, value: &Tree) -> Result<PlainService, PlainRefusal>
+pub(crate) fn service_of(alloc: Global, name: &Text, value: &Tree) -> Result<Service, PlainRefusal>
     ensures { Gives result (service_of name.now (out-Tree value.now)) }
 {
     match value {
@@ -23,7 +23,7 @@ pub(crate) fn service_of(alloc: Global, name: &Text, value: &Tree) -> Result<Pla
     }
 }
 
-fn service_with(alloc: Global, name: &Text, attributes: &Map) -> Result<PlainService, PlainRefusal>
+fn service_with(alloc: Global, name: &Text, attributes: &Map) -> Result<Service, PlainRefusal>
     ensures { Gives result (service_of name.now (Tree-F.Map attributes.now)) }
 {
     match first_unbuilt(alloc, attributes, Level::Service) {
@@ -33,7 +33,7 @@ fn service_with(alloc: Global, name: &Text, attributes: &Map) -> Result<PlainSer
     }
 }
 
-fn with_both(alloc: Global, name: &Text, attributes: &Map) -> Result<PlainService, PlainRefusal>
+fn with_both(alloc: Global, name: &Text, attributes: &Map) -> Result<Service, PlainRefusal>
     ensures { Gives result (with_both name.now (image_of attributes.now) (is_some (value_at attributes.now (codes "network_mode")))) }
 {
     match image_beside_mode(alloc, attributes) {
@@ -56,16 +56,16 @@ fn image_beside_mode<'a>(alloc: Global, attributes: &'a Map) -> Result<Option<&'
     }
 }
 
-fn plain_service(alloc: Global, name: &Text, image: &Text) -> Result<PlainService, PlainRefusal>
-    ensures { Gives result (Ok (record { name = name.now; image = image.now })) }
+fn plain_service(alloc: Global, name: &Text, image: &Text) -> Result<Service, PlainRefusal>
+    ensures { Gives result (Ok (record { key = name.now; image = image.now })) }
 {
-    let Ok(name) = name.copy(alloc) else {
+    let Ok(key) = name.copy(alloc) else {
         return Err(PlainRefusal::Memory);
     };
     let Ok(image) = image.copy(alloc) else {
         return Err(PlainRefusal::Memory);
     };
-    Ok(PlainService { name, image })
+    Ok(Service { key, image })
 }
 
 /// The path to what stands at a path in a service.

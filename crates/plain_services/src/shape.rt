@@ -4,7 +4,7 @@ ghost use Rattle.tree_base.specs.Entries.{value_at};
 ghost use Rattle.tree_base.specs.declared.Tree.{out-Tree};
 ghost use Rattle.plain_services.specs.Answers.{Gives};
 ghost use Rattle.plain_services.specs.Loading.{LoadsAs};
-ghost use Rattle.plain_services.specs.Projects.{IsInOrder};
+ghost use Rattle.service_attrs.specs.Projects.{IsInOrder};
 ghost use Rattle.plain_services.specs.Parts.{services_found, services_of_few};
 ghost use Rattle.plain_services.specs.Shape.{services_in, services_of, services_of_file};
 ghost use Rattle.plain_services.specs.declared.refusal.PlainRefusal.{PlainRefusal};
@@ -13,10 +13,10 @@ ghost use Rattle.plain_services.specs.declared.refusal.Unbuilt.{Unbuilt};
 
 use crate::entries::{Entry, in_byte_order, value_under};
 use crate::marks::counted;
-use crate::project::PlainService;
 use crate::service::service_of;
 use crate::unbuilt::{Level, below_key, first_unbuilt, refusal_at};
 use crate::refusal::{ProjectRefusal, PlainRefusal};
+use service_attrs::Service;
 use std::alloc::Global;
 use tree_base::{List, Map, Memory, Tree};
 
@@ -26,7 +26,7 @@ const MOST_SERVICES: usize = 1_000;
 /// The services of a tree, in byte order of their names. Refuses, in this order: a tree that is neither null nor a
 /// mapping, another top-level key than `services`, `version` and those that begin with `x-`, `services` of another form,
 /// more than 1,000 of them, and what is no service with an image and no network.
-pub(crate) fn services_in(alloc: Global, tree: &Tree) -> Result<List<PlainService>, PlainRefusal>
+pub(crate) fn services_in(alloc: Global, tree: &Tree) -> Result<List<Service>, PlainRefusal>
     ensures told { LoadsAs (services_in tree.now) result }
     ensures order { IfOk result IsInOrder }
     ensures words { result ≡ Err (PlainRefusal.NotBuilt Unbuilt.Words) → ⊥ }
@@ -40,7 +40,7 @@ pub(crate) fn services_in(alloc: Global, tree: &Tree) -> Result<List<PlainServic
 }
 
 /// The services of a mapping's entries: first the other keys are asked, then the services.
-fn services_of_file(alloc: Global, entries: &Map) -> Result<List<PlainService>, PlainRefusal>
+fn services_of_file(alloc: Global, entries: &Map) -> Result<List<Service>, PlainRefusal>
     ensures told { Gives result (services_of_file entries.now) }
     ensures order { IfOk result IsInOrder }
 {
@@ -52,7 +52,7 @@ fn services_of_file(alloc: Global, entries: &Map) -> Result<List<PlainService>, 
 }
 
 /// The services under their key.
-fn services_under(alloc: Global, entries: &Map) -> Result<List<PlainService>, PlainRefusal>
+fn services_under(alloc: Global, entries: &Map) -> Result<List<Service>, PlainRefusal>
     ensures told { Gives result (services_found (option_map out-Tree (value_at entries.now (codes "services")))) }
     ensures order { IfOk result IsInOrder }
 {
@@ -66,7 +66,7 @@ fn services_under(alloc: Global, entries: &Map) -> Result<List<PlainService>, Pl
 }
 
 /// The services of at most 1,000 entries.
-fn few_services(alloc: Global, services: &Map) -> Result<List<PlainService>, PlainRefusal>
+fn few_services(alloc: Global, services: &Map) -> Result<List<Service>, PlainRefusal>
     ensures told { Gives result (services_of_few services.now) }
     ensures order { IfOk result IsInOrder }
 {
@@ -82,7 +82,7 @@ fn few_services(alloc: Global, services: &Map) -> Result<List<PlainService>, Pla
 }
 
 /// The services of entries, in their order.
-fn services_of(alloc: Global, entries: &[Entry]) -> Result<List<PlainService>, PlainRefusal>
+fn services_of(alloc: Global, entries: &[Entry]) -> Result<List<Service>, PlainRefusal>
     ensures { Gives result (services_of (map (λ entry. (entry.key.now, entry.value.now)) entries.now)) }
 {
     let mut services = List::new(alloc);

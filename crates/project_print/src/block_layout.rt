@@ -11,7 +11,7 @@ use tree_base::{Memory, Text};
 
 /// The node as a page of YAML: two spaces a level, each line with its end. Memory where there is no memory for
 /// it.
-pub fn page(alloc: Global, node: &Node) -> Result<Text, Memory>
+pub fn node_page(alloc: Global, node: &Node) -> Result<Text, Memory>
     ensures { IfOk result (λ text. text ≡ page_text node.now) }
 {
     let mut out = Text::new(alloc);

@@ -21,7 +21,7 @@ pub enum Dollars {
 
 /// The node as JSON without spaces, with the dollars of texts twice, and a line end. Memory where there is no
 /// memory for it.
-pub fn page_json(alloc: Global, node: &Node) -> Result<Text, Memory>
+pub fn node_page_json(alloc: Global, node: &Node) -> Result<Text, Memory>
     ensures { IfOk result (λ text. text ≡ json_page_text node.now) }
 {
     let mut out = json_text(alloc, node, Dollars::Twice)?;

@@ -4,7 +4,7 @@ use Rattle.std.proofs.lemmas.Result.{err_from_is_err_and}
 use Rattle.plain_services.specs.Shape.{◌>>=◌, Entries, services_of}
 use Rattle.tree_base.specs.declared.Tree.{Tree}
 use Rattle.plain_services.specs.declared.entries.Entry.{Entry}
-use Rattle.plain_services.specs.declared.project.PlainService.{PlainService}
+use Rattle.service_attrs.specs.declared.Service.{Service}
 use Rattle.plain_services.proofs.Shapes.{gives_same, one_read, one_refused}
 use Rattle.plain_services.proofs.Walks.{item_next}
 use Rattle.plain_services.proofs.shape.services_of.Goals as goal
@@ -34,7 +34,7 @@ loop-entry-preserved c =
     let at : slice_get items i ≡ Some entry = slice_get_read items (length items) i entry refl (omega arith) c.entry-item.is in
     let next = item_next seen items i entry at in
     let rest = drop (i + 1) (map seen items) in
-    ap (λ (l : List PlainService). services_of rest >>= λ services. Ok (l ++ services)) c.in-Ok.ensures.ok
+    ap (λ (l : List Service). services_of rest >>= λ services. Ok (l ++ services)) c.in-Ok.ensures.ok
     ∙ one_read (seen entry) rest done c.in_ok-service.service c.in_ok-service.ensures
     ∙ sym (ap (λ (l : Entries). services_of l >>= λ services. Ok (done ++ services)) next)
     ∙ c.loop-entry.invariant

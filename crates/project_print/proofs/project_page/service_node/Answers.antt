@@ -1,7 +1,7 @@
 use Rattle.std.proofs.Common.{◌∙◌, codes, ap}
 use Rattle.project_print.specs.declared.node.Node.TheVariants.{Map, Text}
 use Rattle.tree_base.specs.Entries.{with_entry}
-use Rattle.config_command.proofs.project_page.service_node.Goals as goal
+use Rattle.project_print.proofs.project_page.service_node.Goals as goal
 
 pub returns : goal.returns
 returns c =

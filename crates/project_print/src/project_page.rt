@@ -1,21 +1,32 @@
 ghost use Rattle.std.specs.Prelude.{◌≡◌, ◌++◌, ◌∷◌, [], codes, map, IfOk, OnOk};
-ghost use Rattle.config_command.specs.ProjectPages.{entry_of, node_of, project_page, service_node};
-ghost use Rattle.plain_services.specs.Projects.{IsInOrder};
+ghost use Rattle.project_print.specs.ProjectPages.{entry_of, node_of, project_json, project_page, service_node};
+ghost use Rattle.service_attrs.specs.Projects.{IsInOrder};
 ghost use Rattle.project_print.specs.declared.Node.{Node};
 ghost use Rattle.tree_base.specs.Entries.{with_entry};
 
-use plain_services::{PlainService, Project};
-use project_print::{Node, page};
+use crate::block_layout::node_page;
+use crate::compact_json::node_page_json;
+use crate::node::Node;
+use service_attrs::{Project, Service};
 use std::alloc::Global;
 use tree_base::{Memory, Text, TextMap};
 
-/// The page of a project. Memory where there is no memory for it.
-pub(crate) fn page_of(alloc: Global, project: &Project) -> Result<Text, Memory>
+/// The page of a project as YAML: its name, and its services with their images. Memory where there is no memory for it.
+pub fn page(alloc: Global, project: &Project) -> Result<Text, Memory>
     requires order { IsInOrder project.now.services }
     ensures { IfOk result (λ text. text ≡ project_page project.now) }
 {
     let node = node_of(alloc, project)?;
-    page(alloc, &node)
+    node_page(alloc, &node)
+}
+
+/// The page of a project as JSON without spaces, with a line end. Memory where there is no memory for it.
+pub fn page_json(alloc: Global, project: &Project) -> Result<Text, Memory>
+    requires order { IsInOrder project.now.services }
+    ensures { IfOk result (λ text. text ≡ project_json project.now) }
+{
+    let node = node_of(alloc, project)?;
+    node_page_json(alloc, &node)
 }
 
 fn node_of(alloc: Global, project: &Project) -> Result<Node, Memory>
@@ -29,19 +40,19 @@ fn node_of(alloc: Global, project: &Project) -> Result<Node, Memory>
     Ok(Node::Map(entries))
 }
 
-fn services_map(alloc: Global, services: &[PlainService]) -> Result<TextMap<Node>, Memory>
+fn services_map(alloc: Global, services: &[Service]) -> Result<TextMap<Node>, Memory>
     requires order { IsInOrder services.now }
     ensures { IfOk result (λ entries. entries ≡ map entry_of services.now) }
 {
     let mut entries = TextMap::new(alloc);
     for service in services {
         let node = service_node(alloc, service)?;
-        put_node(alloc, &mut entries, service.name.as_str(), node)?;
+        put_node(alloc, &mut entries, service.key.as_str(), node)?;
     }
     Ok(entries)
 }
 
-fn service_node(alloc: Global, service: &PlainService) -> Result<Node, Memory>
+fn service_node(alloc: Global, service: &Service) -> Result<Node, Memory>
     ensures { IfOk result (λ node. node ≡ service_node service.now) }
 {
     let mut entries = TextMap::new(alloc);

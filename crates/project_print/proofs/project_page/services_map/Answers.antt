@@ -2,8 +2,8 @@ use Rattle.std.proofs.Common.{◌≡◌, ◌<◌, ◌∙◌, Some, length, refl,
 use Rattle.std.specs.Prelude.{slice_get}
 use Rattle.std.proofs.lemmas.Option.{slice_get_read}
 use Rattle.tree_base.specs.Entries.{with_entry}
-use Rattle.config_command.proofs.Entries.{put_service}
-use Rattle.config_command.proofs.project_page.services_map.Goals as goal
+use Rattle.project_print.proofs.Entries.{put_service}
+use Rattle.project_print.proofs.project_page.services_map.Goals as goal
 
 pub loop-service-preserved : goal.loop-service-preserved
 loop-service-preserved c =

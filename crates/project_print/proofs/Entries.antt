@@ -11,9 +11,9 @@ use Rattle.std.specs.Ordering.{is_eq, is_lt, nat_cmp}
 use Rattle.std.specs.declared.cmp.Ordering.{Ordering}
 use Rattle.std.specs.declared.cmp.Ordering.TheVariants.{Equal, Greater, Less}
 use Rattle.std.specs.Str.{bytes_eq}
-use Rattle.config_command.specs.ProjectPages.{entry_of, service_node}
-use Rattle.plain_services.specs.Projects.{IsInOrder}
-use Rattle.plain_services.specs.declared.PlainService.{PlainService}
+use Rattle.project_print.specs.ProjectPages.{entry_of, service_node}
+use Rattle.service_attrs.specs.Projects.{IsInOrder}
+use Rattle.service_attrs.specs.declared.Service.{Service}
 use Rattle.tree_base.specs.ByteOrder.{is_before}
 use Rattle.tree_base.proofs.Pairs.{put-next}
 use Rattle.tree_base.specs.Entries.{with_entry}
@@ -27,25 +27,25 @@ differ s t e = texts_ties s t ∙ by (slice_cmp nat_cmp s t) e
     by Equal e = absurd (cc e)
     by Greater e = refl
 
-later : (name : List ℕ) (services : List PlainService) → ((j : ℕ) (service : PlainService) → slice_get services j ≡ Some service → is_before name service.name ≡ true)
+later : (name : List ℕ) (services : List Service) → ((j : ℕ) (service : Service) → slice_get services j ≡ Some service → is_before name service.key ≡ true)
     → AllByRecursion (λ t. bytes_eq name t ≡ false) (keys_of (map entry_of services))
 later name [] before = tt
-later name (service ∷ services) before = (differ name service.name (before 0 service refl), later name services (λ j other e. before (suc j) other e))
+later name (service ∷ services) before = (differ name service.key (before 0 service refl), later name services (λ j other e. before (suc j) other e))
 
 -- services in order have different names
-pub names_differ : (services : List PlainService) → IsInOrder services → IsDistinct bytes_eq (keys_of (map entry_of services))
+pub names_differ : (services : List Service) → IsInOrder services → IsDistinct bytes_eq (keys_of (map entry_of services))
 unfolding IsDistinct
 names_differ [] order = tt
 names_differ (service ∷ services) order = (
-  later service.name services (λ j other e. order 0 (suc j) service other (omega arith) refl e),
+  later service.key services (λ j other e. order 0 (suc j) service other (omega arith) refl e),
   names_differ services (λ i j first second l e f. order (suc i) (suc j) first second (omega arith) e f),
 )
 
 -- one service more
-pub put_service : (services : List PlainService) (i : ℕ) (service : PlainService) → IsInOrder services → slice_get services i ≡ Some service
-    → with_entry (map entry_of (take i services)) service.name (service_node service) ≡ map entry_of (take (i + 1) services)
+pub put_service : (services : List Service) (i : ℕ) (service : Service) → IsInOrder services → slice_get services i ≡ Some service
+    → with_entry (map entry_of (take i services)) service.key (service_node service) ≡ map entry_of (take (i + 1) services)
 put_service services i service order e =
-    ap (λ (entries : List _). with_entry entries service.name (service_node service)) (sym_take i)
+    ap (λ (entries : List _). with_entry entries service.key (service_node service)) (sym_take i)
     ∙ put-next nat_list_eq_equiv (map entry_of services) i (entry_of service) (names_differ services order) (slice_get-map entry_of services i ∙ ap (option_map entry_of) e)
     ∙ take-map entry_of (i + 1) services
   where
