@@ -13,8 +13,7 @@ mod wire;
 
 pub use hand::Hand;
 pub use outside_files::{
-    DiskFiles, FileAnswer, Files, MemoryFiles, MemorySink, OutSink, Sink, SinkAnswer,
-    write_all,
+    DiskFiles, FileAnswer, Files, MemoryFiles, MemorySink, OutSink, Sink, SinkAnswer, write_all,
 };
 pub use pipe::{Pipe, PipeAnswer};
 pub use plug::{Plug, Target};

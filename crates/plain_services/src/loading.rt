@@ -10,10 +10,10 @@ ghost use Rattle.plain_services.specs.declared.refusal.PlainRefusal.{PlainRefusa
 ghost use Rattle.plain_services.specs.declared.refusal.LoadRefusal.{LoadRefusal};
 ghost use Rattle.plain_services.specs.declared.refusal.Unbuilt.{Unbuilt};
 
+use crate::refusal::{LoadRefusal, PlainRefusal, ProjectRefusal, Unbuilt};
 use crate::shape::services_in;
 use crate::{command, directory, project_name};
 use outside_files::{FileAnswer, Files};
-use crate::refusal::{LoadRefusal, PlainRefusal, ProjectRefusal, Unbuilt};
 use service_attrs::Project;
 use std::alloc::Global;
 use tree_base::{List, Memory, Text, Tree};

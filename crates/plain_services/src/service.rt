@@ -7,8 +7,8 @@ ghost use Rattle.plain_services.specs.Answers.{Gives};
 ghost use Rattle.plain_services.specs.Shape.{image_of, path_of_service, service_of, with_both};
 
 use crate::entries::value_under;
-use crate::unbuilt::{Level, below_key, first_unbuilt, refusal_at};
 use crate::refusal::PlainRefusal;
+use crate::unbuilt::{Level, below_key, first_unbuilt, refusal_at};
 use service_attrs::Service;
 use std::alloc::Global;
 use tree_base::{List, Map, Memory, Path, Text, Tree};

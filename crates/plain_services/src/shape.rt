@@ -13,9 +13,9 @@ ghost use Rattle.plain_services.specs.declared.refusal.Unbuilt.{Unbuilt};
 
 use crate::entries::{Entry, in_byte_order, value_under};
 use crate::marks::counted;
+use crate::refusal::{PlainRefusal, ProjectRefusal};
 use crate::service::service_of;
 use crate::unbuilt::{Level, below_key, first_unbuilt, refusal_at};
-use crate::refusal::{ProjectRefusal, PlainRefusal};
 use service_attrs::Service;
 use std::alloc::Global;
 use tree_base::{List, Map, Memory, Tree};

@@ -1,7 +1,7 @@
 ghost use Rattle.std.specs.Prelude.{◌≡◌, ◌++◌, ◌∷◌, [], codes, map, IfOk, OnOk};
 ghost use Rattle.project_print.specs.ProjectPages.{entry_of, node_of, project_json, project_page, service_node};
 ghost use Rattle.service_attrs.specs.Projects.{IsInOrder};
-ghost use Rattle.project_print.specs.declared.Node.{Node};
+ghost use Rattle.project_print.specs.declared.node.Node.{Node};
 ghost use Rattle.tree_base.specs.Entries.{with_entry};
 
 use crate::block_layout::node_page;

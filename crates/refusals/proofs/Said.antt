@@ -1,7 +1,7 @@
 -- What holds of a refusal that is said.
 use Rattle.std.proofs.Common.{◌≡◌, Some, None, sym, subst, refl}
 use Rattle.std.specs.Prelude.{Option}
-use Rattle.refusals.specs.declared.Refusal.{Refusal}
+use Rattle.refusals.specs.declared.refusal.Refusal.{Refusal}
 use Rattle.refusals.specs.Saying.{IsSaid, IsSaidIfAny}
 
 -- what holds of the refusal, and of a want of memory, holds of what is said

@@ -1,7 +1,7 @@
 -- What is said of a refusal, and what that leaves in a sink.
 use Rattle.std.specs.Prelude.{◌≡◌, ℕ, List, Option, Some, None}
 use Rattle.refusals.specs.Lines.{refusal_line}
-use Rattle.refusals.specs.declared.Refusal.{Refusal}
+use Rattle.refusals.specs.declared.refusal.Refusal.{Refusal}
 use Rattle.outside_files.specs.Writing.{Says}
 
 -- the refusal that is said: this one, or a want of memory
