@@ -1,3 +1,13 @@
-pub mod Fronts
+pub mod Documents
+pub mod Empties
+pub mod Firsts
+pub mod Keys
+pub mod PageLines
+pub mod Parts
+pub mod PlainRuns
+pub mod Spelled
+pub mod Spells
+pub mod Standing
 pub mod TextPages
-pub mod Words
+pub mod Tokens
+pub mod Values
