@@ -5,12 +5,12 @@ use Rattle.std.proofs.lemmas.List.{at_drop_all, at_drop_more, drop-drop, get_or-
 use Rattle.logical_lines.specs.Cuts.{cuts, cut_len, is_cut, is_space, open_behind, token_len}
 
 -- whether white space or a line's end stands before the place behind so many characters
-abbrev space_before : Bool → ℕ → List ℕ → Bool
+abbrev pub space_before : Bool → ℕ → List ℕ → Bool
 space_before white zero cs = white
 space_before white (suc k) [] = white
 space_before white (suc k) (c ∷ cs) = space_before (is_space c) k cs
 
-space_at : (white : Bool) (k : ℕ) (cs : List ℕ) (d : ℕ) → k < length cs → space_before white (k + 1) cs ≡ is_space (get_or cs k d)
+pub space_at : (white : Bool) (k : ℕ) (cs : List ℕ) (d : ℕ) → k < length cs → space_before white (k + 1) cs ≡ is_space (get_or cs k d)
 space_at white k [] d h = absurd (omega arith)
 space_at white zero (c ∷ cs) d h = refl
 space_at white (suc k) (c ∷ cs) d h =
@@ -24,7 +24,7 @@ passes n (suc k) white [] h = absurd (omega arith)
 passes n (suc k) white (c ∷ cs) h = let e = passes n k (is_space c) cs (omega arith) in omega arith
 
 -- a token that stands in front is passed over
-token_step : (n m c : ℕ) (white : Bool) (cs : List ℕ) → 0 < length cs → c ≡ get_or cs 0 c → is_cut n c ≡ false → m + 1 ≤ length cs → m ≡ token_len white cs - 1
+pub token_step : (n m c : ℕ) (white : Bool) (cs : List ℕ) → 0 < length cs → c ≡ get_or cs 0 c → is_cut n c ≡ false → m + 1 ≤ length cs → m ≡ token_len white cs - 1
     → cut_len n 0 white cs ≡ m + 1 + cut_len (open_behind n c) 0 (space_before white (m + 1) cs) (drop (m + 1) cs)
 token_step n m c white [] h e uncut w t = absurd (omega arith)
 token_step n m c white (d ∷ cs) h e uncut w t =

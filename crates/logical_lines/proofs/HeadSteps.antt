@@ -1,7 +1,8 @@
 -- Steps over what stands before a line's value.
-use Rattle.std.proofs.Common.{◌≡◌, ◌≢◌, ◌∙◌, ℕ, zero, suc, ◌+◌, ◌≤◌, List, [], ◌∷◌, Bool, true, false, cond, drop, length, if◌then◌else◌, refl, sym, ap, arith}
+use Rattle.std.proofs.Common.{◌≡◌, ◌≢◌, ◌∙◌, ℕ, zero, suc, ◌+◌, ◌≤◌, List, [], ◌∷◌, Bool, true, false, cond, drop, length, if◌then◌else◌, refl, sym, ap, inl, inr, arith}
+use Rattle.std.proofs.lemmas.Bool.{cases_Bool}
 use Rattle.std.proofs.lemmas.List.{drop-drop, length-drop}
-use Rattle.yaml_lines.specs.Blanks.{is_white}
+use Rattle.yaml_lines.specs.Blanks.{blanks, is_white}
 use Rattle.yaml_lines.specs.declared.plain.Context.TheVariants.{Block}
 use Rattle.yaml_nodes.specs.Marks.{before_colon, is_item, is_key, is_property, name_len}
 use Rattle.logical_lines.specs.Grouped.{head_of}
@@ -76,3 +77,19 @@ head_step owner owner' at cs front total e some w o so_far =
     ∙ ap (head_of (cond front.1 at owner) (at + front.0) 0) (sym (drop-drop front.0 at cs))
     ∙ ap (λ (f : ℕ × Bool). head_of (cond f.1 at owner) (at + f.0) 0 (drop f.0 (drop at cs))) e
     ∙ sym step ∙ so_far
+
+-- white space in front is passed over
+pub white_front : (owner at : ℕ) (cs : List ℕ) → head_of owner (at + blanks cs) 0 (drop (blanks cs) cs) ≡ head_of owner at 0 cs
+white_front owner at [] = let z : at + 0 ≡ at = omega arith in ap (λ p. head_of owner p 0 []) z
+white_front owner at (c ∷ cs) =
+    elim (cases_Bool (is_white c)) [
+      | inl white ↦
+          let k : blanks (c ∷ cs) ≡ suc (blanks cs) = rw white (omega arith) in
+          let p : at + suc (blanks cs) ≡ at + 1 + blanks cs = omega arith in
+          let one : head_of owner at 0 (c ∷ cs) ≡ head_of owner (at + 1) 0 cs = rw white refl in
+          (λ i. head_of owner (at + k i) 0 (drop (k i) (c ∷ cs))) ∙ ap (λ q. head_of owner q 0 (drop (blanks cs) cs)) p ∙ white_front owner (at + 1) cs ∙ sym one
+      | inr black ↦
+          let k : blanks (c ∷ cs) ≡ 0 = rw black refl in
+          let z : at + 0 ≡ at = omega arith in
+          (λ i. head_of owner (at + k i) 0 (drop (k i) (c ∷ cs))) ∙ ap (λ q. head_of owner q 0 (c ∷ cs)) z
+    ]

@@ -8,7 +8,7 @@ use crate::line::LogicalLine;
 use crate::queue::Queue;
 use std::alloc::Global;
 use tree_base::{List, Memory};
-use yaml_lines::{Chomp, Row, block_of_rows, is_blank, text_at};
+use yaml_lines::{Row, block_len, is_blank, text_at};
 use yaml_nodes::starts;
 
 /// The characters behind so many; none where there are fewer.
@@ -22,10 +22,20 @@ fn behind(chars: &[char], count: usize) -> &[char]
     }
 }
 
-/// Puts the characters of rows last, each behind a line feed.
+/// How many characters rows have, with a line feed for each.
+fn room_of(rows: &[Row]) -> usize {
+    let mut room = 0usize;
+    for row in rows {
+        room = room.saturating_add(row.chars.len()).saturating_add(1);
+    }
+    room
+}
+
+/// Puts the characters of rows last, each behind a line feed. Takes the room for all of them at once.
 fn push_lines(chars: &mut List<char>, rows: &[Row]) -> Result<(), Memory>
     ensures { OnOk result (chars.new ≡ chars.old ++ led rows.now) }
 {
+    chars.reserve(room_of(rows))?;
     for row in rows {
         chars.push('\n')?;
         chars.extend_from_slice(row.chars.as_slice())?;
@@ -41,27 +51,20 @@ fn begins_block(chars: &[char]) -> bool
 }
 
 /// How many of the rows that follow belong to a row, by its head. `text` has the characters of all of them.
-fn belonging(
-    alloc: Global,
-    head: (usize, usize),
-    row: &Row,
-    rows: &[Row],
-    text: &[char],
-) -> Result<usize, Memory>
+fn belonging(head: (usize, usize), row: &Row, rows: &[Row], text: &[char]) -> usize
     requires { text.now ≡ joined_chars row.now.chars rows.now }
-    ensures { IfOk result (λ n. n ≡ belonging head row.now rows.now) }
+    ensures { result ≡ belonging head row.now rows.now }
 {
     let (column, at) = head;
     let value = text_at(row, at);
     if begins_flow(value) {
         let inside = behind(behind(text, at), 1);
-        return Ok(flow_lines(inside, rows.len()));
+        return flow_lines(inside, rows.len());
     }
     if begins_block(value) {
-        let (_, count) = block_of_rows(alloc, rows, column, false, Chomp::Clip)?;
-        return Ok(count);
+        return block_len(rows, column);
     }
-    Ok(0)
+    0
 }
 
 /// A line whose value begins at a place, with the rows that belong to it.
@@ -115,7 +118,7 @@ pub fn grouped(alloc: Global, rows: List<Row>) -> Result<List<LogicalLine>, Memo
             continue;
         }
         let (column, value) = head_of(row.chars.as_slice(), owner);
-        let count = belonging(alloc, (column, value), &row, rest.rows(), joined)?;
+        let count = belonging((column, value), &row, rest.rows(), joined);
         let following = rest.take(alloc, count)?;
         text = behind_rows(text, following.as_slice());
         lines.push(with_lines(alloc, value, row, following)?)?;

@@ -2,8 +2,8 @@ ghost use Rattle.std.specs.Prelude.{◌≡◌, ◌≤◌, length};
 ghost use Rattle.logical_lines.specs.Grouped.{head_of};
 ghost use Rattle.logical_lines.specs.Parts.{front_of};
 
-use yaml_lines::{Context, is_white};
-use yaml_nodes::{before_colon, is_item, is_key, is_property, name_len};
+use yaml_lines::{Context, blanks, is_white};
+use yaml_nodes::{colon_of_key, is_item, is_property, name_len};
 
 /// How many characters the white space, the dash, the property or the key takes that stands in front, 0 where none
 /// does; and whether it is a dash or a key.
@@ -20,8 +20,8 @@ fn front_of(chars: &[char]) -> (usize, bool)
                 (1, true)
             } else if is_property(chars) {
                 (name_len(rest) + 1, false)
-            } else if is_key(chars, Context::Block) {
-                (before_colon(chars, Context::Block) + 1, true)
+            } else if let Some(colon) = colon_of_key(chars, Context::Block) {
+                (colon + 1, true)
             } else {
                 (0, false)
             }
@@ -35,7 +35,7 @@ pub fn head_of(chars: &[char], owner: usize) -> (usize, usize)
     ensures within { result.1 ≤ length chars.now }
 {
     let mut column = owner;
-    let mut at = 0;
+    let mut at = blanks(chars);
     loop {
         let (len, owns) = front_of(&chars[at..]);
         if len == 0 {

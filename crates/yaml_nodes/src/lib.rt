@@ -20,8 +20,8 @@ pub use block::{block_scalar, line_end};
 pub use entries::{Entries, Merge, merged, new_key, no_entries, with_pair};
 pub use key::{Key, key_at};
 pub use marks::{
-    before_colon, is_colon_of, is_item, is_key, is_key_behind, is_left_out, is_property, is_quote,
-    key_len, name_len, properties_len, starts,
+    before_colon, colon_of_key, is_colon_of, is_item, is_key, is_key_behind, is_left_out,
+    is_property, is_quote, key_len, name_len, properties_len, starts,
 };
 pub use progress::Progress;
 pub use properties::{

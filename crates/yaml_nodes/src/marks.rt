@@ -1,4 +1,4 @@
-ghost use Rattle.std.specs.Prelude.{◌≡◌, ◌≤◌, ◌||◌, codes, length};
+ghost use Rattle.std.specs.Prelude.{◌≡◌, ◌≤◌, ◌<◌, ◌||◌, Some, None, IfSome, codes, length, if◌then◌else◌};
 ghost use Rattle.yaml_nodes.specs.Marks.{starts, starts_with, is_item, name_len, is_property, front_len, properties_len, is_quote, key_len, is_colon_of, before_colon, is_key, is_key_behind, is_left_out};
 
 use crate::quotes::quoted_len;
@@ -123,6 +123,21 @@ pub fn before_colon(chars: &[char], context: Context) -> usize
 {
     let len = key_len(chars, context);
     len + blanks(&chars[len..])
+}
+
+/// How many characters stand before the colon of the key that stands here on one line, or of the alias in its place;
+/// None exactly where no key with its colon does.
+pub fn colon_of_key(chars: &[char], context: Context) -> Option<usize>
+    ensures is { result ≡ (if is_key context chars.now then Some (before_colon context chars.now) else None) }
+    ensures within { IfSome result (λ at. at < length chars.now) }
+{
+    let len = key_len(chars, context);
+    let colon = len + blanks(&chars[len..]);
+    if len > 0 && is_colon_of(chars, &chars[colon..], context) {
+        Some(colon)
+    } else {
+        None
+    }
 }
 
 /// Whether a key with its colon stands here on one line; an alias may stand in its place.

@@ -4,8 +4,8 @@ use Rattle.logical_lines.specs.Parts.{led}
 use Rattle.logical_lines.proofs.GroupSteps.{joined_led, row_text, text_behind, lines_behind, line_step}
 use Rattle.logical_lines.proofs.group.grouped.Goals as goal
 
-pub belonging-requires : goal.belonging-requires
-belonging-requires c =
+pub belonging-count-requires : goal.belonging-count-requires
+belonging-count-requires c =
     let row = c.in-Some.row in
     let rest = c.next.new.self in
     row_text c.loop-row.text.now c.behind-joined.result.now row c.loop-row.rest rest c.loop-row.invariant.text c.in-Some.ensures c.behind-joined.ensures
@@ -21,8 +21,8 @@ loop-row-preserved c =
     let taken = rw c.as_slice-in-Some-3.ensures at c.behind_rows-text.ensures in
     let full : is_blank row.chars ≡ false = rw c.as_slice-in-Some.ensures at (sym c.is_blank.ensures ∙ c.if-is_blank.false) in
     let head = rw c.as_slice-in-Some-2.ensures at c.head_of-column.ensures.is in
-    let count = rw c.rows-in-Some.ensures at c.in_ok-count.ensures in
+    let count = rw c.rows-in-Some.ensures at c.belonging-count.ensures in
     record {
-      text = lines_behind c.behind-text.result.now _ rest c.take.new.self following c.in_ok-count.count text c.in_ok-following.ensures.is c.in_ok-following.ensures.rest taken;
-      is = line_step c.loop-row.owner _ c.in_ok-count.count c.head_of-column.result row c.loop-row.rest rest c.take.new.self following c.in_ok-with_lines.field-0 c.loop-row.lines _ _ c.in-Some.ensures full head count c.in_ok-following.ensures.is c.in_ok-following.ensures.rest c.in_ok-with_lines.ensures c.in_ok-push.ensures.ok refl c.loop-row.invariant.is;
+      text = lines_behind c.behind-text.result.now _ rest c.take.new.self following c.belonging-count.result text c.in_ok-following.ensures.is c.in_ok-following.ensures.rest taken;
+      is = line_step c.loop-row.owner _ c.belonging-count.result c.head_of-column.result row c.loop-row.rest rest c.take.new.self following c.in_ok-with_lines.field-0 c.loop-row.lines _ _ c.in-Some.ensures full head count c.in_ok-following.ensures.is c.in_ok-following.ensures.rest c.in_ok-with_lines.ensures c.in_ok-push.ensures.ok refl c.loop-row.invariant.is;
     }

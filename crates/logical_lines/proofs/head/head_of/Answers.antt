@@ -1,8 +1,20 @@
-use Rattle.std.proofs.Common.{◌≡◌, cond, arith}
+use Rattle.std.proofs.Common.{◌≡◌, ◌∙◌, ◌+◌, cond, drop, ap, arith}
 use Rattle.std.proofs.lemmas.List.{take_rest}
-use Rattle.logical_lines.proofs.HeadSteps.{head_end, head_step}
+use Rattle.logical_lines.proofs.HeadSteps.{head_end, head_step, white_front}
+use Rattle.logical_lines.specs.Grouped.{head_of}
+use Rattle.yaml_lines.specs.Blanks.{blanks}
 use Rattle.logical_lines.proofs.head.head_of.Goals as goal
 use Rattle.logical_lines.proofs.head.head_of.Goals.{then-owns, else-owns}
+
+pub loop-owner-init : goal.loop-owner-init
+loop-owner-init c =
+    let cs = c.args.chars.now in
+    let front : blanks cs ≡ 0 + blanks cs = omega arith in
+    record {
+      within = omega arith;
+      is = (λ i. head_of c.args.owner (c.blanks-at.ensures.is i) 0 (drop (c.blanks-at.ensures.is i) cs))
+          ∙ ap (λ at. head_of c.args.owner at 0 (drop (blanks cs) cs)) front ∙ white_front c.args.owner 0 cs;
+    }
 
 pub returns-then-len-eq0-clause-is : goal.returns-then-len-eq0-clause-is
 returns-then-len-eq0-clause-is c =
