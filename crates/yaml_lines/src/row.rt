@@ -40,16 +40,34 @@ pub fn rows_of(alloc: Global, lines: &Lines) -> Result<List<Row>, Memory>
     Ok(rows)
 }
 
-/// The characters of a text.
+/// The characters of a text. Most lines are ASCII, of which each byte is a character.
 fn characters(alloc: Global, text: &Text) -> Result<List<char>, Memory>
     ensures { IfOk result (λ l. l ≡ chars text.now) }
 {
-    let mut chars = List::new(alloc);
-    chars.reserve(text.len())?;
-    for c in text.as_str().chars() {
-        chars.push(c)?;
+    let text = text.as_str();
+    if text.is_ascii() {
+        bytes_as_characters(alloc, text.as_bytes())
+    } else {
+        decoded(alloc, text)
     }
-    Ok(chars)
+}
+
+/// A character for each byte.
+fn bytes_as_characters(alloc: Global, bytes: &[u8]) -> Result<List<char>, Memory>
+    ensures { IfOk result (λ l. l ≡ bytes.now) }
+{
+    let mut chars = Vec::with_capacity(alloc, bytes.len())?;
+    chars.extend(bytes.iter().map(|byte| *byte as char))?;
+    Ok(List::from_vec(chars))
+}
+
+/// The characters of a text of any bytes.
+fn decoded(alloc: Global, text: &str) -> Result<List<char>, Memory>
+    ensures { IfOk result (λ l. l ≡ chars text.now) }
+{
+    let mut chars = Vec::with_capacity(alloc, text.len())?;
+    chars.extend(text.chars())?;
+    Ok(List::from_vec(chars))
 }
 
 /// The place of a character of a row; one past the end has the place that would come next. A number past
