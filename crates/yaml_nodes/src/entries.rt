@@ -1,4 +1,5 @@
-ghost use Rattle.std.specs.Prelude.{◌≡◌, Some, IfOk};
+ghost use Rattle.std.specs.Prelude.{◌≡◌, Some, IfOk, is_some};
+ghost use Rattle.tree_base.specs.Entries.{value_at};
 ghost use Rattle.tree_base.specs.declared.tree.Tree.{out-Tree};
 ghost use Rattle.yaml_lines.specs.Answers.{Gives};
 ghost use Rattle.yaml_nodes.specs.Progress.{result_beside, result_left};
@@ -9,8 +10,11 @@ use crate::key::Key;
 use crate::progress::Progress;
 use crate::spot::Spot;
 use std::alloc::Global;
-use tree_base::{List, Map, Memory, Shared, Tree};
+use tree_base::{List, Map, Memory, Shared, Text, Tree};
 use yaml_lines::{Row, YamlFault, YamlRefusal};
+
+/// How many keys are few.
+const FEW: usize = 8;
 
 /// A merge key with its value.
 #[derive(Drop)]
@@ -73,7 +77,18 @@ fn is_there(entries: &Entries, key: &Key) -> bool
     if key.is_merge {
         entries.merge.is_some()
     } else {
-        entries.own.get(&key.text).is_some()
+        has_key(&entries.own, &key.text)
+    }
+}
+
+/// Whether a mapping has a key. Few keys are gone through one by one, which is faster than to look one up.
+fn has_key(map: &Map, key: &Text) -> bool
+    ensures { result ≡ is_some (value_at map.now key.now) }
+{
+    if map.len() <= FEW {
+        map.find(key.as_str()).is_some()
+    } else {
+        map.get(key).is_some()
     }
 }
 
