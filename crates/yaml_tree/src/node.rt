@@ -9,16 +9,17 @@ ghost use Rattle.yaml_tree.specs.Steps.{behind_properties, inner};
 use crate::inline::{alone, goes_on_at, inline_alone};
 use crate::owner::Owner;
 use crate::parts::{
-    begun, behind_dash, entry_len, is_item_at, item_len, later_begun, stands_behind, value_len,
+    begun, behind_dash, colon_behind, entry_len, is_item_at, item_len, later_begun, stands_behind,
+    value_len,
 };
 use logical_lines::LogicalLine;
 use std::alloc::Global;
 use tree_base::{List, Tree};
 use yaml_lines::{Context, YamlFault, YamlRefusal, blanks, is_rest_blank, place_in, text_at};
 use yaml_nodes::{
-    Entries, Progress, Properties, Spot, before_colon, carried, finished, is_colon_of, is_item,
-    is_key_behind, is_property, key_at, merged, new_key, no_entries, no_properties, nothing,
-    properties_from, properties_len, unspelled, with_pair,
+    Entries, Progress, Properties, Spot, carried, finished, is_colon_of, is_item, is_key_behind,
+    is_property, key_at, merged, new_key, no_entries, no_properties, nothing, properties_from,
+    properties_len, unspelled, with_pair,
 };
 
 /// The node in the lines below its owner, which begins with their first character; null where there are none.
@@ -277,7 +278,7 @@ fn put_entry(
     let row = &line.row;
     let chars = text_at(row, column);
     let key = key_at(alloc, progress, Context::Block, row, column)?;
-    let colon = column + before_colon(chars, Context::Block);
+    let colon = colon_behind(row, column, &key);
     if !is_colon_of(chars, text_at(row, colon), Context::Block) {
         return Err(progress.bad(YamlFault::BadScalar, row, column));
     }

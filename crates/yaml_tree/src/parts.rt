@@ -1,7 +1,9 @@
 ghost use Rattle.std.specs.Prelude.{◌≡◌, ◌≤◌, ◌<◌, ◌+◌, ◌^◌, length};
 ghost use Rattle.std.specs.List.{position_or_len};
 ghost use Rattle.yaml_lines.specs.Answers.{Gives};
+ghost use Rattle.yaml_lines.specs.declared.plain.Context.TheVariants.{Block};
 ghost use Rattle.yaml_lines.specs.Rows.{text_at};
+ghost use Rattle.yaml_nodes.specs.Marks.{before_colon, key_len};
 ghost use Rattle.yaml_nodes.specs.Progress.{result_left};
 ghost use Rattle.yaml_tree.specs.Blocks.{stands_behind};
 ghost use Rattle.yaml_tree.specs.Parts.{begun, is_item_at, begins_item, begins_entry, is_bare, value_len};
@@ -9,7 +11,7 @@ ghost use Rattle.yaml_tree.specs.Steps.{later_begun};
 
 use logical_lines::LogicalLine;
 use yaml_lines::{Row, YamlFault, YamlRefusal, blanks, is_rest_blank, tab_indent, text_at};
-use yaml_nodes::{Progress, is_item, is_left_out, is_property, properties_len};
+use yaml_nodes::{Key, Progress, is_item, is_left_out, is_property, properties_len};
 
 /// Refuses a line with a tab in its indentation (`TabIndent`), and one that is left out (`Unsupported`).
 pub(crate) fn begun(progress: &Progress, line: &LogicalLine) -> Result<(), YamlRefusal>
@@ -59,6 +61,18 @@ pub(crate) fn behind_dash(row: &Row, column: usize) -> &[char]
     ensures small { length row.now.chars < 2 ^ 63 }
 {
     &text_at(row, column)[1..]
+}
+
+/// The place behind a key that was read at a place of a row, and behind the white space that follows it.
+pub(crate) fn colon_behind(row: &Row, at: usize, key: &Key) -> usize
+    requires within { at + key.now.len ≤ length row.now.chars }
+    requires small { length row.now.chars < 2 ^ 63 }
+    requires read { key.now.len ≡ key_len Block (text_at row.now at) }
+    ensures is { result ≡ at + before_colon Block (text_at row.now at) }
+    ensures within { result ≤ length row.now.chars }
+{
+    let behind = at + key.len;
+    behind + blanks(text_at(row, behind))
 }
 
 /// How many lines come before the next item of a sequence at a column.

@@ -1,7 +1,9 @@
 use Rattle.std.proofs.Common.{◌∙◌, [], sym, ap, refl, length, arith, rules}
 use Rattle.std.proofs.lemmas.Grind.{common_steps}
 use Rattle.std.proofs.lemmas.Result.{err_from_is_err_and}
+use Rattle.yaml_lines.specs.declared.plain.Context.TheVariants.{Block}
 use Rattle.yaml_nodes.proofs.Chains.{gives_as}
+use Rattle.yaml_nodes.proofs.KeySteps.{key_len_read}
 use Rattle.yaml_nodes.specs.Mappings.{no_entries}
 use Rattle.yaml_tree.proofs.Levels.{node_is}
 use Rattle.yaml_tree.proofs.PartSteps.{start_fails, start_ok, begun_fails, later_fails, later_ok, belongs_there, item_within}
@@ -106,3 +108,6 @@ pub node-returns : goal.node-returns
 node-returns t c =
     let a = c.args in
     gives_as _ (node_is a.levels a.owner.now a.found a.progress.now a.at a.line.now a.more.now) (grind (arith, common_steps))
+
+pub put_entry-colon_behind-colon-requires-clause-read : goal.put_entry-colon_behind-colon-requires-clause-read
+put_entry-colon_behind-colon-requires-clause-read t c = key_len_read Block c.args.progress.now c.args.line.now.row c.args.column c.in_ok-key.key c.in_ok-key.ensures.is
