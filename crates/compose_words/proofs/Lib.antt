@@ -4,3 +4,4 @@ pub mod NumeralLemmas
 pub mod RefusalLemmas
 pub mod BoundLemmas
 pub mod PlaceLemmas
+pub mod UsageLemmas

@@ -8,3 +8,4 @@ pub mod Reading
 pub mod Refusals
 pub mod Table
 pub mod Tiling
+pub mod Usage

@@ -1,5 +1,6 @@
 ghost use Rattle.std.specs.Prelude.{◌≡◌, map};
 ghost use Rattle.compose_words.specs.Table.{option_named, option_assigned, command_named, is_named, is_assignable, names_of, option_table, command_table, serves, takes_value, word_of, is_word};
+ghost use Rattle.compose_words.specs.Usage.{shown_command, shown_commands, shown_option, shown_options};
 
 /// What an option is for, whatever its names on the command line are.
 #[derive(Clone, Copy, PartialEq, Eq)]
@@ -224,17 +225,19 @@ impl Users {
 }
 
 /// The table of options.
-#[tactic(auto, unfolding(crate::specs::Table::option_table))]
+#[tactic(auto, unfolding(crate::specs::Table::option_table, crate::specs::Usage::shown_options))]
 pub fn options() -> &'static [OptionLine]
-    ensures { map names_of result.now ≡ option_table }
+    ensures names { map names_of result.now ≡ option_table }
+    ensures shown { map shown_option result.now ≡ shown_options }
 {
     &OPTIONS
 }
 
 /// The table of commands.
-#[tactic(auto, unfolding(crate::specs::Table::command_table))]
+#[tactic(auto, unfolding(crate::specs::Table::command_table, crate::specs::Usage::shown_commands))]
 pub fn commands() -> &'static [CommandLine]
-    ensures { map word_of result.now ≡ command_table }
+    ensures names { map word_of result.now ≡ command_table }
+    ensures shown { map shown_command result.now ≡ shown_commands }
 {
     &COMMANDS
 }
