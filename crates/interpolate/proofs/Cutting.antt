@@ -1,10 +1,8 @@
 -- A text cut into its first part and the rest.
 use Rattle.std.proofs.Common.{◌≡◌, ◌≢◌, ◌∙◌, ℕ, zero, suc, ◌+◌, ◌-◌, ◌<◌, ◌≤◌, Bool, List, [], ◌∷◌, length, take, drop, Result, Ok, Err, refl, sym, ap, arith}
 use Rattle.interpolate.specs.declared.part.Action.{Action}
-use Rattle.interpolate.specs.declared.part.Part.{Part}
-use Rattle.interpolate.specs.declared.part.Part.TheVariants.{Literal, Dollar, Name, Value, Form, Unclosed, Wrong}
 use Rattle.interpolate.specs.declared.refusal.SubstRefusal.{SubstRefusal}
-use Rattle.interpolate.specs.Shapes.{first_part, part_len, tail_start}
+use Rattle.interpolate.specs.Shapes.{Part, Literal, Dollar, Name, Value, Form, Unclosed, Wrong, first_part, part_len, tail_start}
 use Rattle.interpolate.specs.Parts.{◌>>=◌, Parts, End, Reader, Braced, before, with_part, cut, tails, parts, well_formed, first_len}
 
 -- what belongs to a part before is skipped
@@ -30,7 +28,7 @@ pub tails_below : (levels : ℕ) → 0 < levels → tails levels ≡ parts (leve
 tails_below zero h = absurd (omega arith)
 tails_below (suc levels) h = let same : suc levels - 1 ≡ levels = omega arith in rw same refl
 
-abbrev checked : Result Parts SubstRefusal → ℕ → Result ℕ SubstRefusal
+abbrev pub checked : Result Parts SubstRefusal → ℕ → Result ℕ SubstRefusal
 checked read n = read >>= λ _. Ok n
 
 -- a form before other parts is wrong as it is alone
@@ -57,7 +55,7 @@ plain_fine : (rest : Result Parts SubstRefusal) (part : Parts → Parts) → wel
 plain_fine (Ok more) part = refl
 plain_fine (Err d) part = refl
 
-part_fine : (read : Reader) (at : ℕ) (text : List ℕ) (part : Part) (rest : Result Parts SubstRefusal) (n m : ℕ) → checked (with_part read at text part (Ok End)) n ≡ Ok m → (well_formed (with_part read at text part rest) ≡ well_formed rest) × (n ≡ m)
+pub part_fine : (read : Reader) (at : ℕ) (text : List ℕ) (part : Part) (rest : Result Parts SubstRefusal) (n m : ℕ) → checked (with_part read at text part (Ok End)) n ≡ Ok m → (well_formed (with_part read at text part rest) ≡ well_formed rest) × (n ≡ m)
 part_fine read at text (Literal len) rest n m h = (plain_fine rest _, cc)
 part_fine read at text Dollar rest n m h = (plain_fine rest _, cc)
 part_fine read at text (Name len) rest n m h = (plain_fine rest _, cc)

@@ -7,9 +7,8 @@ use Rattle.std.proofs.lemmas.List.{length-take, length-drop, get_or-drop, get_or
 use Rattle.std.proofs.lemmas.Str.{IsCharBoundary-before_ascii, IsCharBoundary-after_ascii, IsCharBoundary-end}
 use Rattle.interpolate.specs.declared.part.Action.{Action}
 use Rattle.interpolate.specs.declared.part.Action.TheVariants.{Default, Require, Replace}
-use Rattle.interpolate.specs.declared.part.Part.TheVariants.{Value, Form, Unclosed, Wrong}
 use Rattle.interpolate.specs.Lengths.{starts_name, goes_on_name, run_len, name_len, literal_len, inside_len}
-use Rattle.interpolate.specs.Shapes.{action_part, operator_part, form_part, braced_part, dollar_part, first_part, tail_start}
+use Rattle.interpolate.specs.Shapes.{Value, Form, Unclosed, Wrong, action_part, operator_part, form_part, braced_part, dollar_part, first_part, tail_start}
 use Rattle.interpolate.specs.Cuts.{FitsIn, HasName}
 
 goes_on_ascii : (c : ℕ) → goes_on_name c ≡ true → c < 128
@@ -77,7 +76,7 @@ inside_end opened dollar (c ∷ cs) h = at (eqb c 125) refl (eqb opened 0) refl 
     at true e false z less more h = rw (e, z) (inside_more _ c cs less (rw (e, z) at h))
     at false e z f less more h = rw e (inside_more _ c cs more (rw e at h))
 
-inside_within : (opened : ℕ) (dollar : Bool) (cs : List ℕ) → inside_len opened dollar cs ≤ length cs
+pub inside_within : (opened : ℕ) (dollar : Bool) (cs : List ℕ) → inside_len opened dollar cs ≤ length cs
 inside_within opened dollar [] = omega arith
 inside_within opened dollar (c ∷ cs) =
     elim (eqb c 125) as (λ b. cond b (cond (eqb opened 0) 0 (inside_len (opened - 1) false cs + 1)) (inside_len (cond (dollar && eqb c 123) (opened + 1) opened) (eqb c 36 && not dollar) cs + 1) ≤ suc (length cs)) [

@@ -1,11 +1,11 @@
 -- The value of a text, from the value of its first part and that of the rest.
-use Rattle.std.proofs.Common.{◌≡◌, ◌≢◌, ◌∙◌, ℕ, ◌+◌, ◌-◌, ◌<◌, ◌≤◌, Bool, List, [], ◌∷◌, ◌++◌, append_assoc, length, take, drop, Result, Ok, Err, IsOk, refl, sym, ap, subst}
+use Rattle.std.proofs.Common.{◌≡◌, ◌≢◌, ◌∙◌, ℕ, ◌+◌, ◌-◌, ◌<◌, ◌≤◌, Bool, false, List, [], ◌∷◌, ◌++◌, append-nil, append_assoc, length, take, drop, Result, Ok, Err, IsOk, refl, sym, ap, subst}
 use Rattle.interpolate.specs.declared.part.Action.{Action}
-use Rattle.interpolate.specs.declared.part.Part.{Part}
-use Rattle.interpolate.specs.declared.part.Part.TheVariants.{Literal, Dollar, Name, Value, Form, Unclosed, Wrong}
 use Rattle.interpolate.specs.declared.refusal.SubstRefusal.{SubstRefusal}
 use Rattle.interpolate.specs.declared.refusal.SubstRefusal.TheVariants as refusals
-use Rattle.interpolate.specs.Shapes.{first_part, part_len, tail_start}
+use Rattle.interpolate.specs.Shapes.{Part, Literal, Dollar, Name, Value, Form, Unclosed, Wrong, first_part, part_len, tail_start}
+use Rattle.interpolate.specs.Lengths.{inside_len}
+use Rattle.interpolate.specs.Heads.{inner}
 use Rattle.interpolate.specs.Parts.{◌>>=◌, Parts, Reader, Braced, before, with_part, cut, tails, parts}
 use Rattle.interpolate.specs.Substitution.{Variables, value, counted, form_value, part_value, text_value, first_value, appended, Fails}
 use Rattle.interpolate.proofs.Cutting.{parts_first, tails_below}
@@ -89,15 +89,20 @@ tail_fine levels at (c ∷ cs) inner name colon action tail start ne fine is lef
     subst (λ (l : List ℕ). IsOk (parts (levels - 1) (at + start) l)) (sym same) there
 
 -- what a form gives, with its tail a level deeper
-pub form_first : (levels : ℕ) (env : Variables) (at : ℕ) (text inner nm : List ℕ) (name : ℕ) (colon : Bool) (action : Action) (tail start : ℕ)
-    → Form name colon action tail ≡ first_part levels text → 0 < levels → start ≡ tail_start name colon → inner ≡ take tail (drop start text) → nm ≡ take name (drop 2 text)
-    → first_value levels env at text ≡ form_value nm action (counted colon (env nm)) (text_value (parts (levels - 1)) env (at + start) inner)
-form_first levels env at text inner nm name colon action tail start is left from same named =
+pub form_value_below : (levels : ℕ) (env : Variables) (at : ℕ) (text rest nm : List ℕ) (name : ℕ) (colon : Bool) (action : Action) (start : ℕ) → (part : Part)
+    → Form name colon action (inside_len 0 false (drop (tail_start name colon) text)) ≡ part → 0 < levels → start ≡ tail_start name colon → rest ≡ drop start text → nm ≡ take name (drop 2 text)
+    → part_value (tails levels) env at text part ≡ form_value nm action (counted colon (env nm)) (text_value (parts (levels - 1)) env (at + start) (inner rest))
+form_value_below levels env at text rest nm name colon action start part is left from same named =
     ap (part_value (tails levels) env at text) (sym is)
-    ∙ ap (λ (r : Reader). form_value (take name (drop 2 text)) action (counted colon (env (take name (drop 2 text)))) (text_value r env (at + tail_start name colon) (take tail (drop (tail_start name colon) text)))) (tails_below levels left)
-    ∙ ap (λ (l : List ℕ). form_value l action (counted colon (env l)) (text_value (parts (levels - 1)) env (at + tail_start name colon) (take tail (drop (tail_start name colon) text)))) (sym named)
-    ∙ ap (λ (k : ℕ). form_value nm action (counted colon (env nm)) (text_value (parts (levels - 1)) env (at + k) (take tail (drop k text)))) (sym from)
-    ∙ ap (λ (l : List ℕ). form_value nm action (counted colon (env nm)) (text_value (parts (levels - 1)) env (at + start) l)) (sym same)
+    ∙ ap (λ (r : Reader). form_value (take name (drop 2 text)) action (counted colon (env (take name (drop 2 text)))) (text_value r env (at + tail_start name colon) (inner (drop (tail_start name colon) text)))) (tails_below levels left)
+    ∙ ap (λ (l : List ℕ). form_value l action (counted colon (env l)) (text_value (parts (levels - 1)) env (at + tail_start name colon) (inner (drop (tail_start name colon) text)))) (sym named)
+    ∙ ap (λ (k : ℕ). form_value nm action (counted colon (env nm)) (text_value (parts (levels - 1)) env (at + k) (inner (drop k text)))) (sym from)
+    ∙ ap (λ (l : List ℕ). form_value nm action (counted colon (env nm)) (text_value (parts (levels - 1)) env (at + start) (inner l))) (sym same)
+
+-- where nothing is left, nothing more is put
+pub join_done : (levels : ℕ) (env : Variables) (at : ℕ) (left out : List ℕ) → left ≡ [] → appended out (text_value (parts levels) env at left) ≡ Ok out
+join_done levels env at [] out e = ap Ok (append-nil out)
+join_done levels env at (c ∷ cs) out e = absurd cc
 
 -- what fails at the first part fails for the text
 pub join_fails : (levels : ℕ) (env : Variables) (at : ℕ) (text out : List ℕ) (e : SubstRefusal) → text ≢ [] → IsOk (parts levels at text) → Fails e (appended out (first_value levels env at text))

@@ -1,9 +1,7 @@
 -- Where a text may be cut at its first part.
 use Rattle.std.specs.Prelude.{ℕ, ◌+◌, ◌<◌, List}
 use Rattle.std.specs.Str.{IsCharBoundary}
-use Rattle.interpolate.specs.declared.part.Part.{Part}
-use Rattle.interpolate.specs.declared.part.Part.TheVariants.{Literal, Dollar, Name, Value, Form, Unclosed, Wrong}
-use Rattle.interpolate.specs.Shapes.{tail_start}
+use Rattle.interpolate.specs.Shapes.{Part, Literal, Dollar, Name, Value, Form, Unclosed, Wrong, tail_start}
 
 -- a name between two places
 pub record HasName (text : List ℕ) (from to : ℕ) : Type 0 where

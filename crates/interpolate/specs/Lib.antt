@@ -1,5 +1,6 @@
 pub mod Lengths
 pub mod Shapes
+pub mod Heads
 pub mod Cuts
 pub mod Parts
 pub mod Substitution

@@ -1,11 +1,9 @@
 -- The parts of a text: bytes that stand for themselves, `$$`, variables, and forms whose tails are parts again.
 use Rattle.std.specs.Prelude.{ℕ, zero, suc, ◌+◌, ◌-◌, List, [], ◌∷◌, Bool, take, drop, min, Result, Ok, Err}
 use Rattle.interpolate.specs.declared.part.Action.{Action}
-use Rattle.interpolate.specs.declared.part.Part.{Part}
-use Rattle.interpolate.specs.declared.part.Part.TheVariants.{Literal, Dollar, Name, Value, Form, Unclosed, Wrong}
 use Rattle.interpolate.specs.declared.refusal.SubstRefusal.{SubstRefusal}
 use Rattle.interpolate.specs.declared.refusal.SubstRefusal.TheVariants as refusals
-use Rattle.interpolate.specs.Shapes.{first_part, part_len, tail_start}
+use Rattle.interpolate.specs.Shapes.{Part, Literal, Dollar, Name, Value, Form, Unclosed, Wrong, first_part, part_len, tail_start}
 
 -- what follows a step that has its value, and else the refusal of that step
 infixl 10 ◌>>=◌
@@ -65,6 +63,10 @@ parts levels at text = cut levels (tails levels) at 0 text
 -- whether there are parts, else the refusal
 abbrev pub well_formed : Result Parts SubstRefusal → Result (Unit {0}) SubstRefusal
 well_formed read = read >>= λ _. Ok tt
+
+-- how many bytes a text has, where it is well formed
+abbrev pub sound_len : Result Parts SubstRefusal → ℕ → Result ℕ SubstRefusal
+sound_len read len = well_formed read >>= λ _. Ok len
 
 -- how many bytes the first part has, where it and its tail are well formed
 abbrev pub first_len : ℕ → ℕ → List ℕ → Result ℕ SubstRefusal

@@ -1,10 +1,20 @@
 -- The part that a text begins with, by how many bytes it is made of: the forms of the Compose Specification's chapter on
 -- interpolation, of which `${NAME-tail}` and its kin have a tail that runs to the `}`.
 use Rattle.std.specs.Prelude.{ℕ, ◌+◌, List, [], ◌∷◌, Bool, true, false, length, take, drop, ◌==◌, if◌then◌else◌}
+use Rattle.interpolate.specs.declared.part.Action.{Action}
 use Rattle.interpolate.specs.declared.part.Action.TheVariants.{Default, Require, Replace}
-use Rattle.interpolate.specs.declared.part.Part.{Part}
-use Rattle.interpolate.specs.declared.part.Part.TheVariants.{Literal, Dollar, Name, Value, Form, Unclosed, Wrong}
 use Rattle.interpolate.specs.Lengths.{starts_name, name_len, literal_len, inside_len}
+
+-- a part: bytes that stand for themselves, `$$`, `$NAME`, `${NAME}`, a form by its name, whether a colon stands behind it, its operator
+-- and its tail, a `${` that no `}` closes, and one that is closed and is none of the forms or stands in too many others
+pub data Part : Type 0 where
+  Literal : ℕ → Part
+  Dollar : Part
+  Name : ℕ → Part
+  Value : ℕ → Part
+  Form : ℕ → Bool → Action → ℕ → Part
+  Unclosed : Part
+  Wrong : Part
 
 -- a form by its operator, `-`, `?` or `+`: what follows that is its tail
 abbrev pub action_part : ℕ → Bool → List ℕ → Part

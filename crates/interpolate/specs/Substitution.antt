@@ -2,11 +2,9 @@
 use Rattle.std.specs.Prelude.{◌≡◌, ℕ, ◌+◌, List, [], ◌∷◌, ◌++◌, Bool, Option, Some, None, unwrap_or, length, take, drop, Result, Ok, Err, ◌==◌, ◌&&◌, if◌then◌else◌}
 use Rattle.interpolate.specs.declared.part.Action.{Action}
 use Rattle.interpolate.specs.declared.part.Action.TheVariants.{Default, Require, Replace}
-use Rattle.interpolate.specs.declared.part.Part.{Part}
-use Rattle.interpolate.specs.declared.part.Part.TheVariants.{Literal, Dollar, Name, Value, Form, Unclosed, Wrong}
 use Rattle.interpolate.specs.declared.refusal.SubstRefusal.{SubstRefusal}
 use Rattle.interpolate.specs.declared.refusal.SubstRefusal.TheVariants as refusals
-use Rattle.interpolate.specs.Shapes.{first_part, tail_start}
+use Rattle.interpolate.specs.Shapes.{Part, Literal, Dollar, Name, Value, Form, Unclosed, Wrong, first_part, tail_start}
 use Rattle.interpolate.specs.Parts.{◌>>=◌, Parts, End, Text, Dollars, Variable, Braced, Reader, place, parts, tails}
 
 -- what the variables are: the value of a name, where it is set

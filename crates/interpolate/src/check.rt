@@ -1,10 +1,12 @@
 ghost use Rattle.std.specs.Prelude.{◌≡◌, ◌≢◌, [], ◌<◌, ◌≤◌, ◌+◌, ◌^◌, length, IfOk};
 ghost use Rattle.std.specs.Str.{IsCharBoundary};
-ghost use Rattle.interpolate.specs.Parts.{place, parts, well_formed, first_len};
+ghost use Rattle.interpolate.specs.Heads.{IsClosed, own};
+ghost use Rattle.interpolate.specs.Parts.{place, parts, sound_len, first_len};
 
-use crate::part::{Part, first_part, tail_start};
-use crate::piece::{piece, rest_from};
+use crate::part::{Head, first_head, tail_start};
+use crate::piece::rest_from;
 use crate::refusal::SubstRefusal;
+use crate::scan::ends;
 
 /// A place as a `u32`, where one past the greatest is that.
 pub fn place(at: usize) -> u32
@@ -13,46 +15,51 @@ pub fn place(at: usize) -> u32
     at.min(4_294_967_295) as u32
 }
 
-/// Whether each `$` of a text is well formed, those of tails too; else the first that isn't.
+/// Whether each `$` of a text is well formed, those of tails too; else the first that isn't. A text that stands in a
+/// form ends at the form's `}`: the result is how long it is.
 #[cycle(check)]
-pub fn check(text: &str, at: usize, levels: u32) -> Result<(), SubstRefusal>
-    requires { at + length text.now < 2 ^ 64 }
-    ensures { result ≡ well_formed (parts levels at text.now) }
+pub fn check(text: &str, at: usize, levels: u32, inside: bool) -> Result<usize, SubstRefusal>
+    requires place { at + length text.now < 2 ^ 64 }
+    requires closed { IsClosed inside text.now }
+    ensures is { result ≡ sound_len (parts levels at (own inside text.now)) (length (own inside text.now)) }
+    ensures len { IfOk result (λ len. len ≡ length (own inside text.now)) }
 {
     let mut at = at;
+    let mut len = 0;
     let mut rest = text;
-    while !rest.is_empty() {
-        let len = check_part(rest, at, levels)?;
-        at += len;
-        rest = rest_from(rest, len);
+    while !ends(rest, inside) {
+        let more = check_part(rest, at, levels, inside)?;
+        at += more;
+        len += more;
+        rest = rest_from(rest, more);
     }
-    Ok(())
+    Ok(len)
 }
 
 /// The length of the first part, where it is well formed.
 #[cycle(check)]
-fn check_part(text: &str, at: usize, levels: u32) -> Result<usize, SubstRefusal>
-    requires some { text.now ≢ [] }
+fn check_part(text: &str, at: usize, levels: u32, inside: bool) -> Result<usize, SubstRefusal>
+    requires some { own inside text.now ≢ [] }
     requires place { at + length text.now < 2 ^ 64 }
-    ensures is { result ≡ first_len levels at text.now }
+    requires closed { IsClosed inside text.now }
+    ensures is { result ≡ first_len levels at (own inside text.now) }
     ensures cut { IfOk result (λ len. (0 < len) × IsCharBoundary text.now len) }
 {
-    match first_part(text, levels) {
-        Part::Literal { len } => Ok(len),
-        Part::Dollar => Ok(2),
-        Part::Name { len } => Ok(len + 1),
-        Part::Value { len } => Ok(len + 3),
-        Part::Form {
+    match first_head(text, levels, inside) {
+        Head::Literal { len } => Ok(len),
+        Head::Dollar => Ok(2),
+        Head::Name { len } => Ok(len + 1),
+        Head::Value { len } => Ok(len + 3),
+        Head::Form {
             name,
             colon,
             action: _,
-            tail,
         } => {
             let start = tail_start(name, colon);
-            check(piece(text, start, tail), at + start, levels - 1)?;
+            let tail = check(rest_from(text, start), at + start, levels - 1, true)?;
             Ok(start + tail + 1)
         }
-        Part::Unclosed => Err(SubstRefusal::Unclosed { at: place(at) }),
-        Part::Wrong => Err(SubstRefusal::BadForm { at: place(at) }),
+        Head::Unclosed => Err(SubstRefusal::Unclosed { at: place(at) }),
+        Head::Wrong => Err(SubstRefusal::BadForm { at: place(at) }),
     }
 }

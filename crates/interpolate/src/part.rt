@@ -1,6 +1,8 @@
-ghost use Rattle.std.specs.Prelude.{◌≡◌, ◌≢◌, ◌≤◌, ◌<◌, ◌+◌, ◌^◌, [], length};
+ghost use Rattle.std.specs.Prelude.{◌≡◌, ◌≢◌, ◌≤◌, ◌<◌, ◌+◌, ◌^◌, ◌==◌, [], length, true, false};
 ghost use Rattle.interpolate.specs.Cuts.{FitsIn};
-ghost use Rattle.interpolate.specs.Shapes.{action_part, operator_part, form_part, braced_part, dollar_part, first_part, tail_start, part_len};
+ghost use Rattle.interpolate.specs.Heads.{IsClosed, head_of, inner, own, part_of};
+ghost use Rattle.interpolate.specs.Lengths.{inside_len};
+ghost use Rattle.interpolate.specs.Shapes.{action_part, operator_part, form_part, braced_part, dollar_part, first_part, tail_start};
 
 use crate::scan::{inside_len, literal_len, name_len, starts_name};
 
@@ -15,9 +17,10 @@ pub enum Action {
     Replace,
 }
 
-/// The first part of a text, by how many bytes it is made of.
+/// What a text begins with, by how many bytes it is made of. Of a form it is what stands before the tail, so that a
+/// tail is gone through once, when it is read.
 #[derive(Clone, Copy, Debug, PartialEq, Eq)]
-pub enum Part {
+pub enum Head {
     /// Bytes that stand for themselves.
     Literal {
         len: usize,
@@ -32,12 +35,11 @@ pub enum Part {
     Value {
         len: usize,
     },
-    /// `${NAME-tail}` and its kin, by the lengths of the name and of the tail. A colon counts an empty value as unset.
+    /// `${NAME-tail}` and its kin, by the length of the name. A colon counts an empty value as unset.
     Form {
         name: usize,
         colon: bool,
         action: Action,
-        tail: usize,
     },
     /// A `${` that no `}` closes.
     Unclosed,
@@ -54,125 +56,134 @@ pub fn tail_start(name: usize, colon: bool) -> usize
 }
 
 /// What stands behind a name and the colon, where one stands there.
-fn action_part(text: &[u8], name: usize, colon: bool) -> Part
-    ensures { result ≡ action_part name colon text.now }
+fn action_head(text: &[u8], name: usize, colon: bool) -> Head
+    ensures { result ≡ head_of (action_part name colon text.now) }
 {
     match text {
-        [] => Part::Wrong,
-        [c, rest @ ..] => {
-            let tail = rest.len();
-            match *c {
-                b'-' => Part::Form {
-                    name,
-                    colon,
-                    action: Action::Default,
-                    tail,
-                },
-                b'?' => Part::Form {
-                    name,
-                    colon,
-                    action: Action::Require,
-                    tail,
-                },
-                b'+' => Part::Form {
-                    name,
-                    colon,
-                    action: Action::Replace,
-                    tail,
-                },
-                _ => Part::Wrong,
-            }
-        }
+        [] => Head::Wrong,
+        [c, ..] => match *c {
+            b'-' => Head::Form {
+                name,
+                colon,
+                action: Action::Default,
+            },
+            b'?' => Head::Form {
+                name,
+                colon,
+                action: Action::Require,
+            },
+            b'+' => Head::Form {
+                name,
+                colon,
+                action: Action::Replace,
+            },
+            _ => Head::Wrong,
+        },
     }
 }
 
 /// What stands behind a name in braces.
-fn operator_part(text: &[u8], name: usize) -> Part
-    ensures { result ≡ operator_part name text.now }
+#[tactic(auto, using(crate::proofs::Inside::operator_inner))]
+fn operator_head(text: &[u8], name: usize) -> Head
+    ensures { result ≡ head_of (operator_part name (inner text.now)) }
 {
     match text {
-        [] => Part::Value { len: name },
+        [] => Head::Value { len: name },
         [c, rest @ ..] => {
-            if *c == b':' {
-                action_part(rest, name, true)
+            if *c == b'}' {
+                Head::Value { len: name }
+            } else if *c == b':' {
+                action_head(rest, name, true)
             } else {
-                action_part(text, name, false)
+                action_head(text, name, false)
             }
         }
     }
 }
 
-/// What stands in the braces of a form.
-fn form_part(text: &[u8]) -> Part
-    ensures { result ≡ form_part text.now }
+/// What stands in the braces of a form, from behind its `${`.
+#[tactic(auto, using(crate::proofs::Inside::form_inner))]
+fn form_head(text: &[u8]) -> Head
+    ensures { result ≡ head_of (form_part (inner text.now)) }
 {
     let name = name_len(text);
     if name == 0 {
-        Part::Wrong
+        Head::Wrong
     } else {
-        operator_part(&text[name..], name)
+        operator_head(&text[name..], name)
     }
 }
 
-/// The part that a `${` begins, from what stands behind it, with so many levels left for forms in forms.
-fn braced_part(text: &[u8], levels: u32) -> Part
-    ensures { result ≡ braced_part levels text.now }
+/// Whether no `}` closes a form, from behind its `${`. In another form, which is closed, there is one.
+fn is_unclosed(text: &[u8], inside: bool) -> bool
+    requires { inside ≡ true → inside_len 0 false text.now < length text.now }
+    ensures { result ≡ (inside_len 0 false text.now == length text.now) }
 {
-    let len = inside_len(text);
-    if len == text.len() {
-        Part::Unclosed
+    !inside && inside_len(text) == text.len()
+}
+
+/// What a `${` begins, from what stands behind it, with so many levels left for forms in forms.
+fn braced_head(text: &[u8], levels: u32, inside: bool) -> Head
+    requires { inside ≡ true → inside_len 0 false text.now < length text.now }
+    ensures { result ≡ head_of (braced_part levels text.now) }
+{
+    if is_unclosed(text, inside) {
+        Head::Unclosed
     } else if levels == 0 {
-        Part::Wrong
+        Head::Wrong
     } else {
-        form_part(&text[..len])
+        form_head(text)
     }
 }
 
-/// The part that a `$` begins, from what stands behind it.
-fn dollar_part(text: &[u8], levels: u32) -> Part
-    ensures { result ≡ dollar_part levels text.now }
+/// What a `$` begins, from what stands behind it.
+fn dollar_head(text: &[u8], levels: u32, inside: bool) -> Head
+    requires { inside ≡ true → inside_len 0 true text.now < length text.now }
+    ensures { result ≡ head_of (dollar_part levels text.now) }
 {
     match text {
-        [] => Part::Literal { len: 1 },
+        [] => Head::Literal { len: 1 },
         [c, rest @ ..] => {
             if *c == b'$' {
-                Part::Dollar
+                Head::Dollar
             } else if *c == b'{' {
-                braced_part(rest, levels)
+                braced_head(rest, levels, inside)
             } else if starts_name(*c) {
-                Part::Name {
+                Head::Name {
                     len: name_len(text),
                 }
             } else {
-                Part::Literal { len: 1 }
+                Head::Literal { len: 1 }
             }
         }
     }
 }
 
-/// The part that bytes begin with.
-fn front_part(text: &[u8], levels: u32) -> Part
-    ensures { result ≡ first_part levels text.now }
+/// What bytes begin with.
+fn front_head(text: &[u8], levels: u32, inside: bool) -> Head
+    requires { IsClosed inside text.now }
+    ensures { result ≡ head_of (first_part levels (own inside text.now)) }
 {
     match text {
-        [] => Part::Literal { len: 0 },
+        [] => Head::Literal { len: 0 },
         [c, rest @ ..] => {
             if *c == b'$' {
-                dollar_part(rest, levels)
+                dollar_head(rest, levels, inside)
             } else {
-                Part::Literal {
-                    len: literal_len(text),
+                Head::Literal {
+                    len: literal_len(text, inside),
                 }
             }
         }
     }
 }
 
-/// The first part of a text, with so many levels left for forms in forms.
-pub fn first_part(text: &str, levels: u32) -> Part
-    requires { text.now ≢ [] }
-    ensures is { result ≡ first_part levels text.now }
-    ensures fits { FitsIn levels text.now result }
+/// What a text begins with, which may stand in a form, with so many levels left for forms in forms.
+pub fn first_head(text: &str, levels: u32, inside: bool) -> Head
+    requires some { own inside text.now ≢ [] }
+    requires closed { IsClosed inside text.now }
+    ensures is { part_of text.now result ≡ first_part levels (own inside text.now) }
+    ensures fits { FitsIn levels text.now (part_of text.now result) }
 {
-    front_part(text.as_bytes(), levels)
+    front_head(text.as_bytes(), levels, inside)
 }

@@ -1,4 +1,5 @@
 ghost use Rattle.std.specs.Prelude.{◌≡◌, ◌≤◌, ◌<◌, ◌+◌, ◌^◌, length, false};
+ghost use Rattle.interpolate.specs.Heads.{ends, own, stops};
 ghost use Rattle.interpolate.specs.Lengths.{starts_name, goes_on_name, run_len, name_len, literal_len, inside_len};
 
 /// Whether a name may begin with a byte.
@@ -43,13 +44,21 @@ pub fn name_len(text: &[u8]) -> usize
     }
 }
 
-/// How many bytes stand before the first `$`.
-pub fn literal_len(text: &[u8]) -> usize
-    ensures is { result ≡ literal_len text.now }
+/// Whether bytes that stand for themselves end before a byte: `$`, and `}` in a form.
+fn stops(c: u8, inside: bool) -> bool
+    ensures { result ≡ stops inside c }
+{
+    c == b'$' || (inside && c == b'}')
+}
+
+/// How many bytes stand for themselves in front of a text, which may stand in a form.
+#[tactic(auto, using(crate::proofs::Inside::literal_own))]
+pub fn literal_len(text: &[u8], inside: bool) -> usize
+    ensures is { result ≡ literal_len (own inside text.now) }
     ensures within { result ≤ length text.now }
 {
     for (at, c) in text.iter().enumerate() {
-        if *c == b'$' {
+        if stops(*c, inside) {
             return at;
         }
     }
@@ -75,4 +84,20 @@ pub fn inside_len(text: &[u8]) -> usize
         dollar = *c == b'$' && !dollar;
     }
     text.len()
+}
+
+/// Whether a text that may stand in a form is read to its end.
+pub fn ends(text: &str, inside: bool) -> bool
+    ensures { result ≡ ends inside text.now }
+{
+    bytes_end(text.as_bytes(), inside)
+}
+
+fn bytes_end(text: &[u8], inside: bool) -> bool
+    ensures { result ≡ ends inside text.now }
+{
+    match text {
+        [] => true,
+        [c, ..] => inside && *c == b'}',
+    }
 }

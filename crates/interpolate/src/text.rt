@@ -27,8 +27,8 @@ pub fn subst(alloc: Global, text: &Text, env: &Env) -> Result<Text, SubstRefusal
 fn subst_within(alloc: Global, text: &str, levels: u32, env: &Env) -> Result<Text, SubstRefusal>
     ensures { Gives result (substituted_within levels (value_at env.now) text.now) }
 {
-    check(text, 0, levels)?;
+    check(text, 0, levels, false)?;
     let mut value = Text::new(alloc);
-    join(alloc, &mut value, text, 0, levels, env)?;
+    join(alloc, &mut value, text, 0, levels, false, env)?;
     Ok(value)
 }

@@ -1,5 +1,5 @@
 -- How far the inside of a form goes: over a name, an operator, and a tail whose braces nest.
-use Rattle.std.proofs.Common.{◌≡◌, ◌≢◌, ◌∙◌, ℕ, suc, ◌+◌, ◌-◌, ◌<◌, Bool, true, false, eqb, List, [], ◌∷◌, ◌++◌, append_assoc, length, length-append, refl, ap, arith, tests}
+use Rattle.std.proofs.Common.{◌≡◌, ◌≢◌, ℕ, suc, ◌+◌, ◌-◌, Bool, true, false, eqb, List, [], ◌∷◌, ◌++◌, append_assoc, length, length-append, refl, ap, arith, tests}
 use Rattle.std.proofs.lemmas.Bool.Decides.{nat_tests}
 use Rattle.interpolate.specs.Lengths.{starts_name, goes_on_name, run_len, name_len, inside_len}
 use Rattle.reading_laws.specs.Defaults.{EndsDollar, NestsBraces, nothing, byte, two_dollars, one_dollar, braces}

@@ -1,13 +1,11 @@
 -- The value of a default: its form is the text's one part, and where its variable is unset, its value is the tail's.
-use Rattle.std.proofs.Common.{◌≡◌, ◌≢◌, ◌∙◌, ℕ, ◌+◌, ◌<◌, ◌≤◌, Bool, true, false, eqb, List, [], ◌∷◌, ◌++◌, append-nil, append_assoc, length, length-append, take, drop, Option, None, Result, Ok, Err, IsOk, refl, sym, ap, arith, tests}
+use Rattle.std.proofs.Common.{◌≡◌, ◌≢◌, ◌∙◌, ℕ, ◌+◌, ◌<◌, Bool, true, false, eqb, List, [], ◌∷◌, ◌++◌, append-nil, append_assoc, length, length-append, take, drop, Option, None, Result, Ok, Err, IsOk, refl, sym, ap, arith, tests}
 use Rattle.std.proofs.lemmas.Bool.Decides.{nat_tests}
 use Rattle.std.proofs.lemmas.List.{drop_all, drop_at, take_at}
 use Rattle.interpolate.specs.declared.part.Action.TheVariants.{Default}
-use Rattle.interpolate.specs.declared.part.Part.{Part}
-use Rattle.interpolate.specs.declared.part.Part.TheVariants.{Form}
 use Rattle.interpolate.specs.declared.refusal.SubstRefusal.{SubstRefusal}
 use Rattle.interpolate.specs.Lengths.{name_len, inside_len}
-use Rattle.interpolate.specs.Shapes.{operator_part, form_part, braced_part, first_part, part_len, tail_start}
+use Rattle.interpolate.specs.Shapes.{Part, Form, operator_part, form_part, braced_part, first_part, part_len, tail_start}
 use Rattle.interpolate.specs.Parts.{◌>>=◌, Parts, End, Braced, before, with_part, tails, parts}
 use Rattle.interpolate.specs.Substitution.{Variables, value, counted, form_value, substituted_within}
 use Rattle.interpolate.proofs.Cutting.{parts_first}

@@ -1,5 +1,6 @@
-use Rattle.std.proofs.Common.{◌≡◌, ◌<◌, ◌+◌, ◌*◌, ◌^◌, length}
+use Rattle.std.proofs.Common.{◌≡◌, ◌<◌, ◌≤◌, ◌+◌, ◌*◌, ◌^◌, length}
 use Rattle.std.specs.Str.{IsUtf8}
+use Rattle.interpolate.specs.Heads.{IsClosed, own}
 use Rattle.interpolate.specs.Parts.{parts, well_formed}
 use Rattle.interpolate.proofs.check.+check.Given as goal
 
@@ -15,6 +16,9 @@ decreases-check-loop-rest l = length l.rest
 abbrev pub invariant-check-loop-rest : goal.invariant-check-loop-rest
 invariant-check-loop-rest l = record {
   utf8 : IsUtf8 l.rest;
+  closed : IsClosed l.inside l.rest;
+  few : l.len ≤ l.at;
   places : l.at + length l.rest < 2 ^ 64;
-  same : well_formed (parts l.levels l.at l.rest) ≡ well_formed (parts l.levels l.fn.at l.initial.rest);
+  size : l.len + length (own l.inside l.rest) ≡ length (own l.inside l.initial.rest);
+  same : well_formed (parts l.levels l.at (own l.inside l.rest)) ≡ well_formed (parts l.levels l.fn.at (own l.inside l.initial.rest));
 }
