@@ -1,5 +1,5 @@
 -- Entries of a page, one below the other, are read as the mapping of what they spell.
-use Rattle.std.proofs.Common.{◌≡◌, ◌∙◌, ℕ, suc, ◌+◌, ◌≤◌, ◌++◌, ◌&&◌, ◌||◌, not, Bool, true, false, cond, eqb, nat_le, List, [], ◌∷◌, All, None, Ok, Result, codes, length, map, flat_map, sum_by, take, drop, refl, sym, ap, subst, arith, add-zero, append_assoc}
+use Rattle.std.proofs.Common.{◌≡◌, ◌∙◌, ℕ, suc, ◌+◌, ◌≤◌, ◌++◌, ◌&&◌, not, Bool, true, false, cond, eqb, nat_le, List, [], ◌∷◌, All, None, Ok, Result, codes, length, map, flat_map, sum_by, take, drop, refl, sym, ap, subst, arith, add-zero, append_assoc}
 use Rattle.std.proofs.lemmas.Bool.{and_from, and_parts, and_right, eq-eqb, le-leb, not-true, or_parts}
 use Rattle.std.proofs.lemmas.List.{append-nil, drop-drop, drop_all, drop_at, take_all}
 use Rattle.std.proofs.lemmas.List.Elements.{All-cons, All-nil}
@@ -90,13 +90,13 @@ line_of key value = key_line key (rest_of value) (ends_key value)
 value_beside : (levels : ℕ) (read : Reader) (owner : Owned) (p : Progress) (line : LogicalLine) (behind start : ℕ) (more : List LogicalLine) → behind + blanks (drop behind line.row.chars) ≡ start
     → properties_from true p line.row start no_properties 0 (drop start line.row.chars) ≡ Ok no_properties → properties_len 0 (drop start line.row.chars) ≡ 0 → is_rest_blank true (drop start line.row.chars) ≡ false
     → block_value levels read owner p line behind more ≡ inline_alone levels (owner.column + 1) owner.column no_properties p line start more
-value_beside levels read owner p line behind start more begins unmarked none black = rw (begins, unmarked, none, add-zero, black)
+value_beside levels read owner p line behind start more begins unmarked none black = rw (begins, unmarked, none, add-zero start, black)
 
 -- a value below its key
 value_below : (levels : ℕ) (read : Reader) (owner : Owned) (p : Progress) (line : LogicalLine) (behind start : ℕ) (more : List LogicalLine) → behind + blanks (drop behind line.row.chars) ≡ start
     → properties_from true p line.row start no_properties 0 (drop start line.row.chars) ≡ Ok no_properties → properties_len 0 (drop start line.row.chars) ≡ 0 → is_rest_blank true (drop start line.row.chars) ≡ true
     → block_value levels read owner p line behind more ≡ below read owner no_properties p more
-value_below levels read owner p line behind start more begins unmarked none blank = rw (begins, unmarked, none, add-zero, blank)
+value_below levels read owner p line behind start more begins unmarked none blank = rw (begins, unmarked, none, add-zero start, blank)
 
 entry_by : (column levels : ℕ) (read : Reader) (entries : Entries) (p q r : Progress) (line : LogicalLine) (more : List LogicalLine) (len : ℕ) (key : Key) (tree : Tree)
     → before_colon Block (drop column line.row.chars) ≡ len → key_at Block p line.row column ≡ Ok key → is_colon (drop (column + len) line.row.chars) ≡ true → new_key entries p line.row column key ≡ Ok q

@@ -1,5 +1,5 @@
 -- What holds of a node where it holds of its parts holds of every node.
-use Rattle.std.proofs.Common.{◌≡◌, ℕ, zero, suc, ◌+◌, ◌<◌, ◌≤◌, List, [], ◌∷◌, map, ap, arith}
+use Rattle.std.proofs.Common.{ℕ, zero, suc, ◌<◌, ◌≤◌, List, [], ◌∷◌, map, ap, arith}
 use Rattle.std.specs.Str.{encode_utf8_all}
 use Rattle.project_print.specs.declared.node.Node.{Node}
 use Rattle.project_print.specs.declared.node.Node.TheVariants.{Map, Null, Seq, Text, Word}

@@ -1,5 +1,5 @@
 -- Items of a page, one below the other, are read as the sequence of what they spell.
-use Rattle.std.proofs.Common.{◌≡◌, ◌∙◌, ℕ, suc, ◌+◌, ◌≤◌, ◌++◌, Bool, true, false, eqb, List, [], ◌∷◌, All, Ok, Result, codes, map, flat_map, sum_by, drop, nat_le, refl, sym, ap, arith, append_assoc}
+use Rattle.std.proofs.Common.{◌≡◌, ◌∙◌, ℕ, suc, ◌+◌, ◌≤◌, ◌++◌, true, false, eqb, List, [], ◌∷◌, All, Ok, Result, codes, map, flat_map, sum_by, drop, nat_le, refl, sym, ap, arith, append_assoc}
 use Rattle.std.proofs.lemmas.Bool.{and_from, cond-true, eq-eqb, le-leb}
 use Rattle.std.proofs.lemmas.List.{append-nil, drop-drop}
 use Rattle.std.proofs.lemmas.List.Elements.{All-cons, All-nil}
@@ -149,7 +149,7 @@ module _ (levels : ℕ) where
       let count = node_fits (suc levels) p row column 0 (omega arith) (omega (arith, nodes)) (omega (arith, text)) in
       let q = grown p 1 0 in
       let next = grown q (node_count (spelled_by x)) (text_size (spelled_by x)) in
-      let whole = λ (r : Result (List Tree × Progress) YamlRefusal). r >>= λ got. Ok (Seq got.0, got.1) in
+      let whole : Result (List Tree × Progress) YamlRefusal → Result (Tree × Progress) YamlRefusal = λ r. r >>= λ got. Ok (Seq got.0, got.1) in
       ap (λ r. r >>= λ q. whole (items_block column row rows q)) count
       ∙ ap whole
       (block_is column q row rows cut.0 cut.1 x xs cut.2 cut.3 cut.4

@@ -1,9 +1,8 @@
 -- What is shown of a readable node spells its tree, by induction on how deep the tree is.
-use Rattle.std.proofs.Common.{◌≡◌, ◌∙◌, ℕ, zero, suc, ◌+◌, ◌<◌, ◌≤◌, ◌&&◌, Bool, true, false, List, [], ◌∷◌, codes, map, refl, sym, ap, subst, arith}
+use Rattle.std.proofs.Common.{◌≡◌, ◌∙◌, ℕ, zero, suc, ◌≤◌, true, List, [], ◌∷◌, codes, map, sym, subst, arith}
 use Rattle.std.proofs.lemmas.Bool.{and_parts}
 use Rattle.std.specs.List.{list_all}
 use Rattle.project_print.specs.declared.node.Node.{Node}
-use Rattle.project_print.specs.declared.node.Node.TheVariants.{Map, Null, Seq, Text, Word}
 use Rattle.project_print.specs.Pages.{Shown, block, shown, word}
 use Rattle.project_print.specs.Scalars.{doubled, scalar}
 use Rattle.tree_base.specs.Trees.{depth, greatest}
@@ -62,12 +61,12 @@ step levels claim =
     of_each (Claim (suc levels))
     (λ readable. as_is (suc levels) _ (word (codes "null")) _ trees.Null shown_null spelled_null (word_spells levels (codes "null") trees.Null null_value))
     (λ text readable.
-        as_is (suc levels) _ (word text) _ (trees.Scalar (encode_utf8_all text)) (shown_word text) (spelled_word text) (word_spells levels text (trees.Scalar (encode_utf8_all text)) (word_value text (sym (readable_word text) ∙ readable))))
+    as_is (suc levels) _ (word text) _ (trees.Scalar (encode_utf8_all text)) (shown_word text) (spelled_word text) (word_spells levels text (trees.Scalar (encode_utf8_all text)) (word_value text (sym (readable_word text) ∙ readable))))
     (λ text readable. as_is (suc levels) _ (word (scalar (doubled text))) _ (trees.Scalar (encode_utf8_all (doubled text))) (shown_text text) (spelled_text text)
-        (word_spells levels (scalar (doubled text)) (trees.Scalar (encode_utf8_all (doubled text))) (text_value (doubled text))))
+    (word_spells levels (scalar (doubled text)) (trees.Scalar (encode_utf8_all (doubled text))) (text_value (doubled text))))
     (λ es readable.
-        let both = and_parts (are_distinct (spelled_keys es)) (list_all is_so (map (λ (e : List ℕ × Node). is_readable e.1) es)) (sym (readable_map es) ∙ readable) in
-        as_is (suc levels) _ (block (codes "{}") (map part_of_entry es)) _ (trees.Map (map spelled_entry es)) (shown_map es) (spelled_map es) (map_spells levels claim es both.0 both.1))
+    let both = and_parts (are_distinct (spelled_keys es)) (list_all is_so (map (λ (e : List ℕ × Node). is_readable e.1) es)) (sym (readable_map es) ∙ readable) in
+    as_is (suc levels) _ (block (codes "{}") (map part_of_entry es)) _ (trees.Map (map spelled_entry es)) (shown_map es) (spelled_map es) (map_spells levels claim es both.0 both.1))
     (λ xs readable. as_is (suc levels) _ (block (codes "[]") (map part_of_item xs)) _ (trees.Seq (map spelled_by xs)) (shown_seq xs) (spelled_seq xs) (seq_spells levels claim xs (sym (readable_seq xs) ∙ readable)))
 
 -- what is shown of a readable node spells its tree

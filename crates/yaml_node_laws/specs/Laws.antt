@@ -10,5 +10,5 @@ use Rattle.yaml_tree.specs.Reading.{reading}
 
 -- lines that are the page of a node spell its tree, within the limits: whatever texts stand in it, however deep
 abbrev pub PagesReadBack : Type 0
-PagesReadBack = (lines : Lines) (node : Node) → is_readable node ≡ true → IsWithinLimits (spelled_by node) → chars_of lines ≡ lines_of (shown node)
-    → reading lines ≡ Ok (spelled_by node)
+PagesReadBack = (lines : Lines) (node : Node) → is_readable node ≡ true → IsWithinLimits (spelled_by node)
+    → chars_of lines ≡ lines_of (shown node) → reading lines ≡ Ok (spelled_by node)

@@ -1,14 +1,13 @@
 -- What is shown spells a tree: it is read as that tree wherever it stands, and so is a word.
-use Rattle.std.proofs.Common.{◌≡◌, ◌∙◌, ℕ, suc, ◌+◌, ◌≤◌, Bool, true, false, cond, eqb, List, [], ◌∷◌, All, Ok, Result, map, drop, refl, sym, ap, arith, add-zero}
+use Rattle.std.proofs.Common.{◌≡◌, ◌∙◌, ℕ, suc, ◌+◌, ◌≤◌, Bool, true, false, cond, eqb, List, [], ◌∷◌, Ok, map, drop, refl, ap, arith, add-zero}
 use Rattle.std.proofs.lemmas.Bool.{cond-false, or_from}
 use Rattle.std.proofs.lemmas.List.Elements.{All-cons, All-head, All-nil}
 use Rattle.logical_lines.specs.declared.line.LogicalLine.{LogicalLine}
-use Rattle.project_print.specs.Pages.{Shown, deeper, lines_of, word}
+use Rattle.project_print.specs.Pages.{Shown, word}
 use Rattle.tree_base.specs.Trees.{depth, node_count, text_size}
 use Rattle.tree_base.specs.declared.tree.Tree.{Tree}
 use Rattle.yaml_lines.specs.Blanks.{blanks, is_tab_first, is_white, spaces}
 use Rattle.yaml_lines.specs.declared.plain.Context.TheVariants.{Block}
-use Rattle.yaml_lines.specs.declared.refusal.YamlRefusal.{YamlRefusal}
 use Rattle.yaml_lines.specs.declared.row.Row.{Row}
 use Rattle.yaml_nodes.specs.declared.progress.Progress.{Progress}
 use Rattle.yaml_nodes.specs.Marks.{is_item, is_key_behind, is_property}

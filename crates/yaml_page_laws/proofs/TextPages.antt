@@ -1,5 +1,5 @@
 -- The page of one text is read as that text.
-use Rattle.std.proofs.Common.{◌≡◌, ◌∙◌, ℕ, ◌≤◌, List, map, ap, rules, arith}
+use Rattle.std.proofs.Common.{◌≡◌, ◌∙◌, ℕ, List, map, ap, rules, arith}
 use Rattle.std.specs.Str.{encode_utf8_all}
 use Rattle.project_print.specs.declared.node.Node.{the_lemmas}
 use Rattle.project_print.specs.declared.node.Node.TheVariants as nodes

@@ -1,5 +1,5 @@
 -- Words of a page that stand for a tree: as the value of a key, as an item, or alone.
-use Rattle.std.proofs.Common.{◌≡◌, ◌∙◌, ℕ, zero, suc, ◌+◌, ◌<◌, ◌≤◌, ◌&&◌, Bool, true, false, cond, List, [], ◌∷◌, ◌++◌, Ok, codes, drop, length, refl, sym, ap, subst, add-zero, arith}
+use Rattle.std.proofs.Common.{◌≡◌, ◌∙◌, ℕ, zero, suc, ◌+◌, ◌<◌, ◌≤◌, ◌&&◌, Bool, true, false, cond, List, [], ◌∷◌, Ok, codes, drop, length, refl, sym, ap, subst, add-zero, arith}
 use Rattle.std.proofs.lemmas.Bool.{cond-false, cond-true}
 use Rattle.std.proofs.lemmas.List.{append-nil, drop-drop, drop_all}
 use Rattle.std.specs.Prelude.{nat_lt}
@@ -11,7 +11,7 @@ use Rattle.tree_base.specs.Trees.{depth, node_count, text_size}
 use Rattle.tree_base.specs.declared.tree.Tree.{Tree}
 use Rattle.tree_base.specs.declared.tree.Tree.TheVariants.{Map, Null, Scalar, Seq}
 use Rattle.yaml_flow.specs.Flow.{flow}
-use Rattle.yaml_lines.specs.Blanks.{blanks, is_rest_blank, is_tab_first, is_white, spaces}
+use Rattle.yaml_lines.specs.Blanks.{blanks, is_rest_blank, is_tab_first, spaces}
 use Rattle.yaml_lines.specs.declared.plain.Context.TheVariants.{Block}
 use Rattle.yaml_lines.specs.declared.row.Row.{Row}
 use Rattle.yaml_nodes.specs.declared.progress.Progress.{Progress}
@@ -141,8 +141,8 @@ value_spelled word text is =
     let same : length word ≡ length (is.front ∷ is.more) = ap length is.is in
     subst (λ w. IsValue w tree) (sym is.is)
     (value_front is.front is.more is.first tree (encode_utf8_all text) (scalar_sizes (encode_utf8_all text))
-        (ap (key_len Block) (sym is.is) ∙ len_is Block word text (length word) is ∙ same)
-        (λ p row at here. scalar_is Block word text (length word) is p row at (here ∙ sym is.is) ∙ ap (nodes.scalar no_properties p row at tree (encode_utf8_all text)) same))
+    (ap (key_len Block) (sym is.is) ∙ len_is Block word text (length word) is ∙ same)
+    (λ p row at here. scalar_is Block word text (length word) is p row at (here ∙ sym is.is) ∙ ap (nodes.scalar no_properties p row at tree (encode_utf8_all text)) same))
 
 -- a text, in quotes or not
 pub text_value : (text : List ℕ) → IsValue (scalar text) (Scalar (encode_utf8_all text))

@@ -1,6 +1,6 @@
 -- Words of a page on bytes: what is made of a text's UTF-8 is the UTF-8 of what is made of the text.
 use Rattle.std.proofs.Common.{◌≡◌, ◌∙◌, ℕ, ◌+◌, ◌/◌, ◌%◌, ◌<◌, ◌≤◌, ◌&&◌, Bool, true, false, cond, not, eqb, ltb, List, [], ◌∷◌, ◌++◌, flat_map, refl, sym, ap, inl, inr, ◌⊎◌, arith}
-use Rattle.std.proofs.lemmas.Bool.{agree_below, agree_below_at, and_left, and_parts, and_right, cases_lt, cond-false, false_from_ne_true, le-leb, le-ltb, leb-true, ltb-true, ne_eqb}
+use Rattle.std.proofs.lemmas.Bool.{agree_below_at, and_left, and_parts, and_right, cases_lt, cond-false, false_from_ne_true, le-leb, le-ltb, leb-true, ltb-true, ne_eqb}
 use Rattle.std.proofs.lemmas.Bool.Decides.{nat_tests}
 use Rattle.std.proofs.lemmas.Grind.{flat_map-append}
 use Rattle.std.proofs.lemmas.List.{append-nil}

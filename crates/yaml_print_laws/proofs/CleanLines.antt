@@ -1,11 +1,11 @@
 -- The lines of a page have no control characters, and are UTF-8 where its texts are.
-use Rattle.std.proofs.Common.{◌≡◌, ◌∙◌, ℕ, ◌<◌, ◌≤◌, ◌&&◌, ◌⊎◌, Bool, true, false, cond, eqb, All, List, [], ◌∷◌, ◌++◌, codes, flat_map, map, refl, sym, ap, inl, inr, subst, arith}
-use Rattle.std.proofs.lemmas.Bool.{agree_below, agree_below_at, and_from, and_parts, cases_lt, le-leb}
+use Rattle.std.proofs.Common.{◌≡◌, ◌∙◌, ℕ, ◌<◌, ◌≤◌, ◌⊎◌, Bool, true, false, cond, eqb, All, List, [], ◌∷◌, ◌++◌, codes, flat_map, map, refl, ap, inl, inr, arith}
+use Rattle.std.proofs.lemmas.Bool.{agree_below_at, and_from, and_parts, cases_lt, le-leb}
 use Rattle.std.proofs.lemmas.Bool.Decides.{nat_tests}
 use Rattle.std.proofs.lemmas.List.Elements.{All-append, All-cons, All-head, All-map, All-nil, All-tail, All-weaker}
 use Rattle.std.proofs.lemmas.Str.{IsUtf8-append}
 use Rattle.std.specs.List.{list_all}
-use Rattle.std.specs.Str.{IsUtf8, encode_utf8_all}
+use Rattle.std.specs.Str.{IsUtf8}
 use Rattle.project_print.specs.Pages.{Shown, block, deeper, entry, item, lines_of, word}
 use Rattle.project_print.specs.Scalars.{doubled, doubled_byte, escaped, in_quotes, is_plain, is_plain_byte, scalar}
 use Rattle.project_print.proofs.PlainWords.{are_bytes}

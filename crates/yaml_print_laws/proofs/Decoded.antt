@@ -11,7 +11,7 @@ use Rattle.std.specs.Str.{IsUtf8, chars, encode_utf8_all, is_utf8}
 use Rattle.project_print.specs.declared.node.Node.{Node, fold-Node, the_lemmas}
 use Rattle.project_print.specs.declared.node.Node.TheOpen.{Node-F}
 use Rattle.project_print.specs.declared.node.Node.TheVariants.{Map, Null, Seq, Text, Word}
-use Rattle.project_print.specs.Pages.{Shown, block, entry, item, lines_of, shown, word}
+use Rattle.project_print.specs.Pages.{Shown, block, item, shown, word}
 use Rattle.project_print.specs.Scalars.{doubled, in_quotes, is_plain, is_plain_byte, scalar}
 use Rattle.project_print.proofs.PlainWords.{are_bytes}
 use Rattle.tree_base.specs.declared.tree.Tree.{Tree}

@@ -1,10 +1,7 @@
 -- The page of a node, as it is printed, is read as its tree.
-use Rattle.std.proofs.Common.{◌≡◌, ◌∙◌, ℕ, ◌<◌, ◌≤◌, ◌++◌, true, false, eqb, ltb, List, [], ◌∷◌, Ok, flat_map, map, refl, sym, ap, subst, arith}
+use Rattle.std.proofs.Common.{◌≡◌, ◌∙◌, ℕ, true, false, List, [], ◌∷◌, Ok, flat_map, refl, sym, ap, subst, arith}
 use Rattle.std.proofs.lemmas.Bool.{ltb-true, ne_eqb}
-use Rattle.std.specs.Str.{encode_utf8_all}
-use Rattle.project_print.specs.declared.node.Node.{Node}
-use Rattle.project_print.specs.Pages.{Shown, ended, lines_of, page_text, shown}
-use Rattle.tree_base.specs.declared.tree.Tree.{Tree}
+use Rattle.project_print.specs.Pages.{ended, lines_of, shown}
 use Rattle.yaml_laws.specs.Laws.{IsWithinLimits}
 use Rattle.yaml_lines.specs.declared.lines.Lines.{Lines}
 use Rattle.yaml_lines.specs.Scan.{numbered, starts_with_byte}
@@ -14,7 +11,6 @@ use Rattle.yaml_print_laws.proofs.Decoded.{begins_low, decoded, is_decoded}
 use Rattle.yaml_node_laws.proofs.Pages.{read_back}
 use Rattle.yaml_print_laws.proofs.Scanned.{chars_are, scan_is}
 use Rattle.yaml_print_laws.specs.Laws.{PrintedPagesReadBack}
-use Rattle.yaml_print_laws.specs.Printed.{tree_of}
 
 -- no byte order mark stands in front of a byte below 128
 no_mark : (first : List ℕ) (lines : List (List ℕ)) → begins_low first ≡ true → starts_with_byte 239 (flat_map ended (first ∷ lines)) ≡ false

@@ -1,5 +1,5 @@
 -- Lines without control characters, each with a line feed behind it, are scanned as these lines.
-use Rattle.std.proofs.Common.{◌≡◌, ◌∙◌, ℕ, zero, suc, ◌+◌, ◌-◌, ◌<◌, Bool, true, false, cond, eqb, All, Ok, Result, List, [], ◌∷◌, ◌++◌, flat_map, get_or, length, map, take, refl, sym, ap, append_assoc, arith}
+use Rattle.std.proofs.Common.{◌≡◌, ◌∙◌, ℕ, zero, suc, ◌-◌, ◌<◌, Bool, true, false, cond, eqb, All, Ok, Result, List, [], ◌∷◌, ◌++◌, flat_map, get_or, length, map, take, refl, sym, ap, append_assoc, arith}
 use Rattle.std.proofs.lemmas.Bool.{and_parts, cond-false, le-ltb, leb-true, ne_eqb}
 use Rattle.std.proofs.lemmas.List.{take_all}
 use Rattle.std.proofs.lemmas.List.Elements.{All-cons, All-head, All-nil, All-tail}
@@ -65,7 +65,6 @@ no_return (c ∷ cs) (suc i) clean = no_return cs i (and_parts (is_clean c) (lis
 
 strip_same : (line : List ℕ) → list_all is_clean line ≡ true → strip_carriage_return line ≡ line
 strip_same line clean = cond-false (eqb (get_or line (length line - 1) 0) 13) (take (length line - 1) line) line (no_return line (length line - 1) clean)
-
 
 no_feeds : (line : List ℕ) → list_all is_clean line ≡ true → All (λ b. eqb b 10 ≡ false) line
 no_feeds [] clean = All-nil (λ b. eqb b 10 ≡ false)

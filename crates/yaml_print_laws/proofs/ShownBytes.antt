@@ -4,7 +4,7 @@ use Rattle.std.proofs.lemmas.List.{map-append}
 use Rattle.std.proofs.lemmas.Str.{encodes-append}
 use Rattle.std.specs.List.{list_all}
 use Rattle.std.specs.Str.{encode_utf8_all}
-use Rattle.project_print.specs.Pages.{Shown, block, deeper, entry, item, lines_of, word}
+use Rattle.project_print.specs.Pages.{Shown, block, deeper, entry, item, lines_of}
 use Rattle.project_print.specs.Scalars.{scalar}
 use Rattle.yaml_print_laws.proofs.Bytes.{is_low, low_same, scalar_bytes}
 

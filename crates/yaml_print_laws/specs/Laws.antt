@@ -10,4 +10,5 @@ use Rattle.yaml_tree.specs.Reading.{reading}
 
 -- the page of a node is read as its tree, within the limits: whatever texts stand in it, however deep
 abbrev pub PrintedPagesReadBack : Type 0
-PrintedPagesReadBack = (file : ℕ) (node : Node) → is_printable node ≡ true → IsWithinLimits (tree_of node) → (scan_of file (page_text node) >>= reading) ≡ Ok (tree_of node)
+PrintedPagesReadBack = (file : ℕ) (node : Node) → is_printable node ≡ true → IsWithinLimits (tree_of node)
+    → (scan_of file (page_text node) >>= reading) ≡ Ok (tree_of node)

@@ -1,5 +1,5 @@
 -- Which nodes are read back as they are printed, and the trees that their pages spell.
-use Rattle.std.specs.Prelude.{ℕ, List, Bool, true, ◌&&◌}
+use Rattle.std.specs.Prelude.{Bool, true, ◌&&◌}
 use Rattle.std.specs.List.{list_all}
 use Rattle.std.specs.Map.{keys_of, values_of}
 use Rattle.std.specs.Str.{is_utf8}
@@ -22,7 +22,8 @@ printed_step (Node-F.Seq items) = Seq items
 abbrev pub tree_of : Node → Tree
 tree_of = fold-Node Tree printed_step
 
--- whether a node is read back, where its parts are given by whether they are: words are read as they stand, texts and keys are UTF-8, and no two keys of a mapping are the same
+-- whether a node is read back, where its parts are given by whether they are: words are read as they stand,
+-- texts and keys are UTF-8, and no two keys of a mapping are the same
 abbrev pub printable_step : Node-F Bool → Bool
 printable_step Node-F.Null = true
 printable_step (Node-F.Word text) = is_read_as_word text

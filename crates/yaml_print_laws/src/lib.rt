@@ -1,5 +1,5 @@
-//! The law that the page of a node, as it is printed, is read as its tree. It stands above the law of its characters. Nothing in
-//! this crate runs.
+//! The law that the page of a node, as it is printed, is read as its tree. It stands above the law of its characters. Nothing
+//! in this crate runs.
 #![tactic(auto)]
 
 mod laws;
