@@ -1,0 +1,13 @@
+pub mod Ends
+pub mod Examples
+pub mod FlowKeys
+pub mod FlowLines
+pub mod FlowMappings
+pub mod FlowNodes
+pub mod FlowSequences
+pub mod FlowTexts
+pub mod FlowTrees
+pub mod Pieces
+pub mod ScalarTexts
+pub mod Taken
+pub mod Tokens

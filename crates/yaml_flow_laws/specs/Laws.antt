@@ -1,0 +1,19 @@
+-- Laws about trees written as flows, on characters.
+use Rattle.std.specs.Prelude.{◌≡◌, [], ◌∷◌, Ok, true}
+use Rattle.project_print.specs.declared.node.Node.{Node}
+use Rattle.project_print.specs.Pages.{lines_of, shown}
+use Rattle.yaml_flow_laws.specs.Flows.{flow_text}
+use Rattle.yaml_laws.specs.Laws.{IsWithinLimits}
+use Rattle.yaml_lines.specs.declared.lines.Lines.{Lines}
+use Rattle.yaml_page_laws.specs.Laws.{chars_of}
+use Rattle.yaml_page_laws.specs.Readable.{is_readable, spelled_by}
+use Rattle.yaml_tree.specs.Reading.{reading}
+
+-- a file whose one line is a node as a flow spells the tree of the node (YAML 1.2, chapter 7.4)
+abbrev pub FlowsReadBack : Type 0
+FlowsReadBack = (lines : Lines) (node : Node) → is_readable node ≡ true → IsWithinLimits (spelled_by node) → chars_of lines ≡ flow_text node ∷ [] → reading lines ≡ Ok (spelled_by node)
+
+-- a node reads the same from its page as from its flow: blocks and flows spell one tree (YAML 1.2, chapters 7.4 and 8.2)
+abbrev pub BlocksAndFlowsAgree : Type 0
+BlocksAndFlowsAgree = (page flow : Lines) (node : Node) → is_readable node ≡ true → IsWithinLimits (spelled_by node) → chars_of page ≡ lines_of (shown node) → chars_of flow ≡ flow_text node ∷ []
+    → reading page ≡ reading flow
