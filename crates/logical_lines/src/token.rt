@@ -33,12 +33,16 @@ fn quoted_token(chars: &[char]) -> usize
 }
 
 /// How many characters belong together here, so that no comma or bracket in them counts: a comment, a scalar in quotes,
-/// an anchor, an alias or a tag, a plain scalar. `white` says whether white space precedes.
+/// an anchor, an alias or a tag, a plain scalar. `white` says whether white space precedes. Most that stand alone are
+/// told by one look.
 pub fn token_len(chars: &[char], white: bool) -> usize
     requires { 0 < length chars.now }
     ensures is { result ≡ token_len white chars.now }
     ensures within { result ≤ length chars.now }
 {
+    if let [' ' | ',' | '[' | ']' | '{' | '}', ..] = chars {
+        return 1;
+    }
     if starts(chars, '#') && white {
         return line_len(chars);
     }
