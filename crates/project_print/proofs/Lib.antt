@@ -6,3 +6,4 @@ pub mod Places
 pub mod PlainWords
 pub mod Quotes
 pub mod ReadBack
+pub mod Strings

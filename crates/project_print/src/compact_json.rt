@@ -1,7 +1,8 @@
-ghost use Rattle.std.specs.Prelude.{◌≡◌, ◌++◌, IfOk, OnOk, length, map};
-ghost use Rattle.std.specs.List.{zip};
+ghost use Rattle.std.specs.Prelude.{◌≡◌, ◌++◌, IfOk, OnOk, length, map, true};
+ghost use Rattle.std.specs.List.{list_all, zip};
 ghost use Rattle.json.specs.Print.{quoted};
-ghost use Rattle.project_print.specs.Json.{json_of, json_page_text, spelled};
+ghost use Rattle.project_print.specs.Json.{is_no_dollar, is_string_byte, json_of, json_page_text, spelled};
+ghost use Rattle.project_print.specs.Scalars.{doubled};
 ghost use Rattle.project_print.specs.Written.{comma, listed_from, members_text};
 
 use crate::node::Node;
@@ -107,23 +108,71 @@ fn put_text(alloc: Global, text: &Text, dollars: Dollars, out: &mut Text) -> Res
     ensures { OnOk result (out.new ≡ out.old ++ quoted (spelled dollars text.now)) }
 {
     match dollars {
-        Dollars::Twice => {
-            let twice = doubled(alloc, text.as_str())?;
-            put_string(alloc, twice.as_str(), out)
-        }
+        Dollars::Twice => put_doubled_string(alloc, text.as_str(), out),
         Dollars::Once => put_string(alloc, text.as_str(), out),
     }
 }
 
-/// Puts a string of JSON last.
+/// Puts a string last in which each dollar stands twice. One without dollars is put as it is.
+#[tactic(auto, using(crate::proofs::Strings::doubled_same))]
+fn put_doubled_string(alloc: Global, text: &str, out: &mut Text) -> Result<(), Memory>
+    ensures { OnOk result (out.new ≡ out.old ++ quoted (doubled text.now)) }
+{
+    if is_without_dollar(text.as_bytes()) {
+        put_string(alloc, text, out)
+    } else {
+        let twice = doubled(alloc, text)?;
+        put_string(alloc, twice.as_str(), out)
+    }
+}
+
+fn is_no_dollar(byte: u8) -> bool
+    ensures { result ≡ is_no_dollar byte }
+{
+    byte != b'$'
+}
+
+fn is_without_dollar(bytes: &[u8]) -> bool
+    ensures { result ≡ list_all is_no_dollar bytes.now }
+{
+    bytes.iter().all(|byte| is_no_dollar(*byte))
+}
+
+/// Puts a string of JSON last. One without escapes is put between quotes as it is; any other `serde_json` escapes.
 fn put_string(alloc: Global, text: &str, out: &mut Text) -> Result<(), Memory>
     ensures { OnOk result (out.new ≡ out.old ++ quoted text.now) }
 {
-    let string = string_text(alloc, text)?;
-    out.push_str(string.as_str())
+    if is_plain_string(text.as_bytes()) {
+        put_plain_string(text, out)
+    } else {
+        let string = escaped_string(alloc, text)?;
+        out.push_str(string.as_str())
+    }
 }
 
-fn string_text(alloc: Global, text: &str) -> Result<Text, Memory>
+/// Whether a byte stands in a string of JSON without an escape.
+fn is_string_byte(byte: u8) -> bool
+    ensures { result ≡ is_string_byte byte }
+{
+    byte >= b' ' && byte != b'"' && byte != b'\\'
+}
+
+fn is_plain_string(bytes: &[u8]) -> bool
+    ensures { result ≡ list_all is_string_byte bytes.now }
+{
+    bytes.iter().all(|byte| is_string_byte(*byte))
+}
+
+fn put_plain_string(text: &str, out: &mut Text) -> Result<(), Memory>
+    requires { list_all is_string_byte text.now ≡ true }
+    ensures { OnOk result (out.new ≡ out.old ++ quoted text.now) }
+{
+    out.push_str("\"")?;
+    out.push_str(text)?;
+    out.push_str("\"")
+}
+
+fn escaped_string(alloc: Global, text: &str) -> Result<Text, Memory>
     ensures { IfOk result (λ string. string ≡ quoted text.now) }
 {
     let string = Value::try_from_str(alloc, text)?.to_string(alloc)?;
