@@ -1,5 +1,6 @@
 pub mod Ends
 pub mod Examples
+pub mod FlowBytes
 pub mod FlowKeys
 pub mod FlowLines
 pub mod FlowMappings

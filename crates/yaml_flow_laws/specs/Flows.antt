@@ -28,3 +28,7 @@ flow_step (Node-F.Seq items) = codes "[" ++ (separated items ++ codes "]")
 -- a node on one line, as a flow
 abbrev pub flow_text : Node → List ℕ
 flow_text = fold-Node (List ℕ) flow_step
+
+-- the file of a node as a flow: its one line, with its end
+abbrev pub flow_page : Node → List ℕ
+flow_page node = flow_text node ++ codes "\n"

@@ -1,13 +1,16 @@
--- Laws about trees written as flows, on characters.
-use Rattle.std.specs.Prelude.{◌≡◌, [], ◌∷◌, Ok, true}
+-- Laws about trees written as flows, on characters and on bytes.
+use Rattle.std.specs.Prelude.{◌≡◌, ℕ, [], ◌∷◌, Ok, true}
 use Rattle.project_print.specs.declared.node.Node.{Node}
-use Rattle.project_print.specs.Pages.{lines_of, shown}
-use Rattle.yaml_flow_laws.specs.Flows.{flow_text}
+use Rattle.project_print.specs.Pages.{lines_of, page_text, shown}
+use Rattle.yaml_flow_laws.specs.Flows.{flow_page, flow_text}
 use Rattle.yaml_laws.specs.Laws.{IsWithinLimits}
 use Rattle.yaml_lines.specs.declared.lines.Lines.{Lines}
 use Rattle.yaml_page_laws.specs.Laws.{chars_of}
 use Rattle.yaml_page_laws.specs.Readable.{is_readable, spelled_by}
 use Rattle.yaml_tree.specs.Reading.{reading}
+use Rattle.yaml_lines.specs.Scan.{scan_of}
+use Rattle.yaml_nodes.specs.Progress.{◌>>=◌}
+use Rattle.yaml_print_laws.specs.Printed.{is_printable, tree_of}
 
 -- a file whose one line is a node as a flow spells the tree of the node (YAML 1.2, chapter 7.4)
 abbrev pub FlowsReadBack : Type 0
@@ -17,3 +20,13 @@ FlowsReadBack = (lines : Lines) (node : Node) → is_readable node ≡ true → 
 abbrev pub BlocksAndFlowsAgree : Type 0
 BlocksAndFlowsAgree = (page flow : Lines) (node : Node) → is_readable node ≡ true → IsWithinLimits (spelled_by node) → chars_of page ≡ lines_of (shown node) → chars_of flow ≡ flow_text node ∷ []
     → reading page ≡ reading flow
+
+-- a file that is a node as a flow spells the tree of the node, byte for byte
+abbrev pub PrintedFlowsReadBack : Type 0
+PrintedFlowsReadBack = (file : ℕ) (node : Node) → is_printable node ≡ true → IsWithinLimits (tree_of node)
+    → (scan_of file (flow_page node) >>= reading) ≡ Ok (tree_of node)
+
+-- the page of a node and the node as a flow are read as one tree, byte for byte (YAML 1.2, chapters 7.4 and 8.2)
+abbrev pub PrintedBlocksAndFlowsAgree : Type 0
+PrintedBlocksAndFlowsAgree = (file : ℕ) (node : Node) → is_printable node ≡ true → IsWithinLimits (tree_of node)
+    → (scan_of file (page_text node) >>= reading) ≡ (scan_of file (flow_page node) >>= reading)

@@ -4,4 +4,7 @@
 
 mod laws;
 
-pub use laws::{blocks_and_flows_agree, flows_read_back};
+pub use laws::{
+    blocks_and_flows_agree, flows_read_back, printed_blocks_and_flows_agree,
+    printed_flows_read_back,
+};

@@ -102,7 +102,7 @@ doubled_utf8 text is = (doubled is.0, (doubled_scalars is.0 is.1.0, doubled_byte
 pub low_line : (line : List ℕ) → list_all is_clean line ≡ true → scalars line ≡ true → list_all is_low line ≡ true → IsCleanLine line
 low_line line clean are low = record { clean = clean; utf8 = (line, (are, low_same line low)) }
 
-joined_line : (a b : List ℕ) → IsCleanLine a → IsCleanLine b → IsCleanLine (a ++ b)
+pub joined_line : (a b : List ℕ) → IsCleanLine a → IsCleanLine b → IsCleanLine (a ++ b)
 joined_line a b first second = record { clean = all_append is_clean a b first.clean second.clean; utf8 = IsUtf8-append a b first.utf8 second.utf8 }
 
 -- no line of what is shown has control characters

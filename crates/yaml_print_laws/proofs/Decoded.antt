@@ -37,19 +37,19 @@ decoded_step (Node-F.Seq items) = Seq items
 abbrev pub decoded : Node → Node
 decoded = fold-Node Node decoded_step
 
-abbrev decoded_entry : List ℕ × Node → List ℕ × Node
+abbrev pub decoded_entry : List ℕ × Node → List ℕ × Node
 decoded_entry e = (chars e.0, decoded e.1)
 
 abbrev tree_entry : List ℕ × Node → List ℕ × Tree
 tree_entry e = (e.0, tree_of e.1)
 
-decoded_null : decoded Null ≡ Null
+pub decoded_null : decoded Null ≡ Null
 decoded_null = search (rules, the_lemmas)
 
-decoded_word : (text : List ℕ) → decoded (Word text) ≡ Word (chars text)
+pub decoded_word : (text : List ℕ) → decoded (Word text) ≡ Word (chars text)
 decoded_word text = search (rules, the_lemmas)
 
-decoded_text : (text : List ℕ) → decoded (Text text) ≡ Text (chars text)
+pub decoded_text : (text : List ℕ) → decoded (Text text) ≡ Text (chars text)
 decoded_text text = search (rules, the_lemmas)
 
 decoded_map_at : (es : List (List ℕ × Node)) → decoded (Map es) ≡ Map (map (λ (e : List ℕ × Node). (chars e.0, e.1)) (map (λ (e : List ℕ × Node). (e.0, decoded e.1)) es))
@@ -59,10 +59,10 @@ entries_decoded : (es : List (List ℕ × Node)) → map (λ (e : List ℕ × No
 entries_decoded [] = refl
 entries_decoded (e ∷ es) = ap (λ l. decoded_entry e ∷ l) (entries_decoded es)
 
-decoded_map : (es : List (List ℕ × Node)) → decoded (Map es) ≡ Map (map decoded_entry es)
+pub decoded_map : (es : List (List ℕ × Node)) → decoded (Map es) ≡ Map (map decoded_entry es)
 decoded_map es = decoded_map_at es ∙ ap Map (entries_decoded es)
 
-decoded_seq : (xs : List Node) → decoded (Seq xs) ≡ Seq (map decoded xs)
+pub decoded_seq : (xs : List Node) → decoded (Seq xs) ≡ Seq (map decoded xs)
 decoded_seq xs = search (rules, the_lemmas)
 
 tree_null : tree_of Null ≡ trees.Null
@@ -92,10 +92,10 @@ printable_word text = search (rules, the_lemmas)
 printable_text : (text : List ℕ) → is_printable (Text text) ≡ is_utf8 text
 printable_text text = search (rules, the_lemmas)
 
-abbrev keys_in : List (List ℕ × Node) → List (List ℕ)
+abbrev pub keys_in : List (List ℕ × Node) → List (List ℕ)
 keys_in es = map (λ e. e.0) es
 
-abbrev printable_in : List (List ℕ × Node) → List Bool
+abbrev pub printable_in : List (List ℕ × Node) → List Bool
 printable_in es = map (λ e. is_printable e.1) es
 
 printable_map_at : (es : List (List ℕ × Node)) → is_printable (Map es)
@@ -111,10 +111,10 @@ values_are : (es : List (List ℕ × Node)) → values_of (map (λ (e : List ℕ
 values_are [] = refl
 values_are (e ∷ es) = ap (λ l. is_printable e.1 ∷ l) (values_are es)
 
-printable_map : (es : List (List ℕ × Node)) → is_printable (Map es) ≡ (list_all is_utf8 (keys_in es) && (are_distinct (keys_in es) && list_all is_so (printable_in es)))
+pub printable_map : (es : List (List ℕ × Node)) → is_printable (Map es) ≡ (list_all is_utf8 (keys_in es) && (are_distinct (keys_in es) && list_all is_so (printable_in es)))
 printable_map es = printable_map_at es ∙ (λ i. list_all is_utf8 (keys_are es i) && (are_distinct (keys_are es i) && list_all is_so (values_are es i)))
 
-printable_seq : (xs : List Node) → is_printable (Seq xs) ≡ list_all is_so (map is_printable xs)
+pub printable_seq : (xs : List Node) → is_printable (Seq xs) ≡ list_all is_so (map is_printable xs)
 printable_seq xs = search (rules, the_lemmas)
 
 -- a byte below 128 stands in front, or nothing

@@ -13,7 +13,7 @@ use Rattle.yaml_print_laws.proofs.Scanned.{chars_are, scan_is}
 use Rattle.yaml_print_laws.specs.Laws.{PrintedPagesReadBack}
 
 -- no byte order mark stands in front of a byte below 128
-no_mark : (first : List ℕ) (lines : List (List ℕ)) → begins_low first ≡ true → starts_with_byte 239 (flat_map ended (first ∷ lines)) ≡ false
+pub no_mark : (first : List ℕ) (lines : List (List ℕ)) → begins_low first ≡ true → starts_with_byte 239 (flat_map ended (first ∷ lines)) ≡ false
 no_mark [] lines low = refl
 no_mark (c ∷ cs) lines low = let below = ltb-true c 128 low in ne_eqb c 239 (λ same. absurd (omega (arith, below, same)))
 

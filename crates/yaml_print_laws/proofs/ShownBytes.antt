@@ -12,14 +12,14 @@ use Rattle.yaml_print_laws.proofs.Bytes.{is_low, low_same, scalar_bytes}
 abbrev pub shown_bytes : Shown → Shown
 shown_bytes shown = record { is_block = shown.is_block; first = encode_utf8_all shown.first; more = map encode_utf8_all shown.more }
 
-low_before : (xs ys : List ℕ) → list_all is_low xs ≡ true → encode_utf8_all (xs ++ ys) ≡ xs ++ encode_utf8_all ys
+pub low_before : (xs ys : List ℕ) → list_all is_low xs ≡ true → encode_utf8_all (xs ++ ys) ≡ xs ++ encode_utf8_all ys
 low_before xs ys low = encodes-append xs ys ∙ ap (λ l. l ++ encode_utf8_all ys) (low_same xs low)
 
 deeper_bytes : (lines : List (List ℕ)) → map encode_utf8_all (map deeper lines) ≡ map deeper (map encode_utf8_all lines)
 deeper_bytes [] = refl
 deeper_bytes (line ∷ lines) = λ i. low_before (32 ∷ 32 ∷ []) line refl i ∷ deeper_bytes lines i
 
-key_bytes : (key mark rest : List ℕ) → list_all is_low mark ≡ true → encode_utf8_all (scalar key ++ (mark ++ rest)) ≡ scalar (encode_utf8_all key) ++ (mark ++ encode_utf8_all rest)
+pub key_bytes : (key mark rest : List ℕ) → list_all is_low mark ≡ true → encode_utf8_all (scalar key ++ (mark ++ rest)) ≡ scalar (encode_utf8_all key) ++ (mark ++ encode_utf8_all rest)
 key_bytes key mark rest low = encodes-append (scalar key) (mark ++ rest) ∙ (λ i. scalar_bytes key i ++ low_before mark rest low i)
 
 -- an entry
