@@ -1,11 +1,12 @@
 -- The pieces of a flow collection, one after the other.
-use Rattle.std.proofs.Common.{◌≡◌, ◌∙◌, ℕ, ◌+◌, ◌-◌, ◌≤◌, ◌<◌, List, [], ◌∷◌, Bool, true, false, not, eqb, if◌then◌else◌, Result, Ok, length, drop, refl, sym, ap, inl, inr, arith, length-drop}
+use Rattle.std.proofs.Common.{◌≡◌, ◌∙◌, ℕ, ◌+◌, ◌-◌, ◌≤◌, ◌<◌, List, [], ◌∷◌, Bool, true, false, eqb, if◌then◌else◌, Result, Ok, length, drop, refl, sym, ap, inl, inr, arith, length-drop}
 use Rattle.std.proofs.lemmas.Bool.{cases_Bool, false≢true}
 use Rattle.std.proofs.lemmas.List.{drop-drop}
 use Rattle.logical_lines.specs.Cuts.{cuts, cut_len}
 use Rattle.logical_lines.proofs.CutSteps.{cuts_are, cuts_here}
 use Rattle.yaml_flow.specs.declared.piece.Piece.{Piece}
 use Rattle.yaml_flow.specs.Flow.{PieceReader, pieces, read_piece}
+use Rattle.yaml_flow.specs.Pieces.{is_last_of, piece_at}
 use Rattle.yaml_lines.specs.Answers.{Fails}
 use Rattle.yaml_lines.specs.declared.refusal.YamlFault.TheVariants.{BadFlow}
 use Rattle.yaml_lines.specs.declared.refusal.YamlRefusal.{YamlRefusal}
@@ -15,14 +16,6 @@ use Rattle.yaml_nodes.proofs.Chains.{fails_as, fails_on, goes_on}
 use Rattle.yaml_nodes.specs.declared.progress.Progress.{Progress}
 use Rattle.yaml_nodes.specs.Marks.{starts}
 use Rattle.yaml_nodes.specs.Progress.{◌>>=◌, bad}
-
--- the piece that begins at a place
-abbrev pub piece_at : Row → ℕ → ℕ → Piece
-piece_at row bracket start = record { bracket = bracket; stop = start + cut_len 0 0 false (text_at row start) }
-
--- a piece behind which none follows
-abbrev pub is_last_of : Row → Piece → Bool
-is_last_of row piece = not (starts 44 (text_at row piece.stop))
 
 -- the pieces from a place on, beside what was read before
 abbrev pub from_place : {A : Type 0} → PieceReader A → Row → ℕ → ℕ → A × Progress → ℕ → Result ((A × ℕ) × Progress) YamlRefusal
@@ -37,7 +30,7 @@ abbrev pub ended : {A : Type 0} → Row → Piece → ℕ → A × Progress → 
 ended row piece close done = end_of row piece close done.1 >>= λ end. Ok ((done.0, end), done.1)
 
 -- a text that starts with a character is not empty
-stands : (c at : ℕ) (row : Row) → starts c (text_at row at) ≡ true → at < length row.chars
+pub stands : (c at : ℕ) (row : Row) → starts c (text_at row at) ≡ true → at < length row.chars
 stands c at row h = some (text_at row at) h (length-drop at row.chars)
   where
     some : (cs : List ℕ) → starts c cs ≡ true → length cs ≡ length row.chars - at → at < length row.chars

@@ -1,16 +1,17 @@
-ghost use Rattle.std.specs.Prelude.{◌≤◌, ◌<◌, ◌-◌, ◌^◌, [], length, IfOk};
+ghost use Rattle.std.specs.Prelude.{◌≡◌, ◌≤◌, ◌<◌, ◌-◌, ◌^◌, [], length, IfOk};
 ghost use Rattle.yaml_flow.specs.Flow.{between, flow, flow_entry, flow_item, flow_mapping, flow_node, flow_sequence, flow_value, nothing_before, read_piece};
+ghost use Rattle.yaml_flow.specs.Pieces.{is_last_of, piece_at, stop_from};
 ghost use Rattle.yaml_lines.specs.Answers.{Gives};
 ghost use Rattle.yaml_nodes.specs.Mappings.{no_entries};
 ghost use Rattle.yaml_nodes.specs.Progress.{result_beside, result_left};
 
 use crate::gap::next_place;
 use crate::key::{behind_key, fault_of_pair};
-use crate::piece::{Piece, at_stop, behind_bracket, is_last, piece_from};
+use crate::piece::{Piece, behind_bracket, empty_stop, is_last, is_stop, next_stop};
 use crate::properties::flow_properties;
 use std::alloc::Global;
 use tree_base::{List, Tree};
-use yaml_lines::{Context, Row, YamlFault, YamlRefusal, text_at};
+use yaml_lines::{Context, Row, YamlRefusal, text_at};
 use yaml_nodes::{
     Entries, Progress, Properties, Spot, finished, is_key_behind, key_at, merged, new_key,
     no_entries, no_properties, nothing, starts, unspelled, with_pair, word,
@@ -107,14 +108,13 @@ fn items(
     let mut items = List::new(alloc);
     let mut start = bracket + 1;
     loop {
-        let piece = piece_from(row, bracket, start);
-        let last = is_last(row, piece);
-        item_piece(alloc, progress, &mut items, levels, row, piece, last, start)?;
-        if last {
+        let stop = item_piece(alloc, progress, &mut items, levels, row, bracket, start)?;
+        let piece = Piece { bracket, stop };
+        if is_last(row, piece) {
             let end = behind_bracket(progress, row, piece, ']')?;
             return Ok((items, end));
         }
-        start = piece.stop + 1;
+        start = stop + 1;
     }
 }
 
@@ -135,27 +135,17 @@ fn entries(
     let mut entries = no_entries(alloc);
     let mut start = bracket + 1;
     loop {
-        let piece = piece_from(row, bracket, start);
-        let last = is_last(row, piece);
-        entry_piece(
-            alloc,
-            progress,
-            &mut entries,
-            levels,
-            row,
-            piece,
-            last,
-            start,
-        )?;
-        if last {
+        let stop = entry_piece(alloc, progress, &mut entries, levels, row, bracket, start)?;
+        let piece = Piece { bracket, stop };
+        if is_last(row, piece) {
             let end = behind_bracket(progress, row, piece, '}')?;
             return Ok((entries, end));
         }
-        start = piece.stop + 1;
+        start = stop + 1;
     }
 }
 
-/// Puts the item of a piece last, which begins at a place; only the last piece may be empty.
+/// Puts the item of a piece last, which begins at a place; only the last piece may be empty. Gives where the piece ends.
 #[cycle(collection)]
 fn item_piece(
     alloc: Global,
@@ -163,25 +153,22 @@ fn item_piece(
     items: &mut List<Tree>,
     levels: u32,
     row: &Row,
-    piece: Piece,
-    is_last: bool,
+    bracket: usize,
     start: usize,
-) -> Result<(), YamlRefusal>
+) -> Result<usize, YamlRefusal>
     requires { start ≤ length row.now.chars }
-    ensures { Gives (result_left result (items.new, progress.new)) (read_piece (flow_item levels (flow levels) row.now) row.now piece is_last (items.old, progress.old) start) }
+    ensures is { Gives (result_left result (items.new, progress.new)) (read_piece (flow_item levels (flow levels) row.now) row.now (piece_at row.now bracket start) (is_last_of row.now (piece_at row.now bracket start)) (items.old, progress.old) start) }
+    ensures ends { IfOk result (λ stop. stop ≡ stop_from row.now start) }
+    ensures within { IfOk result (λ stop. stop ≤ length row.now.chars) }
 {
     let at = next_place(progress, row, start, false)?;
-    if at < piece.stop {
-        return item(alloc, progress, items, levels, row, piece, at);
+    if is_stop(row, at) {
+        return empty_stop(progress, row, bracket, at);
     }
-    if is_last {
-        Ok(())
-    } else {
-        Err(progress.bad(YamlFault::BadFlow, row, piece.bracket))
-    }
+    item(alloc, progress, items, levels, row, bracket, at)
 }
 
-/// Puts the entry of a piece, which begins at a place; only the last piece may be empty.
+/// Puts the entry of a piece, which begins at a place; only the last piece may be empty. Gives where the piece ends.
 #[cycle(collection)]
 fn entry_piece(
     alloc: Global,
@@ -189,22 +176,19 @@ fn entry_piece(
     entries: &mut Entries,
     levels: u32,
     row: &Row,
-    piece: Piece,
-    is_last: bool,
+    bracket: usize,
     start: usize,
-) -> Result<(), YamlRefusal>
+) -> Result<usize, YamlRefusal>
     requires { start ≤ length row.now.chars }
-    ensures { Gives (result_left result (entries.new, progress.new)) (read_piece (flow_entry levels (flow levels) row.now) row.now piece is_last (entries.old, progress.old) start) }
+    ensures is { Gives (result_left result (entries.new, progress.new)) (read_piece (flow_entry levels (flow levels) row.now) row.now (piece_at row.now bracket start) (is_last_of row.now (piece_at row.now bracket start)) (entries.old, progress.old) start) }
+    ensures ends { IfOk result (λ stop. stop ≡ stop_from row.now start) }
+    ensures within { IfOk result (λ stop. stop ≤ length row.now.chars) }
 {
     let at = next_place(progress, row, start, false)?;
-    if at < piece.stop {
-        return entry(alloc, progress, entries, levels, row, piece, at);
+    if is_stop(row, at) {
+        return empty_stop(progress, row, bracket, at);
     }
-    if is_last {
-        Ok(())
-    } else {
-        Err(progress.bad(YamlFault::BadFlow, row, piece.bracket))
-    }
+    entry(alloc, progress, entries, levels, row, bracket, at)
 }
 
 /// Puts the item last that begins at a place, which is no pair: a pair is counted as a node, and refused at its key.
@@ -215,21 +199,23 @@ fn item(
     items: &mut List<Tree>,
     levels: u32,
     row: &Row,
-    piece: Piece,
+    bracket: usize,
     at: usize,
-) -> Result<(), YamlRefusal>
+) -> Result<usize, YamlRefusal>
     requires { at ≤ length row.now.chars }
-    ensures { Gives (result_left result (items.new, progress.new)) (flow_item levels (flow levels) row.now piece (items.old, progress.old) at) }
+    ensures is { Gives (result_left result (items.new, progress.new)) (flow_item levels (flow levels) row.now (piece_at row.now bracket at) (items.old, progress.old) at) }
+    ensures ends { IfOk result (λ stop. stop ≡ stop_from row.now at) }
+    ensures within { IfOk result (λ stop. stop ≤ length row.now.chars) }
 {
     let chars = text_at(row, at);
     if is_key_behind(chars, Context::Flow) {
         progress.one_node(levels, row, at, 0)?;
         return Err(progress.bad(fault_of_pair(chars), row, at));
     }
-    let (tree, end) = flow_node(alloc, progress, levels, row, piece, at, at, false)?;
-    at_stop(progress, row, piece, end)?;
+    let (tree, end) = flow_node(alloc, progress, levels, row, at, at, false)?;
+    let stop = next_stop(progress, row, bracket, end)?;
     items.push(tree)?;
-    Ok(())
+    Ok(stop)
 }
 
 /// Puts the entry that begins at a place: a key, its value behind a colon on the key's line, and nothing behind that.
@@ -240,18 +226,20 @@ fn entry(
     entries: &mut Entries,
     levels: u32,
     row: &Row,
-    piece: Piece,
+    bracket: usize,
     at: usize,
-) -> Result<(), YamlRefusal>
+) -> Result<usize, YamlRefusal>
     requires { at ≤ length row.now.chars }
-    ensures { Gives (result_left result (entries.new, progress.new)) (flow_entry levels (flow levels) row.now piece (entries.old, progress.old) at) }
+    ensures is { Gives (result_left result (entries.new, progress.new)) (flow_entry levels (flow levels) row.now (piece_at row.now bracket at) (entries.old, progress.old) at) }
+    ensures ends { IfOk result (λ stop. stop ≡ stop_from row.now at) }
+    ensures within { IfOk result (λ stop. stop ≤ length row.now.chars) }
 {
     let key = key_at(alloc, progress, Context::Flow, row, at)?;
     new_key(progress, entries, row, at, &key)?;
     let (behind, has_colon) = behind_key(row, at, &key);
-    let (tree, end) = flow_value(alloc, progress, levels, row, piece, at, behind, has_colon)?;
+    let (tree, end) = flow_value(alloc, progress, levels, row, at, behind, has_colon)?;
     with_pair(alloc, progress, entries, row, Spot::Here(at), key, tree)?;
-    at_stop(progress, row, piece, end)
+    next_stop(progress, row, bracket, end)
 }
 
 /// The value of a key, from behind its colon or itself on, and the place behind it: null where no colon stands on the
@@ -262,40 +250,38 @@ fn flow_value(
     progress: &mut Progress,
     levels: u32,
     row: &Row,
-    piece: Piece,
     key: usize,
     behind: usize,
     has_colon: bool,
 ) -> Result<(Tree, usize), YamlRefusal>
     requires { behind ≤ length row.now.chars }
-    ensures is { Gives (result_beside result progress.new) (flow_value levels (flow levels) row.now piece key progress.old behind has_colon) }
+    ensures is { Gives (result_beside result progress.new) (flow_value levels (flow levels) row.now (piece_at row.now key behind) key progress.old behind has_colon) }
     ensures within { IfOk result (λ got. got.1 ≤ length row.now.chars) }
 {
     if !has_colon {
         return nothing_before(alloc, progress, levels, no_properties(), row, key, behind);
     }
     let at = next_place(progress, row, behind, false)?;
-    if piece.stop <= at {
+    if is_stop(row, at) {
         return nothing_before(alloc, progress, levels, no_properties(), row, key, at);
     }
-    flow_node(alloc, progress, levels, row, piece, key, at, true)
+    flow_node(alloc, progress, levels, row, key, at, true)
 }
 
-/// The node that begins at a place of a piece, and the place behind it; where only properties stand, nothing, at the
-/// place of its key or of itself.
+/// The node that begins at a place of a piece, which ends at the next cut from there on, and the place behind it; where
+/// only properties stand, nothing, at the place of its key or of itself.
 #[cycle(collection)]
 fn flow_node(
     alloc: Global,
     progress: &mut Progress,
     levels: u32,
     row: &Row,
-    piece: Piece,
     owner: usize,
     at: usize,
     may_be_marked: bool,
 ) -> Result<(Tree, usize), YamlRefusal>
     requires { at ≤ length row.now.chars }
-    ensures is { Gives (result_beside result progress.new) (flow_node levels (flow levels) may_be_marked row.now piece owner progress.old at) }
+    ensures is { Gives (result_beside result progress.new) (flow_node levels (flow levels) may_be_marked row.now (piece_at row.now owner at) owner progress.old at) }
     ensures within { IfOk result (λ got. got.1 ≤ length row.now.chars) }
 {
     let (found, at) = flow_properties(
@@ -307,7 +293,7 @@ fn flow_node(
         may_be_marked,
         RUNS,
     )?;
-    if piece.stop <= at {
+    if is_stop(row, at) {
         return nothing_before(alloc, progress, levels, found, row, owner, at);
     }
     flow(alloc, progress, levels, found, row, at)

@@ -1,14 +1,12 @@
-ghost use Rattle.std.specs.Prelude.{◌≡◌, ◌≤◌, ◌+◌, false, not, Ok, length, IfOk, if◌then◌else◌};
-ghost use Rattle.logical_lines.specs.Cuts.{cut_len};
-ghost use Rattle.yaml_flow.specs.Flow.{at_stop};
+ghost use Rattle.std.specs.Prelude.{◌≡◌, ◌≤◌, ◌+◌, not, Ok, length, IfOk, if◌then◌else◌};
+ghost use Rattle.yaml_flow.specs.Pieces.{is_stop, next_stop};
 ghost use Rattle.yaml_lines.specs.Answers.{Gives};
 ghost use Rattle.yaml_lines.specs.declared.refusal.YamlFault.TheVariants.{BadFlow};
 ghost use Rattle.yaml_lines.specs.Rows.{text_at};
 ghost use Rattle.yaml_nodes.specs.Marks.{starts};
-ghost use Rattle.yaml_nodes.specs.Progress.{bad, result_left};
+ghost use Rattle.yaml_nodes.specs.Progress.{bad};
 
 use crate::gap::next_place;
-use logical_lines::cut_len;
 use yaml_lines::{Row, YamlFault, YamlRefusal, text_at};
 use yaml_nodes::{Progress, starts};
 
@@ -21,16 +19,13 @@ pub struct Piece {
     pub stop: usize,
 }
 
-/// The piece that begins at a place of a row.
-pub fn piece_from(row: &Row, bracket: usize, start: usize) -> Piece
-    requires { start ≤ length row.now.chars }
-    ensures is { result ≡ record { bracket = bracket; stop = start + cut_len 0 0 false (text_at row.now start) } }
-    ensures within { result.stop ≤ length row.now.chars }
+/// Whether a piece ends at a place of a row, if it hasn't ended before.
+pub fn is_stop(row: &Row, at: usize) -> bool
+    ensures { result ≡ is_stop row.now at }
 {
-    let len = cut_len(text_at(row, start));
-    Piece {
-        bracket,
-        stop: start + len,
+    match text_at(row, at) {
+        [] => true,
+        [c, ..] => matches!(c, ',' | ']' | '}'),
     }
 }
 
@@ -58,14 +53,37 @@ pub fn behind_bracket(
     }
 }
 
-/// Refuses what stands behind a node, from the place behind it to the end of its piece (`BadFlow`).
-pub fn at_stop(progress: &Progress, row: &Row, piece: Piece, end: usize) -> Result<(), YamlRefusal>
-    requires { end ≤ length row.now.chars }
-    ensures { Gives (result_left result progress.now) (at_stop row.now piece progress.now end) }
+/// The place at which an empty piece ends. Refuses one that a comma ends: only the last may be empty (`BadFlow`).
+pub fn empty_stop(
+    progress: &Progress,
+    row: &Row,
+    bracket: usize,
+    at: usize,
+) -> Result<usize, YamlRefusal>
+    ensures { Gives result (if starts 44 (text_at row.now at) then bad BadFlow progress.now row.now bracket else Ok at) }
 {
-    if next_place(progress, row, end, false)? == piece.stop {
-        Ok(())
+    if starts(text_at(row, at), ',') {
+        Err(progress.bad(YamlFault::BadFlow, row, bracket))
     } else {
-        Err(progress.bad(YamlFault::BadFlow, row, piece.bracket))
+        Ok(at)
+    }
+}
+
+/// The place at which a piece ends, from behind a node of it on. Refuses what else stands there (`BadFlow`).
+pub fn next_stop(
+    progress: &Progress,
+    row: &Row,
+    bracket: usize,
+    end: usize,
+) -> Result<usize, YamlRefusal>
+    requires { end ≤ length row.now.chars }
+    ensures is { Gives result (next_stop progress.now row.now bracket end) }
+    ensures within { IfOk result (λ stop. stop ≤ length row.now.chars) }
+{
+    let at = next_place(progress, row, end, false)?;
+    if is_stop(row, at) {
+        Ok(at)
+    } else {
+        Err(progress.bad(YamlFault::BadFlow, row, bracket))
     }
 }
