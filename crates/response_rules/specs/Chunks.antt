@@ -1,0 +1,122 @@
+-- Bodies in chunks: which are whole, and the ways in which one is broken (RFC 9112, section 7.1).
+use Rattle.std.specs.Prelude.{◌≡◌, ◌≢◌, ℕ, ◌+◌, ◌<◌, ◌≤◌, Bool, List, ◌++◌, length, take, drop, flat_map, All, IsTrue}
+use Rattle.httparse.specs.Ascii.{crlf_bytes}
+use Rattle.httparse.specs.Grammar.{ChunkLine, print_chunk_line, IsChunkLine, chunk_size, ReadsChunkLine, HasNoChunkLine, Field, LineEnd, print_section, ReadsSection, HasNoSection}
+use Rattle.engine_types.specs.declared.WireEnd.{WireEnd}
+use Rattle.response_rules.specs.Lines.{head_limit, line_limit, body_limit, ends, passed, unfinished, chunk_line_part, trailer_part}
+
+-- a chunk: its line, and its bytes
+pub record Chunk : Type 0 where
+  pub line : ChunkLine
+  pub bytes : List ℕ
+
+-- a chunk as it is sent, with the CRLF behind its bytes
+abbrev pub print_chunk : Chunk → List ℕ
+print_chunk chunk = print_chunk_line chunk.line ++ (chunk.bytes ++ crlf_bytes)
+
+-- chunks as they are sent, one behind the other
+abbrev pub print_chunks : List Chunk → List ℕ
+print_chunks chunks = flat_map print_chunk chunks
+
+-- the bytes of a body: those of its chunks
+abbrev pub body_of : List Chunk → List ℕ
+body_of chunks = flat_map (λ chunk. chunk.bytes) chunks
+
+-- a chunk before the last: its line is one of the grammar and within the limit, and says how many
+-- bytes it has
+pub record IsChunk (chunk : Chunk) : Type 0 where
+  pub line : IsChunkLine chunk.line
+  pub within : length (print_chunk_line chunk.line) ≤ head_limit
+  pub some : 0 < length chunk.bytes
+  pub size : length chunk.bytes ≡ chunk_size chunk.line
+
+-- chunks before the last, within the limit of a body
+pub record AreChunks (chunks : List Chunk) : Type 0 where
+  pub each : All IsChunk chunks
+  pub within : length (body_of chunks) ≤ body_limit
+
+-- the bytes begin with a chunk line of the grammar within the limit, and then come the others
+pub record BeginsWithLine (bytes : List ℕ) (line : ChunkLine) (rest : List ℕ) : Type 0 where
+  pub reads : ReadsChunkLine bytes line rest
+  pub within : length (print_chunk_line line) ≤ head_limit
+
+-- the bytes begin with the lines after a last chunk, which are header lines within the limits, and
+-- an empty line
+pub record BeginsWithTrailer (bytes : List ℕ) : Type 0 where
+  pub fields : List Field
+  pub last : LineEnd
+  pub rest : List ℕ
+  pub reads : ReadsSection bytes fields last rest
+  pub few : length fields ≤ line_limit
+  pub within : length (print_section fields last) ≤ head_limit
+
+-- the bytes begin with a whole body in chunks: chunks, a last one of no bytes, and the lines behind
+-- it
+pub record IsChunked (bytes body : List ℕ) : Type 0 where
+  pub chunks : List Chunk
+  pub line : ChunkLine
+  pub tail : List ℕ
+  pub rest : List ℕ
+  pub are_chunks : AreChunks chunks
+  pub reads : bytes ≡ print_chunks chunks ++ tail
+  pub ends : BeginsWithLine tail line rest
+  pub no_bytes : chunk_size line ≡ 0
+  pub trailer : BeginsWithTrailer rest
+  pub made_of : body ≡ body_of chunks
+
+-- the lines after a last chunk are broken in one way, where they begin at a place
+pub data BreaksTrailer : ℕ → List ℕ → Bool → WireEnd → Type 0 where
+  -- the connection ended before the empty line
+  cut : (at : ℕ) (bytes : List ℕ) (ended : Bool) → trailer_part bytes ≡ unfinished
+      → IsTrue ended
+      → BreaksTrailer at bytes ended WireEnd.Ended
+  -- they pass a limit
+  long : (at : ℕ) (bytes : List ℕ) (ended : Bool) → trailer_part bytes ≡ passed
+      → BreaksTrailer at bytes ended WireEnd.TooLarge
+  -- up to the empty line, they aren't header lines
+  bad : (at n : ℕ) (bytes : List ℕ) (ended : Bool) → trailer_part bytes ≡ ends n
+      → HasNoSection (take n bytes)
+      → BreaksTrailer at bytes ended (WireEnd.Malformed at)
+
+-- the chunk that begins at a place, behind so many bytes of the body, is broken in one way
+pub data BreaksChunk : ℕ → ℕ → List ℕ → Bool → WireEnd → Type 0 where
+  -- the connection ended within the chunk line
+  line_cut : (at before : ℕ) (bytes : List ℕ) (ended : Bool) → chunk_line_part bytes ≡ unfinished
+      → IsTrue ended
+      → BreaksChunk at before bytes ended WireEnd.Ended
+  -- the chunk line passes its limit
+  line_long : (at before : ℕ) (bytes : List ℕ) (ended : Bool) → chunk_line_part bytes ≡ passed
+      → BreaksChunk at before bytes ended WireEnd.TooLarge
+  -- the line isn't a chunk line
+  line_bad : (at before n : ℕ) (bytes : List ℕ) (ended : Bool) → chunk_line_part bytes ≡ ends n
+      → HasNoChunkLine (take n bytes) → BreaksChunk at before bytes ended (WireEnd.Malformed at)
+  -- with the bytes that the line says, the body passes its limit
+  body_long : (at before : ℕ) (bytes rest : List ℕ) (ended : Bool) (line : ChunkLine)
+      → BeginsWithLine bytes line rest
+      → body_limit < before + chunk_size line → BreaksChunk at before bytes ended WireEnd.TooLarge
+  -- the connection ended within the bytes of the chunk, or within the CRLF behind them
+  bytes_cut : (at before : ℕ) (bytes rest : List ℕ) (ended : Bool) (line : ChunkLine)
+      → BeginsWithLine bytes line rest
+      → 0 < chunk_size line → before + chunk_size line ≤ body_limit
+      → length rest < chunk_size line + 2 → IsTrue ended
+      → BreaksChunk at before bytes ended WireEnd.Ended
+  -- the two bytes behind those of the chunk aren't CRLF
+  end_bad : (at before : ℕ) (bytes rest : List ℕ) (ended : Bool) (line : ChunkLine)
+      → BeginsWithLine bytes line rest
+      → 0 < chunk_size line → before + chunk_size line ≤ body_limit
+      → chunk_size line + 2 ≤ length rest
+      → take 2 (drop (chunk_size line) rest) ≢ crlf_bytes
+      → BreaksChunk at before bytes ended (WireEnd.Malformed at)
+  -- it is the last one, and the lines behind it are broken
+  trailer : (at before : ℕ) (bytes rest : List ℕ) (ended : Bool) (line : ChunkLine) (cause : WireEnd)
+      → BeginsWithLine bytes line rest → chunk_size line ≡ 0
+      → BreaksTrailer (at + length (print_chunk_line line)) rest ended cause
+      → BreaksChunk at before bytes ended cause
+
+-- behind whole chunks comes one that is broken in this way, where the body begins at a place
+pub record BreaksChunked (at : ℕ) (bytes : List ℕ) (ended : Bool) (cause : WireEnd) : Type 0 where
+  pub chunks : List Chunk
+  pub tail : List ℕ
+  pub are_chunks : AreChunks chunks
+  pub reads : bytes ≡ print_chunks chunks ++ tail
+  pub breaks : BreaksChunk (at + length (print_chunks chunks)) (length (body_of chunks)) tail ended cause

@@ -1,0 +1,9 @@
+pub mod Lines
+pub mod Heads
+pub mod Chunks
+pub mod Responses
+pub mod Json
+pub mod Replies
+pub mod Broken
+pub mod Examples
+pub mod Laws
