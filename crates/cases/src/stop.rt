@@ -3,7 +3,7 @@ use std::io;
 use tree_base::Memory;
 
 /// Why a run of cases is broken off.
-#[derive(Debug, Clone, Copy, PartialEq, Eq)]
+#[derive(Clone, Copy)]
 pub enum Stop {
     Memory,
     Output,
