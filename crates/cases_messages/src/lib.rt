@@ -24,7 +24,7 @@ pub use names::{
     code_of, condition_of, health_of, kind_of, policy_of, purpose_of, report_of, state_at,
 };
 pub use reading::Reading;
-pub use reply::{read_report, reply_line, say_report};
+pub use reply::{read_bytes, read_report, reply_line, say_report};
 pub use request::{read_request, request_line, request_of};
 pub use resource::{network_named, volume_named};
 pub use spec::spec_of;

@@ -7,12 +7,13 @@ use engine_types::{Health, Listed, NetRow, Reply, Report};
 use std::alloc::Global;
 use tree_base::{List, Memory, Text};
 
-/// The reply of a line: `state STATE [CODE] [HEALTH]`, `made ID`, `done`, `already`, `image ID`, `pulled`,
-/// `pull failed MESSAGE`, `refused STATUS MESSAGE`; and `containers`, `networks` and `volumes` of nothing.
+/// The reply of a line: `state STATE [CODE] [HEALTH]`, `bytes [NUMBER]..`, `made ID`, `done`, `already`, `image ID`,
+/// `pulled`, `pull failed MESSAGE`, `refused STATUS MESSAGE`; and `containers`, `networks` and `volumes` of nothing.
 pub fn read_reply(reading: &mut Reading, line: &str) -> Reply {
     let (verb, rest) = line.split_once(' ').unwrap_or((line, ""));
     match verb {
         "state" => Reply::State(read_report(reading, rest)),
+        "bytes" => Reply::Bytes(read_bytes(reading, rest)),
         "made" => Reply::Made(id_of(reading, rest)),
         "done" => Reply::Done,
         "already" => Reply::Already,
@@ -21,6 +22,26 @@ pub fn read_reply(reading: &mut Reading, line: &str) -> Reply {
         "pull" => Reply::PullFailed(reading.text(rest.strip_prefix("failed ").unwrap_or(rest))),
         "refused" => refused(reading, rest),
         _ => listing(reading, verb),
+    }
+}
+
+/// The bytes that a line's numbers are.
+pub fn read_bytes(reading: &mut Reading, line: &str) -> List<u8> {
+    let mut bytes = List::new(reading.alloc);
+    for word in line.split_whitespace() {
+        let byte = byte_of(reading, word);
+        reading.push(&mut bytes, byte);
+    }
+    bytes
+}
+
+fn byte_of(reading: &mut Reading, word: &str) -> u8 {
+    match u8::try_from(reading.number(word)) {
+        Ok(byte) => byte,
+        Err(_) => {
+            reading.refuse_word("a byte", word);
+            0
+        }
     }
 }
 
@@ -82,6 +103,7 @@ pub(crate) fn say_reply(line: &mut Line, reply: &Reply) {
     match reply {
         Reply::Containers(rows) => say_containers(line, rows.as_slice()),
         Reply::State(report) => say_state(line, report),
+        Reply::Bytes(bytes) => say_bytes(line, bytes.as_slice()),
         Reply::Made(id) => say_of_id(line, "made", id),
         Reply::Done => line.word("done"),
         Reply::Already => line.word("already"),
@@ -91,6 +113,13 @@ pub(crate) fn say_reply(line: &mut Line, reply: &Reply) {
         Reply::Pulled => line.word("pulled"),
         Reply::PullFailed(message) => say_of(line, "pull failed", message),
         Reply::Refused { status, message } => say_refused(line, *status, message),
+    }
+}
+
+fn say_bytes(line: &mut Line, bytes: &[u8]) {
+    line.word("bytes");
+    for byte in bytes {
+        line.number(u64::from(*byte));
     }
 }
 

@@ -9,8 +9,8 @@ use std::alloc::Global;
 use std::str::SplitWhitespace;
 use tree_base::{Boxed, List, Memory, Text};
 
-/// The request of a line: `containers PROJECT`, `inspect ID`, `create NAME IMAGE [NETWORK | +VOLUME]..` (a volume is bound
-/// at `/data`), `start ID`, `stop ID SECONDS` (10), `remove ID`, `networks`, `network NAME`,
+/// The request of a line: `containers PROJECT`, `inspect ID`, `logs ID`, `create NAME IMAGE [NETWORK | +VOLUME]..` (a
+/// volume is bound at `/data`), `start ID`, `stop ID SECONDS` (10), `remove ID`, `networks`, `network NAME`,
 /// `connect NETWORK CONTAINER [ALIAS]..` by ids, `remove-network ID`, `volumes`, `volume NAME`, `remove-volume NAME`,
 /// `image NAME`, `pull NAME`. An id may be `0..1f`, the one of 64 digits which ends so. NoCase where the line is of no
 /// such form.
@@ -27,6 +27,9 @@ pub fn read_request(reading: &mut Reading, line: &str) -> Request {
     let name = words.next().unwrap_or("");
     match verb {
         "inspect" => Request::Inspect {
+            id: id_of(reading, name),
+        },
+        "logs" => Request::Logs {
             id: id_of(reading, name),
         },
         "create" => create(reading, name, words),
@@ -163,6 +166,7 @@ pub(crate) fn say_request(line: &mut Line, request: &Request) {
     match request {
         Request::ListContainers { project } => say_of(line, "containers", project),
         Request::Inspect { id } => say_of_id(line, "inspect", id),
+        Request::Logs { id } => say_of_id(line, "logs", id),
         Request::Create { name, .. } => say_of(line, "create", name),
         Request::Start { id } => say_of_id(line, "start", id),
         Request::Stop { id, seconds } => say_stop(line, id, *seconds),

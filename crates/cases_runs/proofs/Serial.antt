@@ -1,17 +1,19 @@
--- A declared set that passes the test is whole, and none of its slots needs another.
-use Rattle.std.proofs.Common.{◌≡◌, ℕ, zero, suc, ◌<◌, Bool, true, false, ◌&&◌, List, [], ◌∷◌, Some, length, slice_get, nat_lt, refl, sym, ◌∙◌, subst, arith}
+-- A declared set that passes the test is whole, and nothing in it waits for anything else.
+use Rattle.std.proofs.Common.{◌≡◌, ℕ, zero, suc, ◌<◌, Bool, true, false, ◌&&◌, List, [], ◌∷◌, Option, None, Some, length, slice_get, nat_lt, refl, sym, ◌∙◌, subst, arith}
 use Rattle.std.specs.List.{list_all}
+use Rattle.std.specs.Prelude.{is_none}
 use Rattle.std.proofs.lemmas.Bool.{and_parts, ltb-true}
 use Rattle.engine_types.specs.declared.Attach.{Attach}
 use Rattle.engine_types.specs.declared.Declared.{Declared}
+use Rattle.engine_types.specs.declared.DeclaredService.{DeclaredService}
 use Rattle.engine_types.specs.declared.Need.{Need}
 use Rattle.engine_types.specs.declared.Slot.{Slot}
 use Rattle.run_model.specs.EngineRules.{Among}
 use Rattle.run_model.specs.Plans.{IsWhole, is_running, is_slot_before}
 use Rattle.tree_base.specs.ByteOrder.{IsAscending, is_before}
 use Rattle.serial_run.proofs.Lists.{all_each}
-use Rattle.serial_run.specs.Serial.{NeedsNoSlot}
-use Rattle.cases_runs.specs.Whole.{are_attached, is_ascending, is_attached, is_nil, is_serial, need_nothing}
+use Rattle.serial_run.specs.Serial.{WaitsForNone}
+use Rattle.cases_runs.specs.Whole.{are_attached, are_owned, is_alone, is_ascending, is_attached, is_nil, is_owned, is_serial, need_nothing, stand_alone}
 
 module _ {X : Type 0} where
   each_at : (p : X → Bool) (xs : List X) (j : ℕ) (y : X) → list_all p xs ≡ true → slice_get xs j ≡ Some y → p y ≡ true
@@ -33,40 +35,77 @@ module _ {X : Type 0} where
   nil_of [] e = refl
   nil_of (x ∷ xs) e = let clash : false ≡ true = e in absurd (cc clash)
 
+-- eight tests that all pass
+record Eight (a b c d e f g h : Bool) : Type 0 where
+  one : a ≡ true
+  two : b ≡ true
+  three : c ≡ true
+  four : d ≡ true
+  five : e ≡ true
+  six : f ≡ true
+  seven : g ≡ true
+  eight : h ≡ true
+
+all_eight : (a b c d e f g h : Bool) → (a && b && c && d && e && f && g && h) ≡ true → Eight a b c d e f g h
+all_eight a b c d e f g h p =
+    let p8 = and_parts (a && b && c && d && e && f && g) h p in
+    let p7 = and_parts (a && b && c && d && e && f) g p8.0 in
+    let p6 = and_parts (a && b && c && d && e) f p7.0 in
+    let p5 = and_parts (a && b && c && d) e p6.0 in
+    let p4 = and_parts (a && b && c) d p5.0 in
+    let p3 = and_parts (a && b) c p4.0 in
+    let p2 = and_parts a b p3.0 in
+    record { one = p2.0; two = p2.1; three = p3.1; four = p4.1; five = p5.1; six = p6.1; seven = p7.1; eight = p8.1 }
+
+none_of : (o : Option ℕ) → is_none o ≡ true → o ≡ None
+none_of None e = refl
+none_of (Some n) e = let clash : false ≡ true = e in absurd (cc clash)
+
 module _ (declared : Declared) (serial : is_serial declared ≡ true) where
-  last : (is_ascending is_slot_before declared.slots && is_ascending (λ network other. is_before network.name other.name) declared.networks && is_ascending (λ volume other. is_before volume.name other.name) declared.volumes && are_attached declared.networks declared.slots ≡ true) × (need_nothing declared.slots ≡ true)
-  last = and_parts _ (need_nothing declared.slots) serial
+  tests : Eight (is_ascending is_slot_before declared.slots) (is_ascending (λ service other. is_before service.key other.key) declared.services)
+      (is_ascending (λ network other. is_before network.name other.name) declared.networks) (is_ascending (λ volume other. is_before volume.name other.name) declared.volumes)
+      (are_owned declared.services declared.slots) (are_attached declared.networks declared.slots) (need_nothing declared.slots) (stand_alone declared.services)
+  tests = all_eight (is_ascending is_slot_before declared.slots) (is_ascending (λ service other. is_before service.key other.key) declared.services)
+      (is_ascending (λ network other. is_before network.name other.name) declared.networks) (is_ascending (λ volume other. is_before volume.name other.name) declared.volumes)
+      (are_owned declared.services declared.slots) (are_attached declared.networks declared.slots) (need_nothing declared.slots) (stand_alone declared.services) serial
 
-  attached : (is_ascending is_slot_before declared.slots && is_ascending (λ network other. is_before network.name other.name) declared.networks && is_ascending (λ volume other. is_before volume.name other.name) declared.volumes ≡ true) × (are_attached declared.networks declared.slots ≡ true)
-  attached = and_parts _ (are_attached declared.networks declared.slots) last.0
+  no_needs : (slot : Slot) → Among declared.slots slot → slot.needs ≡ []
+  no_needs slot among = nil_of slot.needs (all_each (λ slot. is_nil slot.needs) declared.slots slot tests.seven among)
 
-  volumes : (is_ascending is_slot_before declared.slots && is_ascending (λ network other. is_before network.name other.name) declared.networks ≡ true) × (is_ascending (λ volume other. is_before volume.name other.name) declared.volumes ≡ true)
-  volumes = and_parts _ (is_ascending (λ volume other. is_before volume.name other.name) declared.volumes) attached.0
+  alone : (service : DeclaredService) → Among declared.services service → (is_nil service.depends_on ≡ true) × (is_none service.roll ≡ true)
+  alone service among = and_parts (is_nil service.depends_on) (is_none service.roll) (all_each is_alone declared.services service tests.eight among)
 
-  slots : (is_ascending is_slot_before declared.slots ≡ true) × (is_ascending (λ network other. is_before network.name other.name) declared.networks ≡ true)
-  slots = and_parts (is_ascending is_slot_before declared.slots) (is_ascending (λ network other. is_before network.name other.name) declared.networks) volumes.0
-
-  -- none of its slots needs another
-  pub needs_none : NeedsNoSlot declared
-  needs_none slot among = nil_of slot.needs (all_each (λ slot. is_nil slot.needs) declared.slots slot last.1 among)
+  -- nothing in it waits for anything else
+  pub needs_none : WaitsForNone declared
+  needs_none = record {
+    slots = no_needs;
+    services = λ service among. nil_of service.depends_on (alone service among).0;
+    rolls = λ service among. none_of service.roll (alone service among).1;
+  }
 
   no_need : {P : Type 0} (slot : Slot) (need : Need) → Among declared.slots slot → Among slot.needs need → P
   no_need slot need among needed =
-      let none : Among [] need = subst (λ (needs : List Need). Among needs need) (needs_none slot among) needed in absurd none
+      let none : Among [] need = subst (λ (needs : List Need). Among needs need) (no_needs slot among) needed in absurd none
 
   attached_within : (slot : Slot) (attach : Attach) → Among declared.slots slot → Among slot.attach attach → attach.network < length declared.networks
   attached_within slot attach among joined =
       ltb-true attach.network (length declared.networks)
       (all_each (λ attach. nat_lt attach.network (length declared.networks)) slot.attach attach
-      (all_each (is_attached declared.networks) declared.slots slot attached.1 among) joined)
+      (all_each (is_attached declared.networks) declared.slots slot tests.six among) joined)
+
+  none_rolls : (service : DeclaredService) → Among declared.services service → service.roll ≡ Some 0 → ⊥
+  none_rolls service among e = let bad : None ≡ Some 0 = sym (none_of service.roll (alone service among).1) ∙ e in cc bad
 
   -- and it is whole
   pub whole : IsWhole declared
   whole = record {
-    slots = ascends is_slot_before declared.slots slots.0;
-    networks = ascends (λ network other. is_before network.name other.name) declared.networks slots.1;
-    volumes = ascends (λ volume other. is_before volume.name other.name) declared.volumes volumes.1;
+    slots = ascends is_slot_before declared.slots tests.one;
+    services = ascends (λ service other. is_before service.key other.key) declared.services tests.two;
+    owners = λ slot among. all_each (λ (s : Slot). is_owned declared.services s.service) declared.slots slot tests.five among;
+    networks = ascends (λ network other. is_before network.name other.name) declared.networks tests.three;
+    volumes = ascends (λ volume other. is_before volume.name other.name) declared.volumes tests.four;
     attaches = attached_within;
     needs = λ slot need among needed. no_need slot need among needed;
     conditions = λ slot need among needed. no_need slot need among needed;
+    rolls = none_rolls;
   }

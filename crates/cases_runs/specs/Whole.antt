@@ -1,7 +1,9 @@
 -- Which declared sets one worker can carry out, as a test.
-use Rattle.std.specs.Prelude.{ℕ, Bool, true, false, ◌&&◌, nat_lt, List, [], ◌∷◌, length}
-use Rattle.std.specs.List.{list_all}
+use Rattle.std.specs.Prelude.{ℕ, Bool, true, false, ◌&&◌, nat_lt, List, [], ◌∷◌, is_none, length}
+use Rattle.std.specs.List.{list_all, list_any}
+use Rattle.std.specs.Str.{bytes_eq}
 use Rattle.engine_types.specs.declared.Declared.{Declared}
+use Rattle.engine_types.specs.declared.DeclaredService.{DeclaredService}
 use Rattle.engine_types.specs.declared.NetworkSpec.{NetworkSpec}
 use Rattle.engine_types.specs.declared.Slot.{Slot}
 use Rattle.run_model.specs.Plans.{is_slot_before}
@@ -20,6 +22,14 @@ is_attached networks slot = list_all (λ attach. nat_lt attach.network (length n
 abbrev pub are_attached : List NetworkSpec → List Slot → Bool
 are_attached networks slots = list_all (is_attached networks) slots
 
+-- whether a service with this key is there
+abbrev pub is_owned : List DeclaredService → List ℕ → Bool
+is_owned services key = list_any (λ service. bytes_eq service.key key) services
+
+-- whether slots are of services that are there
+abbrev pub are_owned : List DeclaredService → List Slot → Bool
+are_owned services slots = list_all (λ slot. is_owned services slot.service) slots
+
 -- whether a list has no element
 abbrev pub is_nil : {X : Type 0} → List X → Bool
 is_nil [] = true
@@ -29,11 +39,22 @@ is_nil (x ∷ xs) = false
 abbrev pub need_nothing : List Slot → Bool
 need_nothing slots = list_all (λ slot. is_nil slot.needs) slots
 
--- whether a declared set is whole and none of its slots needs another one
+-- whether a service depends on no other one, and isn't replaced a few slots at a time
+abbrev pub is_alone : DeclaredService → Bool
+is_alone service = is_nil service.depends_on && is_none service.roll
+
+-- whether services do
+abbrev pub stand_alone : List DeclaredService → Bool
+stand_alone services = list_all is_alone services
+
+-- whether a declared set is whole and nothing in it waits for anything else
 abbrev pub is_serial : Declared → Bool
 is_serial declared =
     is_ascending is_slot_before declared.slots
+    && is_ascending (λ service other. is_before service.key other.key) declared.services
     && is_ascending (λ network other. is_before network.name other.name) declared.networks
     && is_ascending (λ volume other. is_before volume.name other.name) declared.volumes
+    && are_owned declared.services declared.slots
     && are_attached declared.networks declared.slots
     && need_nothing declared.slots
+    && stand_alone declared.services

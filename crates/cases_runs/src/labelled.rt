@@ -1,13 +1,12 @@
 use case_files::{Answers, CaseFault, Fields};
 use cases_values::{listed_of, slot_of};
-use engine_types::{Declared, Listed, Pairs, Slot};
-use run_lookups::{agrees, has_slot_service, is_of_slot, names_service};
+use engine_types::{Declared, DeclaredService, Listed, Pairs, Slot};
+use run_lookups::{agrees, has_declared_service, is_of_slot, names_service};
 use std::alloc::Global;
-use tree_base::{List, Memory, Text};
+use tree_base::{List, Memory, Text, TryCopy};
 
 /// Whose a container is, by its labels, for a slot of a project whose image has an id: whether it is `of_slot`, `agrees`
-/// with it, `names_service`, and names the service of some slot of a project that declares this one alone,
-/// `has_slot_service`.
+/// with it, `names_service`, and names a service of a project that declares the slot's alone, `has_declared_service`.
 pub(crate) fn membership(
     alloc: Global,
     fields: &Fields,
@@ -31,7 +30,7 @@ fn membership_of(
     let told = put_slot(alloc, project, &slot, image, row, answers);
     let declared = declared_alone(alloc, slot)?;
     told?;
-    put_slot_service(&declared, &row.labels, answers)
+    put_declared_service(&declared, &row.labels, answers)
 }
 
 fn put_slot(
@@ -91,22 +90,39 @@ fn put_agreeing(
     answers.put_flag("agrees", agrees)
 }
 
-/// A project that declares this slot alone.
+/// A project that declares this slot and its service alone.
 fn declared_alone(alloc: Global, slot: Slot) -> Result<Declared, Memory> {
+    let key = slot.service.copy(alloc);
     let mut slots = List::new(alloc);
     slots.push(slot)?;
+    let services = alone(alloc, key?)?;
     Ok(Declared {
         project: Text::new(alloc),
         slots,
+        services,
         networks: List::new(alloc),
         volumes: List::new(alloc),
     })
 }
 
-fn put_slot_service(
+/// A service that depends on no other one.
+fn alone(alloc: Global, key: Text) -> Result<List<DeclaredService>, Memory> {
+    let mut services = List::new(alloc);
+    services.push(DeclaredService {
+        key,
+        depends_on: List::new(alloc),
+        roll: None,
+    })?;
+    Ok(services)
+}
+
+fn put_declared_service(
     declared: &Declared,
     pairs: &Pairs,
     answers: &mut Answers,
 ) -> Result<(), CaseFault> {
-    answers.put_flag("has_slot_service", has_slot_service(declared, pairs))
+    answers.put_flag(
+        "has_declared_service",
+        has_declared_service(declared, pairs),
+    )
 }

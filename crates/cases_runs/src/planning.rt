@@ -50,6 +50,7 @@ fn nothing_declared(alloc: Global) -> Declared {
     Declared {
         project: Text::new(alloc),
         slots: List::new(alloc),
+        services: List::new(alloc),
         networks: List::new(alloc),
         volumes: List::new(alloc),
     }

@@ -41,7 +41,7 @@ fn run_on(
 ) -> Result<(), CaseFault> {
     match run_with(alloc, hand, declared, aim) {
         Some(ran) => put_ran(alloc, ran, answers)?,
-        None => return answers.refuse("the declared set is not whole, or a slot needs another"),
+        None => return answers.refuse("the declared set is not whole, or something in it waits"),
     }
     put_hand(alloc, hand, declared, aim, answers)
 }

@@ -1,17 +1,18 @@
 ghost use Rattle.std.specs.Prelude.{◌≡◌, true};
 ghost use Rattle.std.specs.List.{list_all};
 ghost use Rattle.run_model.specs.Plans.{IsWhole, is_slot_before};
-ghost use Rattle.serial_run.specs.Serial.{NeedsNoSlot};
+ghost use Rattle.serial_run.specs.Serial.{WaitsForNone};
 ghost use Rattle.tree_base.specs.ByteOrder.{is_before};
-ghost use Rattle.cases_runs.specs.Whole.{are_attached, is_ascending, is_attached, is_nil, is_serial, need_nothing};
+ghost use Rattle.cases_runs.specs.Whole.{are_attached, are_owned, is_alone, is_ascending, is_attached, is_nil, is_owned, is_serial, need_nothing, stand_alone};
 
-use engine_types::{Declared, NetworkSpec, Slot, VolumeSpec};
+use engine_types::{Declared, DeclaredService, NetworkSpec, Slot, VolumeSpec};
+use tree_base::Text;
 
-/// Whether a declared set is whole and none of its slots needs another one, so that one worker can carry it out. No
+/// Whether a declared set is whole and nothing in it waits for anything else, so that one worker can carry it out. No
 /// memory.
 pub(crate) fn is_serial(declared: &Declared) -> bool
     ensures whole { result ≡ true → IsWhole declared.now }
-    ensures unconditional { result ≡ true → NeedsNoSlot declared.now }
+    ensures unconditional { result ≡ true → WaitsForNone declared.now }
 {
     passes(declared)
 }
@@ -20,12 +21,60 @@ fn passes(declared: &Declared) -> bool
     ensures { result ≡ is_serial declared.now }
 {
     let slots = declared.slots.as_slice();
+    let services = declared.services.as_slice();
     let networks = declared.networks.as_slice();
     slots_ascend(slots)
+        && services_ascend(services)
         && networks_ascend(networks)
         && volumes_ascend(declared.volumes.as_slice())
+        && are_owned(services, slots)
         && are_attached(networks, slots)
         && need_nothing(slots)
+        && stand_alone(services)
+}
+
+fn services_ascend(services: &[DeclaredService]) -> bool
+    ensures { result ≡ is_ascending (λ service other. is_before service.key other.key) services.now }
+{
+    match services {
+        [] => true,
+        [first, later @ ..] => are_later_services(first, later) && services_ascend(later),
+    }
+}
+
+fn are_later_services(service: &DeclaredService, later: &[DeclaredService]) -> bool
+    ensures { result ≡ list_all (λ other. is_before service.now.key other.key) later.now }
+{
+    later.iter().all(|other| service.key < other.key)
+}
+
+/// Whether slots are of services that are there.
+fn are_owned(services: &[DeclaredService], slots: &[Slot]) -> bool
+    ensures { result ≡ are_owned services.now slots.now }
+{
+    slots.iter().all(|slot| is_owned(services, &slot.service))
+}
+
+fn is_owned(services: &[DeclaredService], key: &Text) -> bool
+    ensures { result ≡ is_owned services.now key.now }
+{
+    services.iter().any(|service| service.key == *key)
+}
+
+/// Whether no service depends on another one, or is replaced a few slots at a time.
+fn stand_alone(services: &[DeclaredService]) -> bool
+    ensures { result ≡ stand_alone services.now }
+{
+    services.iter().all(is_alone)
+}
+
+fn is_alone(service: &DeclaredService) -> bool
+    ensures { result ≡ is_alone service.now }
+{
+    match service.depends_on.as_slice() {
+        [] => service.roll.is_none(),
+        [_, ..] => false,
+    }
 }
 
 fn slots_ascend(slots: &[Slot]) -> bool

@@ -6,8 +6,8 @@ use std::str::SplitWhitespace;
 use tree_base::{List, Memory, Text};
 
 /// The plan of the lines under a key, each an action with the numbers that it needs: `volume 0`, `network 0`, `stop 1`,
-/// `remove 1 <0`, `create 0 <1`, `connect 0.1 <2`, `start 0 <2 <3`, `no-network 0`, `no-volume 0`. NoCase where a line
-/// is of no such form.
+/// `remove 1 <0`, `create 0 <1`, `connect 0.1 <2`, `stop-kept 0 <1`, `start 0 <2 <3`, `no-network 0`, `no-volume 0`.
+/// It tells no kept containers. NoCase where a line is of no such form.
 pub fn plan_of(alloc: Global, fields: &Fields, key: &str) -> Result<Plan, CaseFault> {
     let mut reading = Reading::new(alloc);
     let mut actions = List::new(alloc);
@@ -16,7 +16,8 @@ pub fn plan_of(alloc: Global, fields: &Fields, key: &str) -> Result<Plan, CaseFa
         let action = action(&mut reading, line.as_str());
         reading.push(&mut actions, action);
     }
-    reading.whole(Plan { actions })
+    let kept = List::new(alloc);
+    reading.whole(Plan { actions, kept })
 }
 
 fn action(reading: &mut Reading, line: &str) -> Action {
@@ -47,6 +48,7 @@ fn kind_of(reading: &mut Reading, verb: &str, word: &str) -> ActionKind {
             slot: number,
             attach,
         },
+        "stop-kept" => ActionKind::StopKept { slot: number },
         "start" => ActionKind::StartSlot { slot: number },
         "no-network" => ActionKind::RemoveNetwork { network: number },
         "no-volume" => ActionKind::RemoveVolume { volume: number },
@@ -75,6 +77,7 @@ fn words_of(kind: ActionKind) -> (&'static str, u64, Option<u32>) {
         ActionKind::RemoveContainer { container } => ("remove", container, None),
         ActionKind::CreateSlot { slot } => ("create", u64::from(slot), None),
         ActionKind::ConnectSlot { slot, attach } => ("connect", u64::from(slot), Some(attach)),
+        ActionKind::StopKept { slot } => ("stop-kept", u64::from(slot), None),
         ActionKind::StartSlot { slot } => ("start", u64::from(slot), None),
         ActionKind::RemoveNetwork { network } => ("no-network", u64::from(network), None),
         ActionKind::RemoveVolume { volume } => ("no-volume", u64::from(volume), None),

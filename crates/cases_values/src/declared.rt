@@ -4,20 +4,21 @@ use cases_messages::{
     Line, Reading, condition_of, network_named, policy_of, spec_of, volume_named,
 };
 use engine_types::{
-    Attach, Condition, ContainerSpec, Declared, Endpoint, Need, NetworkSpec, Policy, Slot,
-    VolumeSpec, labels,
+    Attach, Condition, ContainerSpec, Declared, DeclaredService, Endpoint, Need, NetworkSpec,
+    Policy, Slot, VolumeSpec, labels,
 };
 use std::alloc::Global;
 use tree_base::{Boxed, List, Text, Tree, TryCopy};
 
-/// What a project declares, by `project`, `slots`, `networks` and `volumes`.
+/// What a project declares, by `project`, `slots`, `services`, `networks` and `volumes`.
 ///
 /// A slot has its `service`, `number` (1), `name` (`PROJECT-SERVICE-NUMBER`), `image`, `policy` (missing), `has_build`,
-/// `hash`, `attach` (names of declared networks, or each as `{network: .., aliases: [..]}`), `needs` (each as
-/// `0 healthy` or `0 healthy optional`), `goal` (running), `stop_seconds` (10), and what its container is made with:
-/// `labels` (those by which it is known), `binds`, `network_mode`, `healthcheck`. A network or a volume is a name, or has
-/// `name`, `key` or `labels`, and `external`; of a network `times` says how many there are. NoCase where something isn't
-/// so.
+/// `hash`, `old_hash` (the hash), `attach` (names of declared networks, or each as `{network: .., aliases: [..]}`),
+/// `needs` (each as `0 healthy`, with `optional`, `restart` or both behind it), `goal` (running), `stop_seconds` (10),
+/// and what its container is made with: `labels` (those by which it is known), `binds`, `network_mode`, `healthcheck`. A
+/// network or a volume is a name, or has `name`, `key` or `labels`, and `external`; of a network `times` says how many
+/// there are. A service has its `key`, `depends_on`, and `roll`; where none is given, they are those of the slots, each
+/// of which depends on the services of the slots that it needs. NoCase where something isn't so.
 pub fn declared_of(alloc: Global, fields: &Fields) -> Result<Declared, CaseFault> {
     let mut reading = Reading::new(alloc);
     let declared = declared(&mut reading, fields);
@@ -29,11 +30,69 @@ fn declared(reading: &mut Reading, fields: &Fields) -> Declared {
     let networks = networks_of(reading, fields, &project);
     let volumes = volumes_of(reading, fields, &project);
     let slots = slots_of(reading, fields, &project, networks.as_slice());
+    let services = services_of(reading, fields, slots.as_slice());
     Declared {
         project,
         slots,
+        services,
         networks,
         volumes,
+    }
+}
+
+/// The services that are given, or those of the slots.
+fn services_of(reading: &mut Reading, fields: &Fields, slots: &[Slot]) -> List<DeclaredService> {
+    let mut services = List::new(reading.alloc);
+    for tree in reading.items(fields, "services") {
+        if let Some(fields) = reading.fields_of(tree, "a service") {
+            let service = service_of(reading, &fields);
+            reading.push(&mut services, service);
+        }
+    }
+    if services.is_empty() {
+        return services_of_slots(reading, slots);
+    }
+    services
+}
+
+fn service_of(reading: &mut Reading, fields: &Fields) -> DeclaredService {
+    let roll = reading.small_or(fields, "roll", 0);
+    DeclaredService {
+        key: reading.text_at(fields, "key"),
+        depends_on: reading.texts(fields, "depends_on"),
+        roll: if roll == 0 { None } else { Some(roll) },
+    }
+}
+
+/// The services of slots, each once, in the slots' order.
+fn services_of_slots(reading: &mut Reading, slots: &[Slot]) -> List<DeclaredService> {
+    let mut services = List::new(reading.alloc);
+    for slot in slots {
+        if !has_key(services.as_slice(), &slot.service) {
+            let service = service_with(reading, slot, slots);
+            reading.push(&mut services, service);
+        }
+    }
+    services
+}
+
+fn has_key(services: &[DeclaredService], key: &Text) -> bool {
+    services.iter().any(|service| service.key == *key)
+}
+
+/// The service of a slot, which depends on the services of the slots that it needs.
+fn service_with(reading: &mut Reading, slot: &Slot, slots: &[Slot]) -> DeclaredService {
+    let mut depends_on = List::new(reading.alloc);
+    for need in slot.needs.as_slice() {
+        if let Some(needed) = slots.get(need.slot as usize) {
+            let key = reading.text(needed.service.as_str());
+            reading.push(&mut depends_on, key);
+        }
+    }
+    DeclaredService {
+        key: reading.text(slot.service.as_str()),
+        depends_on,
+        roll: None,
     }
 }
 
@@ -132,6 +191,7 @@ fn slot_with(
     let attach = attach_of(reading, fields, service.as_str(), networks);
     let spec = spec_in(reading, fields, project, attach.as_slice(), networks)?;
     let number = reading.small_or(fields, "number", 1);
+    let hash = reading.text_or(fields, "hash", "");
     Some(Slot {
         name: slot_name(reading, fields, project, &service, number),
         service,
@@ -139,7 +199,8 @@ fn slot_with(
         image: reading.text_or(fields, "image", ""),
         policy: policy_in(reading, fields),
         has_build: reading.flag(fields, "has_build"),
-        hash: reading.text_or(fields, "hash", ""),
+        old_hash: reading.text_or(fields, "old_hash", hash.as_str()),
+        hash,
         spec,
         attach,
         needs: needs_of(reading, fields),
@@ -274,14 +335,24 @@ fn needs_of(reading: &mut Reading, fields: &Fields) -> List<Need> {
     needs
 }
 
-/// A need of words: the slot's place, the condition, and `optional` where it isn't required.
+/// A need of words: the slot's place, the condition, `optional` where it isn't required, and `restart` where it asks for
+/// one.
 fn need_of(reading: &mut Reading, words: &str) -> Need {
     let mut words = words.split_whitespace();
     let place = words.next().unwrap_or("");
     let condition = words.next().unwrap_or("");
-    Need {
+    let mut need = Need {
         slot: reading.place("a slot's place", place),
         condition: condition_of(reading, condition),
-        required: words.next().is_none(),
+        required: true,
+        restart: false,
+    };
+    for word in words {
+        match word {
+            "optional" => need.required = false,
+            "restart" => need.restart = true,
+            _ => reading.refuse_word("a word of a need", word),
+        }
     }
+    need
 }

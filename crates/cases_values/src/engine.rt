@@ -1,7 +1,7 @@
 use crate::labels::container_labels;
 use crate::seen::{images_of, networks_of};
 use case_files::{CaseFault, Fields};
-use cases_messages::{Reading, id_at, report_of, spec_of};
+use cases_messages::{Reading, id_at, read_bytes, report_of, spec_of};
 use engine_types::{ContainerRow, Engine};
 use std::alloc::Global;
 use tree_base::{List, Text};
@@ -9,7 +9,8 @@ use tree_base::{List, Text};
 /// An Engine, by `containers`, `networks`, `volumes`, `images` (ids under names) and `next` (1).
 ///
 /// A container has what one has that was seen, but for the ids of its `networks`, its `exit_code` (0) and
-/// `health` (absent), and what it was made with: `binds` and `healthcheck`. NoCase where something isn't so.
+/// `health` (absent), what it was made with: `binds` and `healthcheck`, and the bytes that it has written: `logs`, as
+/// numbers. NoCase where something isn't so.
 pub fn engine_of(alloc: Global, fields: &Fields, project: &Text) -> Result<Engine, CaseFault> {
     let mut reading = Reading::new(alloc);
     let engine = engine(&mut reading, fields, project);
@@ -50,5 +51,12 @@ fn row_of(reading: &mut Reading, fields: &Fields, project: &Text) -> Option<Cont
         image_id: reading.text_or(fields, "image", ""),
         networks: reading.texts(fields, "networks"),
         report: report_of(reading, fields),
+        logs: logs_of(reading, fields),
     })
+}
+
+/// The bytes that a container has written.
+fn logs_of(reading: &mut Reading, fields: &Fields) -> List<u8> {
+    let numbers = reading.text_or(fields, "logs", "");
+    read_bytes(reading, numbers.as_str())
 }

@@ -25,7 +25,8 @@ pub(crate) fn pairs_at(reading: &mut Reading, fields: &Fields, key: &str) -> Pai
 }
 
 /// The labels of a container: those under `labels`; else, where it has a `service`, the five by which it is known to be
-/// a service's, by its `project`, `service`, `number`, `hash` and `oneoff`; else none.
+/// a service's, by its `project`, `service`, `number`, `hash` and `oneoff`, and the `version` of its hash where that is
+/// given; else none.
 pub(crate) fn container_labels(reading: &mut Reading, fields: &Fields, project: &Text) -> Pairs {
     if fields.has("labels") || !fields.has("service") {
         return pairs_at(reading, fields, "labels");
@@ -50,6 +51,9 @@ pub(crate) fn container_labels(reading: &mut Reading, fields: &Fields, project: 
         project.as_str(),
     );
     push_label(reading, &mut pairs, labels::SERVICE, fields, "service", "");
+    if fields.has("version") {
+        push_label(reading, &mut pairs, labels::VERSION, fields, "version", "");
+    }
     pairs
 }
 

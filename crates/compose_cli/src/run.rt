@@ -12,7 +12,7 @@ ghost use Rattle.refusals.specs.declared.Refusal.{Refusal};
 ghost use Rattle.run_model.specs.EngineRules.{Among};
 ghost use Rattle.run_model.specs.Observation.{is_up};
 ghost use Rattle.run_model.specs.Plans.{IsWhole};
-ghost use Rattle.serial_run.specs.Serial.{NeedsNoSlot, aim_of};
+ghost use Rattle.serial_run.specs.Serial.{WaitsForNone, aim_of};
 ghost use Rattle.refusals.specs.Saying.{IsSaid, SaysRefusal};
 ghost use Rattle.outside_files.specs.Writing.{Says};
 ghost use Rattle.world_laws.specs.OwnSpecs.{HasOwnSpecs};
@@ -37,7 +37,7 @@ pub(crate) fn run_declared<P: Plug, O: Sink, G: Sink>(
 ) -> Ended<P::Hand>
     requires told { ForSome (P.dialled plug.old) (λ n. n < 2 ^ 61) }
     requires whole { IsWhole declared.now }
-    requires unconditional { NeedsNoSlot declared.now }
+    requires unconditional { WaitsForNone declared.now }
     requires own { HasOwnSpecs declared.now }
     ensures origin { IsOfLoading result.refusal → ⊥ }
     ensures dial { result.refusal ≡ Some (Refusal.Outside Part.Plug) → SendsNothing result × Rose (P.faults plug.old) (P.faults plug.new) }
@@ -91,7 +91,7 @@ fn run_with<H: Hand, O: Sink, G: Sink>(
     requires empty { hands.items ≡ [] }
     requires room { vec_len hands < vec_capacity hands }
     requires whole { IsWhole declared.now }
-    requires unconditional { NeedsNoSlot declared.now }
+    requires unconditional { WaitsForNone declared.now }
     requires own { HasOwnSpecs declared.now }
     requires unused { H.log hand ≡ [] }
     requires faultless { H.faults hand ≡ 0 }

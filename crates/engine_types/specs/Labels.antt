@@ -1,4 +1,4 @@
--- The labels by which an Engine's containers, networks and volumes are known to belong to a project: the names are those of Docker Compose.
+-- The labels by which an Engine's containers, networks and volumes are known to belong to a project: the names are those of Docker Compose, and one is this program's own.
 use Rattle.std.specs.Prelude.{ℕ, List, Option, find, codes}
 use Rattle.std.specs.Option.{option_map}
 use Rattle.std.specs.Str.{bytes_eq}
@@ -23,6 +23,14 @@ number_label = codes "com.docker.compose.container-number"
 -- the configuration's hash that the container was made with, in lower hexadecimal
 abbrev pub hash_label : List ℕ
 hash_label = codes "com.docker.compose.config-hash"
+
+-- the version of the hash
+abbrev pub version_label : List ℕ
+version_label = codes "project-engine.hash-version"
+
+-- the value of that label for a hash that covers the contents of the files that a service uses
+abbrev pub hash_version : List ℕ
+hash_version = codes "2"
 
 -- whether the container was made for one run of a command
 abbrev pub oneoff_label : List ℕ

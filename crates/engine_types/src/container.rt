@@ -1,4 +1,5 @@
 ghost use Rattle.std.specs.Prelude.{◌≡◌, IfOk};
+ghost use Rattle.engine_types.specs.Specs.{empty_spec};
 
 use crate::copier::Copier;
 use crate::resource::Pairs;
@@ -69,6 +70,64 @@ pub struct ContainerSpec {
     pub healthcheck: Option<Healthcheck>,
     /// In seconds.
     pub stop_timeout: Option<i64>,
+}
+
+impl ContainerSpec {
+    /// What a container is made with of which nothing is said: it has no label, and each other field is None. No memory.
+    pub fn empty(alloc: Global) -> ContainerSpec
+        ensures { result ≡ empty_spec }
+    {
+        ContainerSpec {
+            labels: List::new(alloc),
+            platform: None,
+            image: None,
+            cmd: None,
+            entrypoint: None,
+            env: None,
+            hostname: None,
+            domainname: None,
+            user: None,
+            working_dir: None,
+            stop_signal: None,
+            open_stdin: None,
+            tty: None,
+            privileged: None,
+            readonly_rootfs: None,
+            init: None,
+            cap_add: None,
+            cap_drop: None,
+            security_opt: None,
+            group_add: None,
+            dns: None,
+            dns_search: None,
+            dns_options: None,
+            extra_hosts: None,
+            sysctls: None,
+            ipc_mode: None,
+            pid_mode: None,
+            userns_mode: None,
+            cpuset_cpus: None,
+            shm_size: None,
+            memory: None,
+            memory_reservation: None,
+            nano_cpus: None,
+            cpu_shares: None,
+            pids_limit: None,
+            ulimits: None,
+            devices: None,
+            log_config: None,
+            restart_policy: None,
+            exposed_ports: None,
+            port_bindings: None,
+            binds: None,
+            volumes: None,
+            tmpfs: None,
+            network_mode: None,
+            endpoints_config: None,
+            healthcheck: None,
+            stop_timeout: None,
+        }
+    }
 }
 
 impl TryCopy for ContainerSpec {

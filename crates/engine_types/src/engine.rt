@@ -26,4 +26,6 @@ pub struct ContainerRow {
     /// The ids of its networks.
     pub networks: List<Text>,
     pub report: Report,
+    /// What it has written, as the Engine gives it.
+    pub logs: List<u8>,
 }

@@ -1,8 +1,8 @@
 //! The labels by which containers, networks and volumes are known to belong to a project: those that Docker
-//! Compose writes.
+//! Compose writes, and one of this program's own.
 
 ghost use Rattle.std.specs.Prelude.{◌≡◌};
-ghost use Rattle.engine_types.specs.Labels.{project_label, service_label, number_label, hash_label, oneoff_label, not_oneoff, network_label, volume_label};
+ghost use Rattle.engine_types.specs.Labels.{project_label, service_label, number_label, hash_label, version_label, hash_version, oneoff_label, not_oneoff, network_label, volume_label};
 
 /// The name of the project.
 pub const PROJECT: &str = "com.docker.compose.project";
@@ -15,6 +15,12 @@ pub const NUMBER: &str = "com.docker.compose.container-number";
 
 /// The configuration's hash that the container was made with, in lower hexadecimal.
 pub const HASH: &str = "com.docker.compose.config-hash";
+
+/// The version of the hash: this program's own label.
+pub const VERSION: &str = "project-engine.hash-version";
+
+/// The value of `VERSION` for a hash that covers the contents of the files that a service uses.
+pub const HASH_VERSION: &str = "2";
 
 /// Whether the container was made for one run of a command.
 pub const ONEOFF: &str = "com.docker.compose.oneoff";
@@ -34,6 +40,8 @@ pub fn as_defined()
     ensures service { SERVICE.now ≡ service_label }
     ensures number { NUMBER.now ≡ number_label }
     ensures hash { HASH.now ≡ hash_label }
+    ensures version { VERSION.now ≡ version_label }
+    ensures hash_version { HASH_VERSION.now ≡ hash_version }
     ensures oneoff { ONEOFF.now ≡ oneoff_label }
     ensures not_oneoff { NOT_ONEOFF.now ≡ not_oneoff }
     ensures network { NETWORK.now ≡ network_label }

@@ -22,7 +22,7 @@ pub use container::{
     ContainerSpec, Device, Endpoint, Healthcheck, LogConfig, PortBinding, PortBindings,
     RestartPolicy, Ulimit,
 };
-pub use declared::{Attach, Condition, Declared, Kind, Need, Policy, Slot};
+pub use declared::{Attach, Condition, Declared, DeclaredService, Kind, Need, Policy, Slot};
 pub use engine::{ContainerRow, Engine};
 pub use exchange::{Exchange, Outcome, WireEnd};
 pub use journal::{Entry, LateWhy, RunFault, RunLimits};

@@ -4,6 +4,8 @@ use tree_base::List;
 #[derive(Drop)]
 pub struct Plan {
     pub actions: List<Action>,
+    /// For each slot the place of the container that it keeps, among those that were seen.
+    pub kept: List<Option<u64>>,
 }
 
 /// An action with the numbers of those that it needs.
@@ -24,6 +26,8 @@ pub enum ActionKind {
     CreateSlot { slot: u32 },
     /// `attach` is a place among the slot's attaches.
     ConnectSlot { slot: u32, attach: u32 },
+    /// Stops the container that the slot keeps, so that it starts anew.
+    StopKept { slot: u32 },
     StartSlot { slot: u32 },
     RemoveNetwork { network: u32 },
     RemoveVolume { volume: u32 },

@@ -10,6 +10,8 @@ use tree_base::{List, Memory, Text, TryCopy};
 pub enum Reply {
     Containers(List<Listed>),
     State(Report),
+    /// What a container has written.
+    Bytes(List<u8>),
     /// The id of the container or network that was made.
     Made(Text),
     Done,
@@ -30,6 +32,7 @@ impl TryCopy for Reply {
         match self {
             Reply::Containers(rows) => Ok(Reply::Containers(rows.copy(alloc)?)),
             Reply::State(report) => Ok(Reply::State(*report)),
+            Reply::Bytes(bytes) => Ok(Reply::Bytes(bytes.copy(alloc)?)),
             Reply::Made(id) => Ok(Reply::Made(id.copy(alloc)?)),
             Reply::Done => Ok(Reply::Done),
             Reply::Already => Ok(Reply::Already),

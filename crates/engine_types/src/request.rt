@@ -16,6 +16,10 @@ pub enum Request {
     Inspect {
         id: Text,
     },
+    /// `GET /containers/{id}/logs`, what a container has written.
+    Logs {
+        id: Text,
+    },
     /// `POST /containers/create`.
     Create {
         name: Text,
@@ -77,6 +81,9 @@ impl TryCopy for Request {
                 project: project.copy(alloc)?,
             }),
             Request::Inspect { id } => Ok(Request::Inspect {
+                id: id.copy(alloc)?,
+            }),
+            Request::Logs { id } => Ok(Request::Logs {
                 id: id.copy(alloc)?,
             }),
             Request::Create { name, spec } => Ok(Request::Create {

@@ -1,5 +1,5 @@
 -- What a project of services by their images declares: a slot for each, by the names and labels of Docker Compose.
-use Rattle.std.specs.Prelude.{ℕ, false, List, [], ◌∷◌, ◌++◌, map, codes}
+use Rattle.std.specs.Prelude.{ℕ, false, List, [], ◌∷◌, ◌++◌, None, map, codes}
 use Rattle.sha2.specs.Sha256.{sha256}
 use Rattle.hex.specs.Hex.{encode_lower}
 use Rattle.json.specs.Print.{quoted}
@@ -7,6 +7,7 @@ use Rattle.tree_base.specs.declared.Var.{Var}
 use Rattle.engine_types.specs.Labels.{hash_label, not_oneoff, number_label, oneoff_label, project_label, service_label}
 use Rattle.engine_types.specs.declared.Condition.{Condition}
 use Rattle.engine_types.specs.declared.Declared.{Declared}
+use Rattle.engine_types.specs.declared.DeclaredService.{DeclaredService}
 use Rattle.engine_types.specs.declared.Policy.{Policy}
 use Rattle.engine_types.specs.declared.Slot.{Slot}
 use Rattle.run_model.specs.OneService.{plain_spec}
@@ -32,7 +33,7 @@ container_labels project service =
     ∷ record { name = oneoff_label; value = not_oneoff } ∷ record { name = project_label; value = project }
     ∷ record { name = service_label; value = service.key } ∷ []
 
--- a service's one slot: its image is pulled where it is missing, it needs nothing, and a stop waits for ten seconds
+-- a service's one slot: its image is pulled where it is missing, it needs nothing, it has one hash, and a stop waits for ten seconds
 abbrev pub slot_of : List ℕ → Service → Slot
 slot_of project service = record {
   service = service.key;
@@ -42,6 +43,7 @@ slot_of project service = record {
   policy = Policy.Missing;
   has_build = false;
   hash = config_hash service.image;
+  old_hash = config_hash service.image;
   spec = plain_spec (container_labels project service) service.image;
   attach = [];
   needs = [];
@@ -49,6 +51,16 @@ slot_of project service = record {
   stop_seconds = 10;
 }
 
--- what the project declares: a slot for each service, in the services' order, and no network or volume
+-- what is declared of a service: it depends on no other one, and its slot is replaced at once
+abbrev pub service_of : Service → DeclaredService
+service_of service = record { key = service.key; depends_on = []; roll = None }
+
+-- what the project declares: each service with a slot, in the services' order, and no network or volume
 abbrev pub declared_of : Project → Declared
-declared_of project = record { project = project.name; slots = map (slot_of project.name) project.services; networks = []; volumes = [] }
+declared_of project = record {
+  project = project.name;
+  slots = map (slot_of project.name) project.services;
+  services = map service_of project.services;
+  networks = [];
+  volumes = [];
+}

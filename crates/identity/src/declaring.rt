@@ -1,9 +1,9 @@
 ghost use Rattle.std.specs.Prelude.{◌≡◌, ◌++◌, ◌∷◌, [], map, IfOk, OnOk};
-ghost use Rattle.identity.specs.Declaring.{config_hash, container_labels, container_name, declared_of, slot_of};
+ghost use Rattle.identity.specs.Declaring.{config_hash, container_labels, container_name, declared_of, service_of, slot_of};
 
 use crate::hash::config_hash;
 use crate::spec::container_spec;
-use engine_types::{Condition, Declared, Pairs, Policy, Slot, labels};
+use engine_types::{Condition, Declared, DeclaredService, Pairs, Policy, Slot, labels};
 use service_attrs::{Project, Service};
 use std::alloc::Global;
 use tree_base::{Boxed, List, Memory, Text, Var};
@@ -11,15 +11,17 @@ use tree_base::{Boxed, List, Memory, Text, Var};
 /// The seconds that a stop waits before it kills, where no attribute says so.
 const STOP_SECONDS: u64 = 10;
 
-/// What a project declares: one slot for each service, in the services' order, without networks and volumes.
+/// What a project declares: each service with one slot, in the services' order, without networks and volumes.
 /// Memory where there is no memory for it.
 pub fn declare(alloc: Global, project: &Project) -> Result<Declared, Memory>
     ensures { IfOk result (λ declared. declared ≡ declared_of project.now) }
 {
     let slots = slots_of(alloc, &project.name, project.services.as_slice())?;
+    let services = services_of(alloc, project.services.as_slice())?;
     Ok(Declared {
         project: project.name.copy(alloc)?,
         slots,
+        services,
         networks: List::new(alloc),
         volumes: List::new(alloc),
     })
@@ -35,6 +37,27 @@ fn slots_of(alloc: Global, project: &Text, services: &[Service]) -> Result<List<
     Ok(slots)
 }
 
+fn services_of(alloc: Global, services: &[Service]) -> Result<List<DeclaredService>, Memory>
+    ensures { IfOk result (λ declared. declared ≡ map service_of services.now) }
+{
+    let mut declared = List::new(alloc);
+    for service in services {
+        declared.push(service_of(alloc, service)?)?;
+    }
+    Ok(declared)
+}
+
+/// What is declared of a service: it depends on no other one, and its slot is replaced at once.
+fn service_of(alloc: Global, service: &Service) -> Result<DeclaredService, Memory>
+    ensures { IfOk result (λ declared. declared ≡ service_of service.now) }
+{
+    Ok(DeclaredService {
+        key: service.key.copy(alloc)?,
+        depends_on: List::new(alloc),
+        roll: None,
+    })
+}
+
 fn slot_of(alloc: Global, project: &Text, service: &Service) -> Result<Slot, Memory>
     ensures { IfOk result (λ slot. slot ≡ slot_of project.now service.now) }
 {
@@ -47,6 +70,7 @@ fn slot_of(alloc: Global, project: &Text, service: &Service) -> Result<Slot, Mem
         image: service.image.copy(alloc)?,
         policy: Policy::Missing,
         has_build: false,
+        old_hash: hash.copy(alloc)?,
         hash,
         spec: Boxed::new(alloc, container_spec(alloc, labels, &service.image)?)?,
         attach: List::new(alloc),

@@ -18,7 +18,7 @@ use Rattle.run_model.specs.EngineRules.{Answers, ChangesContainer, ChangesImage,
 use Rattle.memory_engine.specs.declared.catalogue.Catalogue.{Catalogue}
 use Rattle.memory_engine.specs.Ids.{id_text, image_id_text}
 use Rattle.memory_engine.specs.Keeping.{IsKept}
-use Rattle.memory_engine.specs.Serving.{can_be_pulled, conflict, connected, created, forbidden, image_for, image_told, joined_row, lacks_network, network_in_use, network_named, network_removed, networks_for, not_found, pulled, removed, served, started, stopped, volume_in_use, volume_removed, with_container, with_created, with_first, with_image, with_network, with_volume, without_container, without_network, without_volume}
+use Rattle.memory_engine.specs.Serving.{can_be_pulled, conflict, connected, created, forbidden, image_for, image_told, joined_row, lacks_network, logs_told, network_in_use, network_named, network_removed, networks_for, not_found, pulled, removed, served, started, stopped, volume_in_use, volume_removed, with_container, with_created, with_first, with_image, with_network, with_volume, without_container, without_network, without_volume}
 use Rattle.memory_engine.proofs.Texts.{by_cases, same_text, bytes_eq_apart, bytes_eq_alike, bytes_eq_flips}
 use Rattle.memory_engine.proofs.AnyAll.{any-alike, any-filter, any-push, find-any, some_of}
 use Rattle.memory_engine.proofs.Distinct.{find-among}
@@ -88,6 +88,11 @@ may_remove engine id = on_container_both (May engine (Request.Remove id)) engine
 
 may_inspect : (engine : Engine) (id : List ℕ) → May engine (Request.Inspect id) (served Catalogue.All engine (Request.Inspect id))
 may_inspect engine id = on_container_both (May engine (Request.Inspect id)) engine id (λ row. (Reply.State row.report, engine))
+    refl
+    (λ row was. (rw was refl, refl))
+
+may_tell_logs : (engine : Engine) (id : List ℕ) → May engine (Request.Logs id) (logs_told engine id)
+may_tell_logs engine id = on_container_both (May engine (Request.Logs id)) engine id (λ row. (Reply.Bytes row.logs, engine))
     refl
     (λ row was. (rw was refl, refl))
 
@@ -265,6 +270,7 @@ pub served_answers : (catalogue : Catalogue) (engine : Engine) (request : Reques
     → Answers engine request (served catalogue engine request).0 (served catalogue engine request).1
 served_answers catalogue engine (Request.ListContainers project) fits kept = (lists_containers engine project kept.sound, refl)
 served_answers catalogue engine (Request.Inspect id) fits kept = may_inspect engine id
+served_answers catalogue engine (Request.Logs id) fits kept = may_tell_logs engine id
 served_answers catalogue engine (Request.Create name spec) fits kept = may_create engine name spec fits kept
 served_answers catalogue engine (Request.Start id) fits kept = may_start engine id
 served_answers catalogue engine (Request.Stop id seconds) fits kept = may_stop engine id seconds

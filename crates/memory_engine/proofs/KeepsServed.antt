@@ -14,7 +14,7 @@ use Rattle.run_model.specs.EngineRules.{can_start, container_at, has_container_n
 use Rattle.memory_engine.specs.declared.catalogue.Catalogue.{Catalogue}
 use Rattle.memory_engine.specs.Ids.{id_text, image_id_text}
 use Rattle.memory_engine.specs.Keeping.{IsKept}
-use Rattle.memory_engine.specs.Serving.{can_be_pulled, conflict, connected, created, forbidden, image_for, image_told, inspected, joined_row, lacks_network, network_in_use, network_removed, not_found, pulled, removed, served, started, stopped, volume_in_use, volume_removed, with_container, with_created, with_image, without_container, without_network, without_volume}
+use Rattle.memory_engine.specs.Serving.{can_be_pulled, conflict, connected, created, forbidden, image_for, image_told, inspected, joined_row, lacks_network, logs_told, network_in_use, network_removed, not_found, pulled, removed, served, started, stopped, volume_in_use, volume_removed, with_container, with_created, with_image, without_container, without_network, without_volume}
 use Rattle.memory_engine.proofs.AnyAll.{all-push}
 use Rattle.memory_engine.proofs.Keeps.{keeps_changed, keeps_created, keeps_made, keeps_network_removed, keeps_pulled, keeps_removed, keeps_volume_made, keeps_volume_removed}
 use Rattle.memory_engine.proofs.Outcomes.{on_container_both, option_both}
@@ -33,6 +33,9 @@ keeps_with engine id f same_id same_name same_networks kept =
 
 keeps_inspected : (engine : Engine) (id : List ℕ) → IsKept engine → Keeps (inspected engine id)
 keeps_inspected engine id kept = on_container_both Keeps engine id (λ row. (Reply.State row.report, engine)) kept (λ _ _. kept)
+
+keeps_logs_told : (engine : Engine) (id : List ℕ) → IsKept engine → Keeps (logs_told engine id)
+keeps_logs_told engine id kept = on_container_both Keeps engine id (λ row. (Reply.Bytes row.logs, engine)) kept (λ _ _. kept)
 
 keeps_started : (engine : Engine) (id : List ℕ) → IsKept engine → Keeps (started engine id)
 keeps_started engine id kept = on_container_both Keeps engine id (λ row.
@@ -115,6 +118,7 @@ keeps_pull catalogue engine name kept =
 pub served_keeps : (catalogue : Catalogue) (engine : Engine) (request : Request) → engine.next < 2 ^ 64 → IsKept engine → IsKept (served catalogue engine request).1
 served_keeps catalogue engine (Request.ListContainers project) fits kept = kept
 served_keeps catalogue engine (Request.Inspect id) fits kept = keeps_inspected engine id kept
+served_keeps catalogue engine (Request.Logs id) fits kept = keeps_logs_told engine id kept
 served_keeps catalogue engine (Request.Create name spec) fits kept = keeps_create engine name spec fits kept
 served_keeps catalogue engine (Request.Start id) fits kept = keeps_started engine id kept
 served_keeps catalogue engine (Request.Stop id seconds) fits kept = keeps_stopped engine id kept

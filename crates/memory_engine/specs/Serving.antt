@@ -49,6 +49,10 @@ on_container engine id act = option_map_or act (container_at engine id) (not_fou
 abbrev pub inspected : Engine → List ℕ → Reply × Engine
 inspected engine id = on_container engine id (λ row. (Reply.State row.report, engine))
 
+-- GET /containers/{id}/logs
+abbrev pub logs_told : Engine → List ℕ → Reply × Engine
+logs_told engine id = on_container engine id (λ row. (Reply.Bytes row.logs, engine))
+
 -- the id of the image that a container is to be made of
 abbrev pub image_for : Engine → ContainerSpec → Option (List ℕ)
 image_for engine spec = option_map_or (image_at engine) spec.image None
@@ -170,6 +174,7 @@ pulled catalogue engine name =
 abbrev pub served : Catalogue → Engine → Request → Reply × Engine
 served catalogue engine (Request.ListContainers project) = (Reply.Containers (listing engine project), engine)
 served catalogue engine (Request.Inspect id) = inspected engine id
+served catalogue engine (Request.Logs id) = logs_told engine id
 served catalogue engine (Request.Create name spec) = created engine name spec
 served catalogue engine (Request.Start id) = started engine id
 served catalogue engine (Request.Stop id seconds) = stopped engine id

@@ -1,12 +1,12 @@
 ghost use Rattle.std.specs.Prelude.{◌≡◌, IfOk, OnErr};
 ghost use Rattle.run_model.specs.EngineRules.{can_start as can_start_from, has_test as has_health_test, is_started as is_started_state, started_row};
-ghost use Rattle.memory_engine.specs.Serving.{inspected, started, stopped, removed};
+ghost use Rattle.memory_engine.specs.Serving.{inspected, logs_told, started, stopped, removed};
 
 use crate::{look_ups, refusals, rows};
 use engine_types::{ContainerRow, ContainerSpec, ContainerState, Engine, Health, Reply, Report};
 use run_lookups::is_live;
 use std::alloc::Global;
-use tree_base::{Memory, Text};
+use tree_base::{Memory, Text, TryCopy};
 
 /// The report on a container.
 pub fn inspect(alloc: Global, engine: &Engine, id: &Text) -> Result<Reply, Memory>
@@ -16,6 +16,16 @@ pub fn inspect(alloc: Global, engine: &Engine, id: &Text) -> Result<Reply, Memor
         return refusals::not_found(alloc);
     };
     Ok(Reply::State(row.report))
+}
+
+/// What a container has written.
+pub fn logs(alloc: Global, engine: &Engine, id: &Text) -> Result<Reply, Memory>
+    ensures { IfOk result (λ reply. logs_told engine.now id.now ≡ (reply, engine.now)) }
+{
+    let Some(row) = look_ups::container(engine, id) else {
+        return refusals::not_found(alloc);
+    };
+    Ok(Reply::Bytes(row.logs.copy(alloc)?))
 }
 
 /// Starts a container.

@@ -63,6 +63,7 @@ fn add(
             exit_code: 0,
             health: Health::Absent,
         },
+        logs: List::new(alloc),
     };
     engine.containers.push(row)?;
     engine.next = next;

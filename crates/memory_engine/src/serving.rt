@@ -43,6 +43,7 @@ fn answer(
     match request {
         Request::ListContainers { project } => listing::list(alloc, engine, project),
         Request::Inspect { id } => containers::inspect(alloc, engine, id),
+        Request::Logs { id } => containers::logs(alloc, engine, id),
         Request::Create { name, spec } => creation::create(alloc, engine, name, spec.get()),
         Request::Start { id } => containers::start(alloc, engine, id),
         Request::Stop { id, .. } => containers::stop(alloc, engine, id),

@@ -1,5 +1,5 @@
 -- What an action needs is found under the texts that it asks for.
-use Rattle.std.proofs.Common.{◌≡◌, ◌⊎◌, ℕ, zero, suc, ◌+◌, Bool, true, false, not, ◌==◌, ◌||◌, List, [], ◌∷◌, ◌++◌, length, map, filter, ◌≤◌, bytes_eq, Option, Some, None, slice_get, unwrap_or, refl, sym, ap, ◌∙◌, subst, inl, inr, arith, ⊎_elim}
+use Rattle.std.proofs.Common.{◌≡◌, ◌⊎◌, ℕ, zero, suc, ◌+◌, Bool, true, false, not, ◌==◌, ◌&&◌, ◌||◌, List, [], ◌∷◌, ◌++◌, length, map, filter, ◌≤◌, bytes_eq, Option, Some, None, slice_get, unwrap_or, refl, sym, ap, ◌∙◌, subst, inl, inr, arith, ⊎_elim}
 use Rattle.std.specs.Prelude.{if◌then◌else◌}
 use Rattle.std.specs.List.{before_first, list_any}
 use Rattle.std.specs.List.Sorted.{IsStrictlyIncreasing}
@@ -9,9 +9,10 @@ use Rattle.std.proofs.lemmas.Bool.{and_parts, eqb-true}
 use Rattle.std.proofs.lemmas.Slice.Eq.{bytes_eq-Decides}
 use Rattle.engine_types.specs.Labels.{service_label}
 use Rattle.engine_types.specs.declared.ActionKind.{ActionKind}
-use Rattle.engine_types.specs.declared.ActionKind.TheVariants.{MakeVolume, MakeNetwork, StopContainer, RemoveContainer, CreateSlot, ConnectSlot, StartSlot, RemoveNetwork, RemoveVolume}
+use Rattle.engine_types.specs.declared.ActionKind.TheVariants.{MakeVolume, MakeNetwork, StopContainer, RemoveContainer, CreateSlot, ConnectSlot, StopKept, StartSlot, RemoveNetwork, RemoveVolume}
 use Rattle.engine_types.specs.declared.Attach.{Attach}
 use Rattle.engine_types.specs.declared.Declared.{Declared}
+use Rattle.engine_types.specs.declared.DeclaredService.{DeclaredService}
 use Rattle.engine_types.specs.declared.Listed.{Listed}
 use Rattle.engine_types.specs.declared.Need.{Need}
 use Rattle.engine_types.specs.declared.Slot.{Slot}
@@ -20,14 +21,14 @@ use Rattle.tree_base.specs.declared.place.Var.{Var}
 use Rattle.run_model.specs.EngineRules.{Among, label_in}
 use Rattle.run_model.specs.Labels.{names_service}
 use Rattle.run_model.specs.Observation.{is_up}
-use Rattle.run_model.specs.Plans.{Basis, is_in_way, is_needed_by, needed_by, network_name, slot_at}
+use Rattle.run_model.specs.Plans.{Basis, asks_restart, is_in_way, is_needed_by, needed_by, network_name, restarts_for, slot_at}
 use Rattle.run_model.proofs.DistinctLists.{among_filter, among_left, among_map, among_right, at_place}
 use Rattle.run_model.proofs.PlanLaws.{some_from}
 use Rattle.run_model.proofs.RequestLemmas.{same_text}
-use Rattle.plan_core.specs.Finding.{actions_under, asked_by_slot, asked_of, bind_sources, dependents_of, is_needed_at, needed_services, needs_removals, network_name_at, service_named, service_seen, slot_service_at, slot_name_at, texts_of}
+use Rattle.plan_core.specs.Finding.{actions_under, asked_by_slot, asked_of, bind_sources, dependents_of, is_needed_at, needed_names, needs_removals, network_name_at, service_key_at, service_named, service_seen, slot_name_at, texts_of}
 use Rattle.plan_core.specs.Index.{numbers_under, places_under}
 use Rattle.plan_core.specs.Rows.{id_at}
-use Rattle.plan_core.proofs.OrderlyPlans.{any_among}
+use Rattle.plan_core.proofs.OrderlyPlans.{any_among, service_is}
 use Rattle.plan_core.proofs.Rising.{all_that_pass, rises_from}
 
 either : (x y : Bool) → (x || y) ≡ true → (x ≡ true) ⊎ (y ≡ true)
@@ -64,12 +65,6 @@ pub record Share (texts others : List (List ℕ)) : Type 0 where
   pub text : List ℕ
   pub first : Among texts text
   pub second : Among others text
-
--- labels that name a service name this one
-service_is : (service : List ℕ) (labels : List Var) → names_service service labels ≡ true → service_named labels ≡ service
-service_is service labels e =
-    let r = some_from (bytes_eq service) (label_in labels service_label) e in
-    ap (λ (o : Option (List ℕ)). unwrap_or o []) r.1 ∙ sym ((bytes_eq-Decides service r.0).0 r.2)
 
 module _ (basis : Basis) where
   abbrev Finds : ActionKind → ActionKind → Type 0
@@ -153,26 +148,37 @@ module _ (basis : Basis) where
       let parts = and_parts (not (is_up basis.aim.purpose)) _ e in
       let row = some_from _ (slice_get rows c) parts.1 in
       let other = some_from _ (slice_get rows d) row.2 in
-      let slot = any_among _ declared.slots other.2 in
-      let named = and_parts (names_service slot.0.service other.0.labels) _ slot.2 in
-      let need = any_among _ slot.0.needs named.1 in
-      let needed = some_from (λ (t : Slot). names_service t.service row.0.labels) (slot_at declared need.0.slot) need.2 in
-      let place = at_place declared.slots slot.0 slot.1 in
-      let service_of = λ (o : Option Slot). option_map_or (λ (t : Slot). t.service) o [] in
-      let service : slot_service_at declared need.0.slot ≡ service_seen basis.seen c =
-      ap service_of needed.1 ∙ sym (service_at c row.0 needed.0.service row.1 needed.2) in
-      let asks = among_map (λ (n : Need). slot_service_at declared n.slot) slot.0.needs need.0 need.1 in
-      let found = found_under (needed_services declared) declared.slots place.0 slot.0 (slot_service_at declared need.0.slot) place.1 asks in
-      let numbers = subst (λ (text : List ℕ). Among (numbers_under (dependents_of declared) text) place.0) service found in
+      let service = any_among _ declared.services other.2 in
+      let named = and_parts (names_service service.0.key other.0.labels) _ service.2 in
+      let key = any_among (λ (k : List ℕ). names_service k row.0.labels) service.0.depends_on named.1 in
+      let place = at_place declared.services service.0 service.1 in
+      let key_of = λ (o : Option DeclaredService). option_map_or (λ (t : DeclaredService). t.key) o [] in
+      let same : key.0 ≡ service_seen basis.seen c = sym (service_at c row.0 key.0 row.1 key.2) in
+      let found = found_under (λ (t : DeclaredService). t.depends_on) declared.services place.0 service.0 key.0 place.1 key.1 in
+      let numbers = subst (λ (text : List ℕ). Among (numbers_under (dependents_of declared) text) place.0) same found in
       record {
-        text = slot_service_at declared place.0;
-        first = subst (λ (texts : List (List ℕ)). Among texts (slot_service_at declared place.0)) (sym (downward (is_up basis.aim.purpose) _ parts.0))
-            (among_map (slot_service_at declared) (numbers_under (dependents_of declared) (service_seen basis.seen c)) place.0 numbers);
-        second = inl (ap service_of place.1 ∙ sym (service_at d other.0 slot.0.service other.1 named.0));
+        text = service_key_at declared place.0;
+        first = subst (λ (texts : List (List ℕ)). Among texts (service_key_at declared place.0)) (sym (downward (is_up basis.aim.purpose) _ parts.0))
+            (among_map (service_key_at declared) (numbers_under (dependents_of declared) (service_seen basis.seen c)) place.0 numbers);
+        second = inl (ap key_of place.1 ∙ sym (service_at d other.0 service.0.key other.1 named.0));
       }
 
   same_slot : (s t : ℕ) → (s == t) ≡ true → slot_name_at basis.declared s ≡ slot_name_at basis.declared t
   same_slot s t e = ap (slot_name_at basis.declared) (eqb-true s t e)
+
+  restart_started : (s t : ℕ) → Finds (StopKept s) (StartSlot t)
+  restart_started s t e =
+      let declared = basis.declared in
+      let slot = some_from (restarts_for declared basis.seen t) (slot_at declared s) e in
+      let need = any_among (λ (n : Need). (n.slot == t) && asks_restart declared basis.seen n) slot.0.needs slot.2 in
+      let parts = and_parts (need.0.slot == t) _ need.2 in
+      let asked : asked_of basis (StopKept s) ≡ needed_names declared slot.0 = ap (λ (o : Option Slot). option_map_or (needed_names declared) o []) slot.1 in
+      record {
+        text = slot_name_at declared need.0.slot;
+        first = subst (λ (texts : List (List ℕ)). Among texts (slot_name_at declared need.0.slot)) (sym asked)
+            (among_map (λ (n : Need). slot_name_at declared n.slot) slot.0.needs need.0 need.1);
+        second = inl (same_slot need.0.slot t parts.0);
+      }
 
   -- an action shares a text with each one that it needs
   pub finds : (kind other : ActionKind) → needs_removals kind ≡ false → Finds kind other
@@ -185,6 +191,8 @@ module _ (basis : Basis) where
   finds (ConnectSlot s k) (MakeNetwork n) h e = network_joined s k n e
   finds (StartSlot s) (CreateSlot t) h e = record { text = slot_name_at basis.declared s; first = inl refl; second = inl (same_slot s t e) }
   finds (StartSlot s) (ConnectSlot t k) h e = record { text = slot_name_at basis.declared s; first = inl refl; second = inl (same_slot s t e) }
+  finds (StopKept s) (StartSlot t) h e = restart_started s t e
+  finds (StartSlot s) (StopKept t) h e = record { text = slot_name_at basis.declared s; first = inl refl; second = inl (same_slot s t e) }
   finds (RemoveNetwork n) other h e = absurd (cc h)
   finds (RemoveVolume v) other h e = absurd (cc h)
   finds _ _ h e = absurd (cc e)

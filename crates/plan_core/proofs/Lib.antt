@@ -9,3 +9,4 @@ pub mod Ranks
 pub mod Orders
 pub mod OrderlyPlans
 pub mod Kept
+pub mod SlotRows

@@ -17,6 +17,10 @@ pub length-mapped : {X Y : Type 0} (f : X → Y) (xs : List X) → length (map f
 length-mapped f [] = refl
 length-mapped f (x ∷ xs) = ap suc (length-mapped f xs)
 
+pub mapped_itself : {X : Type 0} (xs : List X) → map (λ x. x) xs ≡ xs
+mapped_itself [] = refl
+mapped_itself (x ∷ xs) = ap (λ (ys : List _). x ∷ ys) (mapped_itself xs)
+
 -- no element passes
 pub filter-none : {X : Type 0} (p : X → Bool) → ((x : X) → p x ≡ false) → (xs : List X) → filter p xs ≡ []
 filter-none p none [] = refl

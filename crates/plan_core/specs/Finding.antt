@@ -5,7 +5,7 @@ use Rattle.std.specs.Option.{option_map_or}
 use Rattle.tree_base.specs.declared.Var.{Var}
 use Rattle.engine_types.specs.Labels as the
 use Rattle.engine_types.specs.declared.ActionKind.{ActionKind}
-use Rattle.engine_types.specs.declared.ActionKind.TheVariants.{MakeVolume, MakeNetwork, StopContainer, RemoveContainer, CreateSlot, ConnectSlot, StartSlot, RemoveNetwork, RemoveVolume}
+use Rattle.engine_types.specs.declared.ActionKind.TheVariants.{MakeVolume, MakeNetwork, StopContainer, RemoveContainer, CreateSlot, ConnectSlot, StopKept, StartSlot, RemoveNetwork, RemoveVolume}
 use Rattle.engine_types.specs.declared.Declared.{Declared}
 use Rattle.engine_types.specs.declared.Seen.{Seen}
 use Rattle.engine_types.specs.declared.Slot.{Slot}
@@ -39,20 +39,20 @@ network_name_at declared n = option_map_or (λ network. network.name) (slice_get
 abbrev pub slot_name_at : Declared → ℕ → List ℕ
 slot_name_at declared s = option_map_or (λ slot. slot.name) (slot_at declared s) []
 
--- the service of the slot with this number, and the empty text past the last
-abbrev pub slot_service_at : Declared → ℕ → List ℕ
-slot_service_at declared s = option_map_or (λ slot. slot.service) (slot_at declared s) []
+-- the key of the service with this number, and the empty text past the last
+abbrev pub service_key_at : Declared → ℕ → List ℕ
+service_key_at declared n = option_map_or (λ service. service.key) (slice_get declared.services n) []
 
--- the services that a slot needs
-abbrev pub needed_services : Declared → Slot → List (List ℕ)
-needed_services declared slot = map (λ need. slot_service_at declared need.slot) slot.needs
-
--- the numbers of the slots, each under the services that it needs
+-- the numbers of the services, each under the keys of those that it depends on
 abbrev pub dependents_of : Declared → List (List ℕ × ℕ)
-dependents_of declared = places_under (needed_services declared) 0 declared.slots
+dependents_of declared = places_under (λ service. service.depends_on) 0 declared.services
+
+-- the names of the slots that a slot needs
+abbrev pub needed_names : Declared → Slot → List (List ℕ)
+needed_names declared slot = map (λ need. slot_name_at declared need.slot) slot.needs
 
 -- the texts under which an action is found: the stop of a container under its id, its removal under its service and
--- its name, what a slot's container is made by under the slot's name, and the make of a network or volume under its name
+-- its name, what is done with a slot's container under the slot's name, and the make of a network or volume under its name
 abbrev pub texts_of : Basis → ActionKind → List (List ℕ)
 texts_of basis (MakeVolume v) = volume_name_at basis.declared v ∷ []
 texts_of basis (MakeNetwork n) = network_name_at basis.declared n ∷ []
@@ -60,6 +60,8 @@ texts_of basis (StopContainer c) = id_at basis.seen.containers c ∷ []
 texts_of basis (RemoveContainer c) = service_seen basis.seen c ∷ name_seen basis.seen c ∷ []
 texts_of basis (CreateSlot s) = slot_name_at basis.declared s ∷ []
 texts_of basis (ConnectSlot s k) = slot_name_at basis.declared s ∷ []
+texts_of basis (StopKept s) = slot_name_at basis.declared s ∷ []
+texts_of basis (StartSlot s) = slot_name_at basis.declared s ∷ []
 texts_of basis _ = []
 
 -- the places of actions under the texts under which they are found
@@ -80,7 +82,7 @@ asked_by_slot declared slot = (slot.service ∷ slot.name ∷ []) ++ map (networ
 
 -- the services that depend on the service of the container at this place
 abbrev pub dependents_on : Declared → Seen → ℕ → List (List ℕ)
-dependents_on declared seen c = map (slot_service_at declared) (numbers_under (dependents_of declared) (service_seen seen c))
+dependents_on declared seen c = map (service_key_at declared) (numbers_under (dependents_of declared) (service_seen seen c))
 
 -- the texts under which an action finds those that it needs; what needs every removal has none
 abbrev pub asked_of : Basis → ActionKind → List (List ℕ)
@@ -88,6 +90,7 @@ asked_of basis (StopContainer c) = if is_up basis.aim.purpose then [] else depen
 asked_of basis (RemoveContainer c) = id_at basis.seen.containers c ∷ []
 asked_of basis (CreateSlot s) = option_map_or (asked_by_slot basis.declared) (slot_at basis.declared s) []
 asked_of basis (ConnectSlot s k) = slot_name_at basis.declared s ∷ joined_name basis.declared s k ∷ []
+asked_of basis (StopKept s) = option_map_or (needed_names basis.declared) (slot_at basis.declared s) []
 asked_of basis (StartSlot s) = slot_name_at basis.declared s ∷ []
 asked_of basis _ = []
 

@@ -1,5 +1,6 @@
 -- Numbers that stand under texts.
-use Rattle.std.specs.Prelude.{ℕ, ◌+◌, List, [], ◌∷◌, ◌++◌, filter, map}
+use Rattle.std.specs.Prelude.{ℕ, ◌+◌, Bool, List, [], ◌∷◌, ◌++◌, filter, map}
+use Rattle.std.specs.List.{list_any}
 use Rattle.std.specs.Str.{bytes_eq}
 use denote.Ref.{Bor}
 
@@ -18,6 +19,10 @@ under_each texts number = map (λ text. (text, number)) texts
 -- the numbers that stand under this text, in the order of the entries
 abbrev pub numbers_under : List (List ℕ × ℕ) → List ℕ → List ℕ
 numbers_under entries text = map (λ entry. entry.1) (filter (λ entry. bytes_eq text entry.0) entries)
+
+-- whether a number stands under this text
+abbrev pub is_under : List (List ℕ × ℕ) → List ℕ → Bool
+is_under entries text = list_any (λ entry. bytes_eq text entry.0) entries
 
 -- the places of a list, from this one on, under the texts of their items
 abbrev pub places_under : {X : Type 0} → (X → List (List ℕ)) → ℕ → List X → List (List ℕ × ℕ)

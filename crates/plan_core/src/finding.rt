@@ -1,10 +1,11 @@
 //! Under which texts the actions of a plan are found, and under which ones an action finds those that it needs.
 
-ghost use Rattle.std.specs.Prelude.{◌≡◌, ◌++◌, ◌==◌, ℕ, [], map, slice_get, IfOk, OnOk, unwrap_or};
+ghost use Rattle.std.specs.Prelude.{◌≡◌, ◌++◌, ◌∷◌, ◌==◌, ℕ, [], map, slice_get, IfOk, OnOk, unwrap_or};
 ghost use Rattle.std.specs.List.{before_first};
 ghost use Rattle.std.specs.Option.{option_map_or};
 ghost use Rattle.engine_types.specs.declared.ActionKind.TheVariants.{StopContainer};
-ghost use Rattle.plan_core.specs.Finding.{actions_under, asked_by_slot, asked_of, bind_sources, dependents_of, dependents_on, joined_name, name_seen, needed_services, network_name_at, service_named, service_seen, slot_name_at, slot_service_at, texts_of, volume_name_at};
+ghost use Rattle.plan_core.specs.Finding.{actions_under, asked_by_slot, asked_of, bind_sources, dependents_of, joined_name, name_seen, needed_names, network_name_at, service_key_at, service_named, service_seen, slot_name_at, texts_of, volume_name_at};
+ghost use Rattle.plan_core.specs.Keeping.{services_under};
 ghost use Rattle.plan_core.specs.Index.{seen_entries, seen_texts, under_each};
 ghost use Rattle.run_model.specs.Plans.{network_name, slot_at};
 
@@ -72,12 +73,13 @@ impl<'a> Planner<'a> {
                 entries.push((service_seen(self.seen, container), at))?;
                 entries.push((name_seen(self.seen, container), at))?;
             }
-            ActionKind::CreateSlot { slot } | ActionKind::ConnectSlot { slot, .. } => {
+            ActionKind::CreateSlot { slot }
+            | ActionKind::ConnectSlot { slot, .. }
+            | ActionKind::StopKept { slot }
+            | ActionKind::StartSlot { slot } => {
                 entries.push((slot_name_at(self.declared, slot), at))?;
             }
-            ActionKind::StartSlot { .. }
-            | ActionKind::RemoveNetwork { .. }
-            | ActionKind::RemoveVolume { .. } => (),
+            ActionKind::RemoveNetwork { .. } | ActionKind::RemoveVolume { .. } => (),
         }
         Ok(())
     }
@@ -107,6 +109,7 @@ impl<'a> Planner<'a> {
                 texts.push(slot_name_at(self.declared, slot))?;
                 texts.push(joined_name(self.declared, slot, attach))?;
             }
+            ActionKind::StopKept { slot } => push_needed_slots(texts, self.declared, slot)?,
             ActionKind::StartSlot { slot } => texts.push(slot_name_at(self.declared, slot))?,
             ActionKind::MakeVolume { .. }
             | ActionKind::MakeNetwork { .. }
@@ -124,12 +127,41 @@ impl<'a> Planner<'a> {
         if self.is_up() {
             return Ok(());
         }
-        let slots = self.dependents.find(service_seen(self.seen, container));
-        push_services(texts, self.declared, slots)
+        let services = self.dependents.find(service_seen(self.seen, container));
+        push_services(texts, self.declared, services)
     }
 }
 
-/// The numbers of the slots under the services that they need.
+/// The numbers of the services, under their keys.
+pub(crate) fn services_under<'a>(
+    alloc: Global,
+    declared: &'a Declared,
+) -> Result<TextIndex<'a>, Memory>
+    ensures { IfOk result (λ index. index ≡ services_under declared.now) }
+{
+    let mut entries = Vec::new(alloc);
+    for at in 0..declared.services.len() {
+        push_service(&mut entries, declared, at)?;
+    }
+    TextIndex::new(alloc, entries)
+}
+
+/// Puts the number of a service last, under its key.
+fn push_service<'a>(
+    entries: &mut Vec<(&'a str, u64)>,
+    declared: &'a Declared,
+    at: usize,
+) -> Result<(), Memory>
+    ensures { OnOk result (seen_entries entries.new.items ≡ seen_entries entries.old.items
+        ++ under_each (option_map_or (λ service. service.key ∷ []) (slice_get declared.now.services at) []) at) }
+{
+    if let Some(service) = declared.services.get(at) {
+        entries.push((service.key.as_str(), at as u64))?;
+    }
+    Ok(())
+}
+
+/// The numbers of the services, under the keys of those that they depend on.
 pub(crate) fn dependents_of<'a>(
     alloc: Global,
     declared: &'a Declared,
@@ -137,54 +169,78 @@ pub(crate) fn dependents_of<'a>(
     ensures { IfOk result (λ index. index ≡ dependents_of declared.now) }
 {
     let mut entries = Vec::new(alloc);
-    for at in 0..declared.slots.len() {
+    for at in 0..declared.services.len() {
         push_dependent(&mut entries, declared, at)?;
     }
     TextIndex::new(alloc, entries)
 }
 
-/// Puts the number of a slot last, under the services that it needs.
+/// Puts the number of a service last, under the keys of those that it depends on.
 fn push_dependent<'a>(
     entries: &mut Vec<(&'a str, u64)>,
     declared: &'a Declared,
     at: usize,
 ) -> Result<(), Memory>
     ensures { OnOk result (seen_entries entries.new.items ≡ seen_entries entries.old.items
-        ++ under_each (option_map_or (needed_services declared.now) (slot_at declared.now at) []) at) }
+        ++ under_each (option_map_or (λ service. service.depends_on) (slice_get declared.now.services at) []) at) }
 {
-    match declared.slots.get(at) {
-        Some(slot) => push_needed(entries, declared, slot.needs.as_slice(), at as u64),
+    match declared.services.get(at) {
+        Some(service) => push_keys(entries, service.depends_on.as_slice(), at as u64),
         None => Ok(()),
     }
 }
 
-/// Puts a number last, under the services that are needed.
-fn push_needed<'a>(
-    entries: &mut Vec<(&'a str, u64)>,
-    declared: &'a Declared,
-    needs: &[Need],
-    at: u64,
-) -> Result<(), Memory>
-    ensures { OnOk result (seen_entries entries.new.items ≡ seen_entries entries.old.items
-        ++ under_each (map (λ need. slot_service_at declared.now need.slot) needs.now) at) }
+/// Puts a number last, under keys.
+fn push_keys<'a>(entries: &mut Vec<(&'a str, u64)>, keys: &'a [Text], at: u64) -> Result<(), Memory>
+    ensures { OnOk result (seen_entries entries.new.items ≡ seen_entries entries.old.items ++ under_each keys.now at) }
 {
-    for need in needs {
-        entries.push((slot_service_at(declared, u64::from(need.slot)), at))?;
+    for key in keys {
+        entries.push((key.as_str(), at))?;
     }
     Ok(())
 }
 
-/// Puts the services of slots last.
+/// Puts the keys of services last.
 fn push_services<'a>(
     texts: &mut Vec<&'a str>,
     declared: &'a Declared,
-    slots: &[u64],
+    services: &[u64],
 ) -> Result<(), Memory>
     ensures { OnOk result (seen_texts texts.new.items
-        ≡ seen_texts texts.old.items ++ map (slot_service_at declared.now) slots.now) }
+        ≡ seen_texts texts.old.items ++ map (service_key_at declared.now) services.now) }
 {
-    for slot in slots {
-        texts.push(slot_service_at(declared, *slot))?;
+    for service in services {
+        texts.push(service_key_at(declared, *service))?;
+    }
+    Ok(())
+}
+
+/// Puts the names of the slots last that a slot needs.
+fn push_needed_slots<'a>(
+    texts: &mut Vec<&'a str>,
+    declared: &'a Declared,
+    slot: u32,
+) -> Result<(), Memory>
+    ensures { OnOk result (seen_texts texts.new.items ≡ seen_texts texts.old.items
+        ++ option_map_or (needed_names declared.now) (slot_at declared.now slot) []) }
+{
+    match declared.slots.get(slot as usize) {
+        Some(slot) => push_needed(texts, declared, slot.needs.as_slice()),
+        None => Ok(()),
+    }
+}
+
+/// Puts the names of the slots last that are needed.
+fn push_needed<'a>(
+    texts: &mut Vec<&'a str>,
+    declared: &'a Declared,
+    needs: &[Need],
+) -> Result<(), Memory>
+    ensures { OnOk result (seen_texts texts.new.items
+        ≡ seen_texts texts.old.items ++ map (λ need. slot_name_at declared.now need.slot) needs.now) }
+{
+    for need in needs {
+        texts.push(slot_name_at(declared, need.slot))?;
     }
     Ok(())
 }
@@ -316,12 +372,12 @@ fn slot_name_at(declared: &Declared, slot: u32) -> &str
     }
 }
 
-/// The service of the slot with a number, and the empty text past the last. No memory.
-fn slot_service_at(declared: &Declared, slot: u64) -> &str
-    ensures { result.now ≡ slot_service_at declared.now slot }
+/// The key of the service with a number, and the empty text past the last. No memory.
+fn service_key_at(declared: &Declared, service: u64) -> &str
+    ensures { result.now ≡ service_key_at declared.now service }
 {
-    match declared.slots.get(slot as usize) {
-        Some(slot) => slot.service.as_str(),
+    match declared.services.get(service as usize) {
+        Some(service) => service.key.as_str(),
         None => "",
     }
 }

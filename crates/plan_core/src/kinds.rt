@@ -3,7 +3,7 @@
 ghost use Rattle.std.specs.Prelude.{◌≡◌, ◌++◌, ◌∷◌, [], IfOk, OnOk, filter, flat_map, length, map};
 ghost use Rattle.std.specs.Cmp.Lexicographic.{slice_cmp};
 ghost use Rattle.std.specs.Ordering.{nat_cmp};
-ghost use Rattle.engine_types.specs.declared.ActionKind.TheVariants.{MakeVolume, MakeNetwork, StopContainer, RemoveContainer, CreateSlot, ConnectSlot, StartSlot, RemoveNetwork, RemoveVolume};
+ghost use Rattle.engine_types.specs.declared.ActionKind.TheVariants.{MakeVolume, MakeNetwork, StopContainer, RemoveContainer, CreateSlot, ConnectSlot, StopKept, StartSlot, RemoveNetwork, RemoveVolume};
 ghost use Rattle.plan_core.specs.Rows.{attaches_of, connects_of, ends_of, id_at};
 ghost use Rattle.run_model.specs.Plans.{is_wanted, places_by_id, planned_kinds};
 ghost use Rattle.run_model.specs.Numbers.{numbers_from, places};
@@ -25,6 +25,7 @@ impl Planner<'_> {
         self.push_ends_by_id(alloc, &mut kinds)?;
         self.push_creates(&mut kinds)?;
         self.push_connects(&mut kinds)?;
+        self.push_restarts(&mut kinds)?;
         self.push_starts(&mut kinds)?;
         self.push_old_networks(&mut kinds)?;
         self.push_old_volumes(&mut kinds)?;
@@ -134,6 +135,17 @@ impl Planner<'_> {
             Some(slot) => slot.attach.len(),
             None => 0,
         }
+    }
+
+    fn push_restarts(&self, kinds: &mut List<ActionKind>) -> Result<(), Memory>
+        ensures { OnOk result (kinds.new ≡ kinds.old
+            ++ filter (is_wanted self.now) (map (λ s. StopKept s) (places self.now.declared.slots))) }
+    {
+        for at in 0..self.declared.slots.len() {
+            let slot = number_of(at)?;
+            self.push_wanted(kinds, ActionKind::StopKept { slot })?;
+        }
+        Ok(())
     }
 
     fn push_starts(&self, kinds: &mut List<ActionKind>) -> Result<(), Memory>

@@ -1,17 +1,17 @@
 //! Which actions an action needs to have ended well.
 
-ghost use Rattle.std.specs.Prelude.{◌≡◌, ◌==◌, ◌++◌, ◌∷◌, ℕ, [], false, filter, slice_get, if◌then◌else◌, IfOk, OnOk};
+ghost use Rattle.std.specs.Prelude.{◌≡◌, ◌==◌, ◌&&◌, ◌++◌, ◌∷◌, ℕ, [], false, filter, slice_get, if◌then◌else◌, IfOk, OnOk};
 ghost use Rattle.std.specs.List.{before_first, list_any};
 ghost use Rattle.std.specs.Option.{option_map_or};
-ghost use Rattle.engine_types.specs.declared.ActionKind.TheVariants.{StopContainer, CreateSlot, ConnectSlot, StartSlot};
+ghost use Rattle.engine_types.specs.declared.ActionKind.TheVariants.{StopContainer, CreateSlot, ConnectSlot, StopKept, StartSlot};
 ghost use Rattle.plan_core.specs.Finding.{actions_under, is_needed_at, needs_removals};
 ghost use Rattle.run_model.specs.Labels.{names_service};
-ghost use Rattle.run_model.specs.Plans.{Basis, attaches_to, depends_on, is_bound_by, is_in_way, is_needed_by, needed_by, slot_at};
+ghost use Rattle.run_model.specs.Plans.{Basis, asks_restart, attaches_to, depends_on, is_bound_by, is_in_way, is_needed_by, needed_by, slot_at};
 
 use crate::kinds::{all_places, number_of};
 use crate::planner::Planner;
 use crate::text_index::{TextIndex, places_found};
-use engine_types::{ActionKind, ContainerSpec, Declared, Listed, Need, Slot};
+use engine_types::{ActionKind, ContainerSpec, Declared, Listed, Need, Pairs, Slot};
 use run_lookups::{names_service, names_slot};
 use std::alloc::Global;
 use tree_base::{List, Memory, Text, item_at};
@@ -105,6 +105,7 @@ impl Planner<'_> {
             }
             ActionKind::CreateSlot { slot } => self.create_needs(alloc, slot, other),
             ActionKind::ConnectSlot { slot, attach } => Ok(self.connect_needs(slot, attach, other)),
+            ActionKind::StopKept { slot } => Ok(self.restart_needs(slot, other)),
             ActionKind::StartSlot { slot } => Ok(start_needs(slot, other)),
             ActionKind::RemoveNetwork { .. } | ActionKind::RemoveVolume { .. } => {
                 Ok(matches!(other, ActionKind::RemoveContainer { .. }))
@@ -175,6 +176,30 @@ impl Planner<'_> {
     }
 }
 
+impl Planner<'_> {
+    /// The stop of the container that a slot keeps needs the starts of the slots by whose update it starts anew.
+    fn restart_needs(&self, slot: u32, other: ActionKind) -> bool
+        ensures { result ≡ is_needed_by self.now (StopKept slot) other }
+    {
+        let ActionKind::StartSlot { slot: started } = other else {
+            return false;
+        };
+        match self.declared.slots.get(slot as usize) {
+            Some(slot) => self.restarts_for(slot.needs.as_slice(), started),
+            None => false,
+        }
+    }
+
+    /// Whether one of these needs asks for a restart by the update of a slot.
+    fn restarts_for(&self, needs: &[Need], started: u32) -> bool
+        ensures { result ≡ list_any (λ need. (need.slot == started) && asks_restart self.now.declared self.now.seen need) needs.now }
+    {
+        needs
+            .iter()
+            .any(|need| need.slot == started && self.asks_restart(need))
+    }
+}
+
 /// Whether an action needs every removal. No memory.
 fn needs_removals(kind: ActionKind) -> bool
     ensures { result ≡ needs_removals kind }
@@ -195,13 +220,14 @@ fn push_if(numbers: &mut List<u32>, at: usize, is_asked: bool) -> Result<(), Mem
     Ok(())
 }
 
-/// The start of a slot's container needs its create and its connects.
+/// The start of a slot's container needs its create, its connects, and its stop.
 fn start_needs(slot: u32, other: ActionKind) -> bool
     ensures { (basis : Basis) → result ≡ is_needed_by basis (StartSlot slot) other }
 {
     match other {
         ActionKind::CreateSlot { slot: created } => slot == created,
         ActionKind::ConnectSlot { slot: joined, .. } => slot == joined,
+        ActionKind::StopKept { slot: stopped } => slot == stopped,
         _ => false,
     }
 }
@@ -243,21 +269,17 @@ fn attaches_to(slot: &Slot, network: u32) -> bool
 fn depends_on(declared: &Declared, row: &Listed, other: &Listed) -> bool
     ensures { result ≡ depends_on declared.now row.now other.now }
 {
-    declared.slots.as_slice().iter().any(|slot| {
-        names_service(&slot.service, &row.labels)
-            && needs_service_of(declared, slot.needs.as_slice(), other)
+    declared.services.as_slice().iter().any(|service| {
+        names_service(&service.key, &row.labels)
+            && names_one(service.depends_on.as_slice(), &other.labels)
     })
 }
 
-/// Whether one of a slot's needs is of a container's service.
-fn needs_service_of(declared: &Declared, needs: &[Need], other: &Listed) -> bool
-    ensures { result ≡ list_any (λ need. option_map_or (λ slot. names_service slot.service other.now.labels)
-        (slot_at declared.now need.slot) false) needs.now }
+/// Whether labels name one of these services.
+fn names_one(keys: &[Text], pairs: &Pairs) -> bool
+    ensures { result ≡ list_any (λ key. names_service key pairs.now) keys.now }
 {
-    needs.iter().any(|need| match declared.slots.get(need.slot as usize) {
-        Some(slot) => names_service(&slot.service, &other.labels),
-        None => false,
-    })
+    keys.iter().any(|key| names_service(key, pairs))
 }
 
 /// Whether a container is of a slot or has its name.

@@ -1,16 +1,17 @@
 ghost use Rattle.std.specs.Prelude.{◌≡◌, IfOk, slice_get};
 ghost use Rattle.std.specs.Option.{option_and_then, option_copied};
-ghost use Rattle.run_model.specs.Plans.{kept};
+ghost use Rattle.run_model.specs.Plans.{AreKeptPlaces, kept};
 
-use crate::finding::dependents_of;
-use crate::keeping::all_kept;
+use crate::finding::{dependents_of, services_under};
+use crate::keeping::{all_kept, all_updated, containers_under, kept_under, row_at};
 use crate::text_index::TextIndex;
 use engine_types::{Declared, Listed, Purpose, Seen};
 use std::alloc::Global;
 use std::marker::Model;
-use tree_base::{Memory, item_at};
+use tree_base::{List, Memory, item_at};
 
-/// What a plan is made from, beside the container that each slot keeps.
+/// What a plan is made from, beside what is looked up once: which containers the slots keep, which slots are updated, and
+/// the services by their keys.
 #[derive(Drop)]
 pub(crate) struct Planner<'a> {
     pub(crate) declared: &'a Declared,
@@ -18,16 +19,23 @@ pub(crate) struct Planner<'a> {
     pub(crate) purpose: Purpose,
     pub(crate) orphans: bool,
     pub(crate) volumes: bool,
-    pub(crate) kept: Vec<Option<&'a Listed>>,
-    /// The numbers of the slots under the services that they need.
+    /// For each slot the place of the container that it keeps, among those that were seen.
+    pub(crate) kept: Vec<Option<u64>>,
+    /// The numbers of the slots, under the ids of the containers that they keep.
+    pub(crate) kept_ids: TextIndex<'a>,
+    /// For each slot whether it is updated.
+    pub(crate) updated: Vec<bool>,
+    /// The numbers of the services, under their keys.
+    pub(crate) services: TextIndex<'a>,
+    /// The numbers of the services, under the keys of those that they depend on.
     pub(crate) dependents: TextIndex<'a>,
 }
 
 impl<'a> Model for Planner<'a> {
     ghost use Rattle.std.specs.Prelude.{◌≡◌, map};
-    ghost use Rattle.std.specs.Option.{option_copied};
     ghost use Rattle.plan_core.specs.Finding.{dependents_of};
-    ghost use Rattle.run_model.specs.Plans.{Basis, kept_of};
+    ghost use Rattle.plan_core.specs.Keeping.{kept_under, services_under};
+    ghost use Rattle.run_model.specs.Plans.{AreKeptPlaces, Basis, is_updated};
 
     ghost Value = { Basis };
 
@@ -38,7 +46,10 @@ impl<'a> Model for Planner<'a> {
     } };
 
     ghost invariant = { λ p.
-        (map option_copied p.kept.items ≡ map (kept_of p.declared.now p.seen.now) p.declared.now.slots)
+        AreKeptPlaces p.declared.now p.seen.now p.kept.items
+        × (p.kept_ids ≡ kept_under p.seen.now p.kept.items)
+        × (p.updated.items ≡ map (is_updated p.declared.now p.seen.now) p.declared.now.slots)
+        × (p.services ≡ services_under p.declared.now)
         × (p.dependents ≡ dependents_of p.declared.now) };
 }
 
@@ -58,7 +69,11 @@ impl<'a> Planner<'a> {
           aim = record { purpose = purpose; orphans = orphans; volumes = volumes };
         }) }
     {
-        let kept = all_kept(alloc, declared, seen)?;
+        let rows = containers_under(alloc, seen)?;
+        let kept = all_kept(alloc, declared, seen, &rows)?;
+        let updated = all_updated(alloc, declared, seen, &rows)?;
+        let kept_ids = kept_under(alloc, seen, kept.as_slice())?;
+        let services = services_under(alloc, declared)?;
         let dependents = dependents_of(alloc, declared)?;
         Ok(Planner {
             declared,
@@ -67,6 +82,9 @@ impl<'a> Planner<'a> {
             orphans,
             volumes,
             kept,
+            kept_ids,
+            updated,
+            services,
             dependents,
         })
     }
@@ -75,13 +93,31 @@ impl<'a> Planner<'a> {
     pub(crate) fn kept(&self, slot: usize) -> Option<&'a Listed>
         ensures { option_copied result ≡ kept self.now.declared self.now.seen slot }
     {
-        kept_at(self.kept.as_slice(), slot)
+        kept_at(self.seen, self.kept.as_slice(), slot)
+    }
+
+    /// The places of the containers that the slots keep.
+    pub(crate) fn kept_places(&self, alloc: Global) -> Result<List<Option<u64>>, Memory>
+        ensures { IfOk result (λ kept. AreKeptPlaces self.now.declared self.now.seen kept) }
+    {
+        listed(alloc, self.kept.as_slice())
     }
 }
 
-/// The kept container at a place, None past the last. No memory.
-fn kept_at<'a>(kept: &[Option<&'a Listed>], slot: usize) -> Option<&'a Listed>
-    ensures { option_copied result ≡ option_and_then option_copied (slice_get kept.now slot) }
+/// The container at the place that stands under a number. No memory.
+fn kept_at<'a>(seen: &'a Seen, kept: &[Option<u64>], slot: usize) -> Option<&'a Listed>
+    ensures { option_copied result ≡ option_and_then (option_and_then (slice_get seen.now.containers)) (slice_get kept.now slot) }
 {
-    *item_at(kept, slot)?
+    row_at(seen, *item_at(kept, slot)?)
+}
+
+/// A list of these places.
+fn listed(alloc: Global, places: &[Option<u64>]) -> Result<List<Option<u64>>, Memory>
+    ensures { IfOk result (λ list. list ≡ places.now) }
+{
+    let mut list = List::new(alloc);
+    for place in places {
+        list.push(*place)?;
+    }
+    Ok(list)
 }

@@ -1,6 +1,6 @@
 ghost use Rattle.std.specs.Prelude.{◌≡◌, ℕ, IfOk, Err, map, false, true};
 ghost use Rattle.engine_types.specs.declared.Action.{Action};
-ghost use Rattle.run_model.specs.Plans.{action_count, down_basis, is_too_long, needed_by, planned, up_basis};
+ghost use Rattle.run_model.specs.Plans.{AreKeptPlaces, action_count, down_basis, is_too_long, needed_by, planned, up_basis};
 
 use crate::planner::Planner;
 use crate::refusal::PlanRefusal;
@@ -13,7 +13,8 @@ const ACTIONS_LIMIT: usize = 65_536;
 
 /// The plan that brings a project up: the volumes and networks that weren't seen are made; the project's containers
 /// that no slot keeps are stopped and removed, orphans where these are asked for; then a container is created for
-/// each slot that keeps none, connected to its other networks, and started where it isn't live.
+/// each slot that keeps none, and connected to its other networks; live ones that are kept are stopped where a need asks
+/// to start them anew; and those that aren't live then are started. It tells which container each slot keeps.
 pub fn plan_up(
     alloc: Global,
     declared: &Declared,
@@ -21,6 +22,7 @@ pub fn plan_up(
     orphans: bool,
 ) -> Result<Plan, PlanRefusal>
     ensures planned { IfOk result (λ plan. plan.actions ≡ planned (up_basis declared.now seen.now orphans)) }
+    ensures kept { IfOk result (λ plan. AreKeptPlaces declared.now seen.now plan.kept) }
     ensures fits { IfOk result (λ plan. is_too_long (up_basis declared.now seen.now orphans) ≡ false) }
     ensures too_many { (count : ℕ) → result ≡ Err (PlanRefusal.TooManyActions count)
         → (is_too_long (up_basis declared.now seen.now orphans) ≡ true)
@@ -30,7 +32,7 @@ pub fn plan_up(
     planner.plan(alloc)
 }
 
-/// The plan that takes a project down: the containers of its slots' services are stopped and removed, dependents
+/// The plan that takes a project down: the containers of its services are stopped and removed, dependents
 /// first, and orphans where these are asked for; then its networks are removed, and its volumes where these are
 /// asked for.
 pub fn plan_down(
@@ -41,6 +43,7 @@ pub fn plan_down(
     volumes: bool,
 ) -> Result<Plan, PlanRefusal>
     ensures planned { IfOk result (λ plan. plan.actions ≡ planned (down_basis declared.now seen.now orphans volumes)) }
+    ensures kept { IfOk result (λ plan. AreKeptPlaces declared.now seen.now plan.kept) }
     ensures fits { IfOk result (λ plan. is_too_long (down_basis declared.now seen.now orphans volumes) ≡ false) }
     ensures too_many { (count : ℕ) → result ≡ Err (PlanRefusal.TooManyActions count)
         → (is_too_long (down_basis declared.now seen.now orphans volumes) ≡ true)
@@ -54,6 +57,7 @@ impl Planner<'_> {
     /// The plan, or the refusal of one that is too long.
     fn plan(&self, alloc: Global) -> Result<Plan, PlanRefusal>
         ensures planned { IfOk result (λ plan. plan.actions ≡ planned self.now) }
+        ensures kept { IfOk result (λ plan. AreKeptPlaces self.now.declared self.now.seen plan.kept) }
         ensures fits { IfOk result (λ plan. is_too_long self.now ≡ false) }
         ensures too_many { (count : ℕ) → result ≡ Err (PlanRefusal.TooManyActions count)
             → (is_too_long self.now ≡ true) × (count ≡ action_count self.now) }
@@ -65,7 +69,8 @@ impl Planner<'_> {
             });
         }
         let actions = self.actions_of(alloc, kinds.as_slice())?;
-        Ok(Plan { actions })
+        let kept = self.kept_places(alloc)?;
+        Ok(Plan { actions, kept })
     }
 
     /// Each of a plan's actions with its needs.

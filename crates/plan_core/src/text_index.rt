@@ -1,7 +1,7 @@
 ghost use Rattle.std.specs.Prelude.{◌≡◌, ◌++◌, List, ℕ, IfOk, OnOk, map, filter, flat_map, bytes_eq, []};
 ghost use Rattle.std.specs.HashMap.{get_by};
 ghost use Rattle.std.specs.Option.{option_map_or};
-ghost use Rattle.plan_core.specs.Index.{numbers_under, seen_entries, seen_texts};
+ghost use Rattle.plan_core.specs.Index.{is_under, numbers_under, seen_entries, seen_texts};
 ghost use Rattle.run_model.specs.EngineRules.{Among};
 ghost use Rattle.std.specs.List.Sorted.{IsStrictlyIncreasing};
 
@@ -48,6 +48,16 @@ impl<'a> TextIndex<'a> {
         match self.numbers.get(text) {
             Some(numbers) => numbers.as_slice(),
             None => &[],
+        }
+    }
+
+    /// Whether numbers stand under a text. No memory.
+    pub(crate) fn has(&self, text: &str) -> bool
+        ensures { result ≡ is_under self.now text.now }
+    {
+        match self.find(text) {
+            [] => false,
+            [_, ..] => true,
         }
     }
 }

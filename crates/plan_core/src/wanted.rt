@@ -4,15 +4,16 @@ ghost use Rattle.std.specs.Prelude.{◌≡◌, false, slice_get};
 ghost use Rattle.std.specs.Option.{option_copied, option_map_or};
 ghost use Rattle.std.specs.List.{list_any};
 ghost use Rattle.std.specs.Str.{bytes_eq};
-ghost use Rattle.engine_types.specs.declared.ActionKind.TheVariants.{MakeVolume, MakeNetwork, CreateSlot, ConnectSlot, StartSlot, RemoveNetwork, RemoveVolume};
+ghost use Rattle.engine_types.specs.declared.ActionKind.TheVariants.{MakeVolume, MakeNetwork, CreateSlot, ConnectSlot, StopKept, StartSlot, RemoveNetwork, RemoveVolume};
 ghost use Rattle.run_model.specs.EngineRules.{is_live as is_live_state};
 ghost use Rattle.run_model.specs.Observation.{is_up as is_up_purpose};
-ghost use Rattle.run_model.specs.Plans.{is_kept, is_network_seen, is_removed, is_unattached, is_volume_seen, is_wanted, kept_of, network_name};
+ghost use Rattle.run_model.specs.Labels.{has_declared_service};
+ghost use Rattle.run_model.specs.Plans.{asks_restart, is_kept, is_network_seen, is_removed, is_restarted, is_unattached, is_unstarted, is_updated, is_volume_seen, is_wanted, kept_of, network_name, slot_at};
 
 use crate::planner::Planner;
-use engine_types::{ActionKind, Attach, Declared, Listed, Purpose, Seen, Slot};
-use run_lookups::{has_slot_service, is_live, is_of_project, network_name};
-use tree_base::Text;
+use engine_types::{ActionKind, Listed, Need, Pairs, Purpose, Seen, Slot, label, labels};
+use run_lookups::{is_live, is_of_project, network_name};
+use tree_base::{Text, item_at};
 
 impl Planner<'_> {
     /// Whether the plan has an action. No memory.
@@ -26,6 +27,7 @@ impl Planner<'_> {
             ActionKind::RemoveContainer { container } => self.takes_out(container),
             ActionKind::CreateSlot { slot } => self.creates(slot),
             ActionKind::ConnectSlot { slot, attach } => self.connects(slot, attach),
+            ActionKind::StopKept { slot } => self.restarts(slot),
             ActionKind::StartSlot { slot } => self.starts(slot),
             ActionKind::RemoveNetwork { network } => self.removes_network(network),
             ActionKind::RemoveVolume { volume } => self.removes_volume(volume),
@@ -46,7 +48,7 @@ impl Planner<'_> {
     fn is_kept(&self, row: &Listed) -> bool
         ensures { result ≡ is_kept self.now.declared self.now.seen row.now }
     {
-        is_among(self.kept.as_slice(), row)
+        self.kept_ids.has(row.id.as_str())
     }
 
     /// Whether a container is to go: one of the project that `up` doesn't keep, or an orphan where these are asked for.
@@ -56,10 +58,20 @@ impl Planner<'_> {
         if !is_of_project(&self.declared.project, &row.labels) {
             return false;
         }
-        if has_slot_service(self.declared, &row.labels) {
+        if self.has_service(&row.labels) {
             !(self.is_up() && self.is_kept(row))
         } else {
             self.orphans
+        }
+    }
+
+    /// Whether labels name a declared service. No memory.
+    fn has_service(&self, pairs: &Pairs) -> bool
+        ensures { result ≡ has_declared_service self.now.declared pairs.now }
+    {
+        match label(pairs, labels::SERVICE) {
+            Some(service) => self.services.has(service.as_str()),
+            None => false,
         }
     }
 
@@ -126,11 +138,62 @@ impl Planner<'_> {
         }
     }
 
+    fn restarts(&self, slot: u32) -> bool
+        ensures { result ≡ is_wanted self.now (StopKept slot) }
+    {
+        let at = slot as usize;
+        match self.declared.slots.get(at) {
+            Some(slot) => self.is_up() && self.is_restarted(slot, self.kept(at)),
+            None => false,
+        }
+    }
+
+    /// Whether the container that a slot keeps is stopped to start anew: it is live, and a need asks for it.
+    fn is_restarted(&self, slot: &Slot, kept: Option<&Listed>) -> bool
+        requires { option_copied kept ≡ kept_of self.now.declared self.now.seen slot.now }
+        ensures { result ≡ is_restarted self.now.declared self.now.seen slot.now }
+    {
+        is_live_row(kept) && self.any_asks_restart(slot.needs.as_slice())
+    }
+
+    fn any_asks_restart(&self, needs: &[Need]) -> bool
+        ensures { result ≡ list_any (asks_restart self.now.declared self.now.seen) needs.now }
+    {
+        needs.iter().any(|need| self.asks_restart(need))
+    }
+
+    /// Whether a need asks for a restart, and its slot is updated. No memory.
+    pub(crate) fn asks_restart(&self, need: &Need) -> bool
+        ensures { result ≡ asks_restart self.now.declared self.now.seen need.now }
+    {
+        need.restart && self.is_updated(need.slot)
+    }
+
+    fn is_updated(&self, slot: u32) -> bool
+        ensures { result ≡ option_map_or (is_updated self.now.declared self.now.seen) (slot_at self.now.declared slot) false }
+    {
+        match item_at(self.updated.as_slice(), slot as usize) {
+            Some(updated) => *updated,
+            None => false,
+        }
+    }
+
     fn starts(&self, slot: u32) -> bool
         ensures { result ≡ is_wanted self.now (StartSlot slot) }
     {
         let at = slot as usize;
-        self.is_up() && at < self.declared.slots.len() && !is_live_row(self.kept(at))
+        match self.declared.slots.get(at) {
+            Some(slot) => self.is_up() && self.is_unstarted(slot, self.kept(at)),
+            None => false,
+        }
+    }
+
+    /// Whether a slot's container is to be started: it keeps no live one, or the one that it keeps is stopped.
+    fn is_unstarted(&self, slot: &Slot, kept: Option<&Listed>) -> bool
+        requires { option_copied kept ≡ kept_of self.now.declared self.now.seen slot.now }
+        ensures { result ≡ is_unstarted self.now slot.now }
+    {
+        !is_live_row(kept) || self.is_restarted(slot, kept)
     }
 
     fn removes_network(&self, network: u32) -> bool
@@ -157,14 +220,6 @@ impl Planner<'_> {
             None => false,
         }
     }
-}
-
-/// Whether a container is one of these, by its id.
-fn is_among(kept: &[Option<&Listed>], row: &Listed) -> bool
-    ensures { result ≡ list_any (λ one. option_map_or (λ other. bytes_eq other.id row.now.id) (option_copied one) false) kept.now }
-{
-    kept.iter()
-        .any(|one| one.is_some_and(|other| other.id == row.id))
 }
 
 /// Whether a network with a name was seen.

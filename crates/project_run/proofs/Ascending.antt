@@ -4,7 +4,7 @@ use Rattle.engine_types.specs.declared.Declared.{Declared}
 use Rattle.run_model.specs.EngineRules.{Among}
 use Rattle.run_model.specs.Plans.{IsWhole}
 use Rattle.tree_base.specs.ByteOrder.{IsAscending}
-use Rattle.serial_run.specs.Serial.{NeedsNoSlot}
+use Rattle.serial_run.specs.Serial.{WaitsForNone}
 
 module _ {X : Type 0} (before : X → X → Bool) where
   pub none_ascends : (xs : List X) → xs ≡ [] → IsAscending before xs
@@ -19,16 +19,23 @@ not_among : {X : Type 0} (xs : List X) (x : X) → xs ≡ [] → Among xs x → 
 not_among [] x e m = m
 not_among (y ∷ ys) x e m = cc e
 
--- a declared set without slots, networks and volumes is whole
-pub declares_nothing : (declared : Declared) → declared.slots ≡ [] → declared.networks ≡ [] → declared.volumes ≡ [] → IsWhole declared
-declares_nothing declared s n v = record {
+-- a declared set without slots, services, networks and volumes is whole
+pub declares_nothing : (declared : Declared) → declared.slots ≡ [] → declared.services ≡ [] → declared.networks ≡ [] → declared.volumes ≡ [] → IsWhole declared
+declares_nothing declared s o n v = record {
   slots = none_ascends _ declared.slots s;
+  services = none_ascends _ declared.services o;
+  owners = λ slot m. absurd (not_among declared.slots slot s m);
   networks = none_ascends _ declared.networks n;
   volumes = none_ascends _ declared.volumes v;
   attaches = λ slot attach m a. absurd (not_among declared.slots slot s m);
   needs = λ slot need m a. absurd (not_among declared.slots slot s m);
   conditions = λ slot need m a. absurd (not_among declared.slots slot s m);
+  rolls = λ service m e. absurd (not_among declared.services service o m);
 }
 
-pub needs_nothing : (declared : Declared) → declared.slots ≡ [] → NeedsNoSlot declared
-needs_nothing declared s slot m = absurd (not_among declared.slots slot s m)
+pub needs_nothing : (declared : Declared) → declared.slots ≡ [] → declared.services ≡ [] → WaitsForNone declared
+needs_nothing declared s o = record {
+  slots = λ slot m. absurd (not_among declared.slots slot s m);
+  services = λ service m. absurd (not_among declared.services service o m);
+  rolls = λ service m. absurd (not_among declared.services service o m);
+}

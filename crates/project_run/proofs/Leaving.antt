@@ -21,8 +21,10 @@ use Rattle.run_model.specs.Legal.{IsLegal}
 use Rattle.run_model.specs.Lines.{report_text}
 use Rattle.run_model.specs.Logs.{GrowsBy, exchanges_of}
 use Rattle.run_model.specs.Plans.{Aim, planned}
+use Rattle.run_model.specs.Rolling.{run_actions}
+use Rattle.run_model.proofs.RollLaws.{unrolled}
 use Rattle.run_model.specs.Runs.{IsRun, Task, run_exchanges, run_fault, run_report, run_seen, run_setup}
-use Rattle.serial_run.specs.Serial.{IsBegun, Telling, basis_of, exchanges_since, serial_setup}
+use Rattle.serial_run.specs.Serial.{IsBegun, Telling, WaitsForNone, basis_of, exchanges_since, serial_setup}
 use Rattle.project_run.specs.Opening.{IsCarriedOut, IsObservedBadly, Opens}
 use Rattle.project_run.specs.Whole.{IsCaused, Leaves, task_of}
 use Rattle.project_run.specs.declared.opening.Opening.{Opening}
@@ -90,9 +92,14 @@ pub bad_report : (declared : Declared) (seen : Seen) (actions : List Action) (jo
     → report_text (serial_setup declared seen actions) (reverse journal) ≡ run_report task journal
 bad_report declared seen actions journal task badly = rw badly.only refl
 
+-- where nothing is replaced a few slots at a time, the actions that were planned are those of the run
+pub unrolled_actions : (declared : Declared) (seen : Seen) (aim : Aim) (actions : List Action) → WaitsForNone declared → actions ≡ planned (basis_of declared seen aim)
+    → actions ≡ run_actions (basis_of declared seen aim)
+unrolled_actions declared seen aim actions plain is = is ∙ sym (unrolled (basis_of declared seen aim) plain.rolls)
+
 -- a run whose plan was carried out
 module _ (declared : Declared) (aim : Aim) (seen : Seen) (actions : List Action) (old new : List Entry) (before mid now : Telling) (plan : Rattle.engine_types.specs.declared.Plan.Plan)
-    (opens : Opens declared aim (Opening.Planned seen plan) old before mid) (is : actions ≡ planned (basis_of declared seen aim))
+    (opens : Opens declared aim (Opening.Planned seen plan) old before mid) (is : actions ≡ run_actions (basis_of declared seen aim))
     (carried : IsCarriedOut declared aim seen actions old new mid now) where
   abbrev look : Observed
   look = opens.observation

@@ -13,7 +13,7 @@ use Rattle.run_model.specs.Plans.{Aim}
 use Rattle.run_outcome.specs.Permits.{is_poll}
 use Rattle.run_outcome.proofs.Polls.{none_reversed}
 use Rattle.serial_run.proofs.Deciding.{no_poll}
-use Rattle.serial_run.specs.Serial.{NeedsNoSlot, serial_setup}
+use Rattle.serial_run.specs.Serial.{WaitsForNone, serial_setup}
 
 never_look : (full ending : Bool) (action : Option ℕ) (other : Bool) (s : ℕ) → answer_to full ending action None other ≡ Look s → ⊥
 never_look true ending action other s e = cc e
@@ -22,7 +22,7 @@ never_look false false (Some a) other s e = cc e
 never_look false false None true s e = cc e
 never_look false false None false s e = cc e
 
-module _ (declared : Declared) (seen : Seen) (actions : List Action) (plain : NeedsNoSlot declared) (aim : Aim) where
+module _ (declared : Declared) (seen : Seen) (actions : List Action) (plain : WaitsForNone declared) (aim : Aim) where
   unpolled : (past : List Entry) → IsLegal aim (serial_setup declared seen actions) past → list_any is_poll past ≡ false
   unpolled [] legal = refl
   unpolled (Entry.Poll w s ∷ past) legal =

@@ -4,14 +4,17 @@ use Rattle.std.specs.List.{IsDistinct}
 use Rattle.std.specs.Prelude.{IfSome}
 use Rattle.std.specs.Str.{bytes_eq}
 use Rattle.engine_types.specs.declared.ActionKind.{ActionKind}
-use Rattle.engine_types.specs.declared.ActionKind.TheVariants.{ConnectSlot, CreateSlot, MakeNetwork, MakeVolume, RemoveContainer, RemoveNetwork, RemoveVolume, StartSlot, StopContainer}
+use Rattle.engine_types.specs.declared.ActionKind.TheVariants.{ConnectSlot, CreateSlot, MakeNetwork, MakeVolume, RemoveContainer, RemoveNetwork, RemoveVolume, StartSlot, StopContainer, StopKept}
 use Rattle.engine_types.specs.declared.Listed.{Listed}
 use Rattle.engine_types.specs.declared.Seen.{Seen}
 use Rattle.run_model.specs.Journals.{seen_in}
-use Rattle.run_model.specs.Plans.{Basis, LeavesKept, is_kept, is_wanted, kept, kind_of, planned}
+use Rattle.run_model.specs.Observation.{is_up}
+use Rattle.run_model.specs.Plans.{Basis, LeavesKept, is_kept, is_restarted, is_wanted, kept, kind_of, slot_at}
+use Rattle.run_model.specs.Rolling.{run_actions}
 use Rattle.run_model.specs.Runs.{run_seen, run_setup}
 use Rattle.run_model.proofs.KeptLaws.{leaves_kept}
-use Rattle.run_model.proofs.PlanLaws.{planned_is_plan}
+use Rattle.run_model.proofs.PlanLaws.{both, some_from}
+use Rattle.run_model.proofs.RollLaws.{carries, has_plan}
 use Rattle.world_laws.proofs.Observing.{ids_differ, seen_by}
 use Rattle.project_run.specs.Laws.{RunsSpareKept}
 use Rattle.project_run.specs.Whole.{IsSparing}
@@ -45,18 +48,21 @@ module _ (basis : Basis) (leaves : LeavesKept basis) where
   wanted_sparing (MakeVolume v) w = tt
   wanted_sparing (MakeNetwork n) w = tt
   wanted_sparing (ConnectSlot s k) w = tt
+  wanted_sparing (StopKept s) w =
+      let r = some_from (is_restarted basis.declared basis.seen) (slot_at basis.declared s) (both (is_up basis.aim.purpose) _ w).1 in
+      rw r.1 r.2
   wanted_sparing (StartSlot s) w = tt
   wanted_sparing (RemoveNetwork n) w = tt
   wanted_sparing (RemoveVolume v) w = tt
 
-  planned_sparing : (a : ℕ) (kind : Option ActionKind) → kind_of (planned basis) a ≡ kind → IsSparing basis.declared basis.seen kind
+  planned_sparing : (a : ℕ) (kind : Option ActionKind) → kind_of (run_actions basis) a ≡ kind → IsSparing basis.declared basis.seen kind
   planned_sparing a None e = tt
-  planned_sparing a (Some kind) e = wanted_sparing kind ((planned_is_plan basis).wanted a kind e)
+  planned_sparing a (Some kind) e = wanted_sparing kind ((carries basis (run_actions basis) (has_plan basis)).wanted a kind e)
 
 pub runs_spare_kept : RunsSpareKept
 unfolding IsDistinct
-runs_spare_kept task journal up run w a m =
-    planned_sparing basis (leaves_kept basis up (distinct (seen_in (reverse journal)) refl)) a (kind_of (planned basis) a) refl
+runs_spare_kept task journal up owned run w a m =
+    planned_sparing basis (leaves_kept basis up owned (distinct (seen_in (reverse journal)) refl)) a (kind_of (run_actions basis) a) refl
   where
     basis : Basis
     basis = record { declared = task.declared; seen = run_seen journal; aim = task.aim }

@@ -1,7 +1,7 @@
 -- What a whole run of one worker leaves.
-use Rattle.std.specs.Prelude.{◌≡◌, ◌⊎◌, ◌≤◌, ℕ, List, [], ◌∷◌, Option, Some, None, false, IfSome, slice_get}
+use Rattle.std.specs.Prelude.{◌≡◌, ◌⊎◌, ◌≤◌, ℕ, List, [], ◌∷◌, Option, Some, None, false, IfSome, IsSomeAnd, slice_get, true}
 use Rattle.engine_types.specs.declared.ActionKind.{ActionKind}
-use Rattle.engine_types.specs.declared.ActionKind.TheVariants.{CreateSlot, RemoveContainer, StopContainer}
+use Rattle.engine_types.specs.declared.ActionKind.TheVariants.{CreateSlot, RemoveContainer, StopContainer, StopKept}
 use Rattle.engine_types.specs.declared.Declared.{Declared}
 use Rattle.engine_types.specs.declared.Entry.{Entry}
 use Rattle.engine_types.specs.declared.Observed.{Observed}
@@ -11,7 +11,7 @@ use Rattle.observe_project.specs.Exchanges.{HasCauseOfEnd}
 use Rattle.outside_api.specs.Hands.{Heard, HearsEach, HearsMore}
 use Rattle.run_model.specs.EngineRules.{Among, ToldBy}
 use Rattle.run_model.specs.Logs.{GrowsBy}
-use Rattle.run_model.specs.Plans.{Aim, is_kept, kept, kind_of}
+use Rattle.run_model.specs.Plans.{Aim, is_kept, is_restarted, kept, kind_of, slot_at}
 use Rattle.run_model.specs.Runs.{IsRun, Task, run_exchanges, run_seen, run_setup}
 use Rattle.serial_run.specs.Serial.{AllCaused, Telling, one_worker}
 
@@ -38,10 +38,12 @@ pub record IsCaused (journal : List Entry) (heard : Option (List Heard)) (old ne
   pub observed : (observation : Observed) → slice_get journal 0 ≡ Some (Entry.Seen observation) → HasCauseOfEnd heard old new observation.end
   pub ended : AllCaused journal heard old new
 
--- an action that leaves kept containers alone: it stops and removes none, and creates no other one for their slots
+-- an action that leaves kept containers alone: it removes none, stops none but that of a slot which a need asks to restart, and
+-- creates no other one for their slots
 abbrev pub IsSparing : Declared → Seen → Option ActionKind → Type 0
 IsSparing declared seen (Some (StopContainer c)) = IfSome (slice_get seen.containers c) (λ row. is_kept declared seen row ≡ false)
 IsSparing declared seen (Some (RemoveContainer c)) = IfSome (slice_get seen.containers c) (λ row. is_kept declared seen row ≡ false)
+IsSparing declared seen (Some (StopKept s)) = IsSomeAnd (slot_at declared s) (λ slot. is_restarted declared seen slot ≡ true)
 IsSparing declared seen (Some (CreateSlot s)) = kept declared seen s ≡ None
 IsSparing declared seen _ = Unit {0}
 

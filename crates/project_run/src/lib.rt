@@ -3,7 +3,8 @@
 //!
 //! The contract of `run_project` says that the journal is that of a legal run which came to its end, for the declared
 //! set and anything that the Engine answers; that the hand's log grew by exactly the journal's exchanges; which
-//! fault and which report the journal has; that `up` touches no container that a slot keeps; and what the Engine holds
+//! fault and which report the journal has; that `up` removes no container that a slot keeps, and
+//! stops none but to start it anew; and what the Engine holds
 //! at the end.
 #![tactic(auto)]
 

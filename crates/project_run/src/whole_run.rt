@@ -7,7 +7,7 @@ ghost use Rattle.run_model.specs.Lines.{report_text};
 ghost use Rattle.run_model.specs.Observation.{is_up};
 ghost use Rattle.run_model.specs.Plans.{IsWhole, is_too_long, planned};
 ghost use Rattle.run_model.specs.Runs.{IsRun, Task, run_exchanges, run_fault, run_report};
-ghost use Rattle.serial_run.specs.Serial.{IsBegun, NeedsNoSlot, aim_of, basis_of, serial_setup, telling};
+ghost use Rattle.serial_run.specs.Serial.{IsBegun, WaitsForNone, aim_of, basis_of, serial_setup, telling};
 ghost use Rattle.project_run.specs.Opening.{IsCarriedOut, IsObservedBadly};
 ghost use Rattle.project_run.specs.Worlds.{EndsExact, EndsGone, GoesThrough};
 ghost use Rattle.world_laws.specs.OwnSpecs.{HasOwnSpecs};
@@ -24,8 +24,8 @@ use std::alloc::Global;
 use tree_base::{List, ReservedList, Text};
 
 /// Carries out for a declared set what an aim asks for, with one hand, which is worker 0: observes what the Engine has,
-/// plans, and carries the plan out by number, without deadline and without waiting for goals. Declared slots need no
-/// other slot.
+/// plans, and carries the plan out by number, without deadline and without waiting for goals. Nothing that is declared
+/// waits for anything else.
 ///
 /// The journal is empty only where there was no room for its first two entries; then nothing was sent, and the fault
 /// is Memory. An Engine that the hand tells went through the run. Where a run of `up` went well and each slot's spec is
@@ -34,7 +34,7 @@ use tree_base::{List, ReservedList, Text};
 /// its place, and the report is empty.
 pub fn run_project<H: Hand>(alloc: Global, hand: &mut H, declared: &Declared, aim: Aim) -> Ran
     requires whole { IsWhole declared.now }
-    requires unconditional { NeedsNoSlot declared.now }
+    requires unconditional { WaitsForNone declared.now }
     ensures empty { result.journal ≡ [] → (result.fault ≡ Some RunFault.Memory) × (H.log hand.new ≡ H.log hand.old) }
     ensures run { IfBegun result.journal (IsRun (task_of declared.now (aim_of aim)) result.journal) }
     ensures log { IfBegun result.journal (GrowsBy (run_exchanges (task_of declared.now (aim_of aim)) result.journal 0) (H.log hand.old) (H.log hand.new)) }
@@ -79,7 +79,7 @@ fn run<H: Hand>(
     mut journal: ReservedList<Entry>,
 ) -> Ran
     requires whole { IsWhole declared.now }
-    requires unconditional { NeedsNoSlot declared.now }
+    requires unconditional { WaitsForNone declared.now }
     requires empty { journal.items ≡ [] }
     requires room { 2 ≤ journal.spare }
     ensures leaves { Leaves (task_of declared.now (aim_of aim)) result.journal
@@ -107,7 +107,7 @@ fn carry_out<H: Hand>(
     mut journal: ReservedList<Entry>,
 ) -> Ran
     requires whole { IsWhole declared.now }
-    requires unconditional { NeedsNoSlot declared.now }
+    requires unconditional { WaitsForNone declared.now }
     requires planned { plan.now.actions ≡ planned (basis_of declared.now seen.now (aim_of aim)) }
     requires fits { is_too_long (basis_of declared.now seen.now (aim_of aim)) ≡ false }
     requires begun { IsBegun declared.now (aim_of aim) seen.now journal.items }
@@ -142,6 +142,7 @@ fn ended(alloc: Global, declared: &Declared, journal: List<Entry>) -> Ran
     };
     let plan = Plan {
         actions: List::new(alloc),
+        kept: List::new(alloc),
     };
     let run = Run {
         declared,

@@ -211,6 +211,7 @@ fn request_words(alloc: Global, request: &Request) -> Result<Text, Memory>
     match request {
         Request::ListContainers { .. } => Text::from_str(alloc, "list containers"),
         Request::Inspect { id } => before_text(alloc, "inspect container ", id),
+        Request::Logs { id } => before_text(alloc, "logs container ", id),
         Request::Create { name, .. } => before_text(alloc, "create container ", name),
         Request::Start { id } => before_text(alloc, "start container ", id),
         Request::Stop { id, .. } => before_text(alloc, "stop container ", id),

@@ -39,7 +39,7 @@ fn lesser<'a>(other: &'a Listed, row: &'a Listed) -> &'a Listed
 }
 
 /// Whether a container that was seen agrees with a slot, whose image is the one that was seen for it.
-fn agrees_seen(
+pub fn agrees_seen(
     alloc: Global,
     declared: &Declared,
     seen: &Seen,

@@ -1,6 +1,6 @@
 ghost use Rattle.std.specs.Prelude.{◌≡◌, IfOk};
 ghost use Rattle.run_model.specs.EngineRules.{has_label, is_of_project};
-ghost use Rattle.run_model.specs.Labels.{has_slot_service, is_of_slot, names_service, names_slot};
+ghost use Rattle.run_model.specs.Labels.{has_declared_service, is_of_slot, names_service, names_slot};
 
 use engine_types::{Declared, Pairs, Slot, label, labels};
 use std::alloc::Global;
@@ -28,15 +28,15 @@ pub fn names_service(service: &Text, pairs: &Pairs) -> bool
     has_label(pairs, labels::SERVICE, service.as_str())
 }
 
-/// Whether labels name the service of some slot. No memory.
-pub fn has_slot_service(declared: &Declared, pairs: &Pairs) -> bool
-    ensures { result ≡ has_slot_service declared.now pairs.now }
+/// Whether labels name a declared service. No memory.
+pub fn has_declared_service(declared: &Declared, pairs: &Pairs) -> bool
+    ensures { result ≡ has_declared_service declared.now pairs.now }
 {
     declared
-        .slots
+        .services
         .as_slice()
         .iter()
-        .any(|slot| names_service(&slot.service, pairs))
+        .any(|service| names_service(&service.key, pairs))
 }
 
 /// Whether labels name a slot: its service, and its number in decimal.

@@ -1,5 +1,5 @@
 //! Questions to what a run sees, each answered here and nowhere else: whose a container is, by its labels; whether it agrees
-//! with what is declared; which container a slot keeps; what a state and a reply mean.
+//! with what is declared; which container a slot keeps, and how it is stopped; what a state and a reply mean.
 //!
 //! Contracts say that each answer is the defined one, for any labels and anything seen.
 #![tactic(auto)]
@@ -9,13 +9,15 @@ mod kept;
 mod labels;
 mod names;
 mod replies;
+mod requests;
 mod states;
 
 pub use agreement::agrees;
-pub use kept::kept_of;
+pub use kept::{agrees_seen, kept_of};
 pub use labels::{
-    has_label, has_slot_service, is_of_project, is_of_slot, names_service, names_slot,
+    has_declared_service, has_label, is_of_project, is_of_slot, names_service, names_slot,
 };
 pub use names::network_name;
 pub use replies::is_good;
+pub use requests::stop_kept;
 pub use states::is_live;

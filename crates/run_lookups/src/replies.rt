@@ -15,6 +15,8 @@ pub fn is_good(kind: ActionKind, reply: &Reply) -> bool
         (ActionKind::RemoveContainer { .. }, Reply::Done) => true,
         (ActionKind::CreateSlot { .. }, Reply::Made(_)) => true,
         (ActionKind::ConnectSlot { .. }, Reply::Done) => true,
+        (ActionKind::StopKept { .. }, Reply::Done) => true,
+        (ActionKind::StopKept { .. }, Reply::Already) => true,
         (ActionKind::StartSlot { .. }, Reply::Done) => true,
         (ActionKind::StartSlot { .. }, Reply::Already) => true,
         (ActionKind::RemoveNetwork { .. }, Reply::Done) => true,

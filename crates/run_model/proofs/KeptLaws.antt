@@ -5,15 +5,17 @@ use Rattle.std.specs.List.{AllByRecursion, IsDistinct, list_any}
 use Rattle.std.specs.Option.{option_map_or}
 use Rattle.std.specs.Prelude.{filter, if◌then◌else◌}
 use Rattle.std.specs.Str.{bytes_eq}
+use Rattle.tree_base.specs.declared.Var.{Var}
 use Rattle.engine_types.specs.declared.ActionKind.TheVariants.{CreateSlot}
 use Rattle.engine_types.specs.declared.Declared.{Declared}
+use Rattle.engine_types.specs.declared.DeclaredService.{DeclaredService}
 use Rattle.engine_types.specs.declared.Listed.{Listed}
 use Rattle.engine_types.specs.declared.Seen.{Seen}
 use Rattle.engine_types.specs.declared.Slot.{Slot}
 use Rattle.run_model.specs.EngineRules.{Among, is_of_project}
-use Rattle.run_model.specs.Labels.{agrees, has_slot_service, names_service}
+use Rattle.run_model.specs.Labels.{agrees, has_declared_service, names_service}
 use Rattle.run_model.specs.Observation.{is_up}
-use Rattle.run_model.specs.Plans.{Basis, LeavesKept, agrees_seen, is_kept, is_removed, is_wanted, kept, kept_of, seen_image, slot_at}
+use Rattle.run_model.specs.Plans.{Basis, HasServices, LeavesKept, agrees_seen, is_kept, is_removed, is_wanted, kept, kept_of, seen_image, slot_at}
 use Rattle.tree_base.specs.ByteOrder.{is_before, least_by}
 use Rattle.run_model.proofs.DistinctLists.{from_filter, from_place}
 use Rattle.run_model.proofs.PlanLaws.{both, some_from}
@@ -72,38 +74,48 @@ same_row (x ∷ xs) a b d (inr m) (inl k) e =
 same_row (x ∷ xs) a b d (inr m) (inr n) e = same_row xs a b d.1 m n e
 
 -- a container that agrees with a slot names its service
-agrees_names : (declared : Declared) (seen : Seen) (slot : Slot) (row : Listed) → agrees_seen declared seen slot row ≡ true → names_service slot.service row.labels ≡ true
+pub agrees_names : (declared : Declared) (seen : Seen) (slot : Slot) (row : Listed) → agrees_seen declared seen slot row ≡ true → names_service slot.service row.labels ≡ true
 agrees_names declared seen slot row e = at (seen_image seen slot) e
   where
     at : (o : Option (List ℕ)) → agrees declared.project slot o row.labels row.image_id row.state ≡ true → names_service slot.service row.labels ≡ true
     at None h = absurd (cc h)
     at (Some image) h = (both _ _ (both _ _ (both _ _ (both _ _ (both _ _ h).0).0).0).1).0
 
--- a kept container names the service of a slot
-kept_names : (basis : Basis) (c : ℕ) (row : Listed) → IsDistinct bytes_eq (map (λ (r : Listed). r.id) basis.seen.containers) → slice_get basis.seen.containers c ≡ Some row
-    → is_kept basis.declared basis.seen row ≡ true → has_slot_service basis.declared row.labels ≡ true
-kept_names basis c row d e k =
+-- labels that name a slot's service name a declared one
+pub declared_named : (declared : Declared) (slot : Slot) (labels : List Var) → HasServices declared → Among declared.slots slot → names_service slot.service labels ≡ true
+    → has_declared_service declared labels ≡ true
+declared_named declared slot labels owned m n =
+    let s = any_from_list (λ (service : DeclaredService). bytes_eq service.key slot.service) declared.services (owned slot m) in
+    let service : DeclaredService = s.0 in
+    let same : service.key ≡ slot.service = (bytes_eq-Decides service.key slot.service).0 s.2 in
+    any_of_list (λ (x : DeclaredService). names_service x.key labels) declared.services service s.1
+    (subst (λ (key : List ℕ). names_service key labels ≡ true) (sym same) n)
+
+-- a kept container names a declared service
+kept_names : (basis : Basis) (c : ℕ) (row : Listed) → HasServices basis.declared → IsDistinct bytes_eq (map (λ (r : Listed). r.id) basis.seen.containers) → slice_get basis.seen.containers c ≡ Some row
+    → is_kept basis.declared basis.seen row ≡ true → has_declared_service basis.declared row.labels ≡ true
+kept_names basis c row owned d e k =
     let s = any_from_list (λ (slot : Slot). option_map_or (λ (other : Listed). bytes_eq other.id row.id) (kept_of basis.declared basis.seen slot) false) basis.declared.slots k in
     let slot : Slot = s.0 in
     let o = some_from (λ (other : Listed). bytes_eq other.id row.id) (kept_of basis.declared basis.seen slot) s.2 in
     let m = from_filter (agrees_seen basis.declared basis.seen slot) basis.seen.containers o.0
     (from_least (λ (r : Listed). r.id) (filter (agrees_seen basis.declared basis.seen slot) basis.seen.containers) o.0 o.1) in
     let same = same_row basis.seen.containers o.0 row d m.1 (from_place basis.seen.containers c row e) o.2 in
-    any_of_list (λ (x : Slot). names_service x.service row.labels) basis.declared.slots slot s.1
+    declared_named basis.declared slot row.labels owned s.1
     (agrees_names basis.declared basis.seen slot row (subst (λ (r : Listed). agrees_seen basis.declared basis.seen slot r ≡ true) same m.0))
 
-not_removed : (basis : Basis) (c : ℕ) (row : Listed) → is_up basis.aim.purpose ≡ true → IsDistinct bytes_eq (map (λ (r : Listed). r.id) basis.seen.containers)
+not_removed : (basis : Basis) (c : ℕ) (row : Listed) → is_up basis.aim.purpose ≡ true → HasServices basis.declared → IsDistinct bytes_eq (map (λ (r : Listed). r.id) basis.seen.containers)
     → slice_get basis.seen.containers c ≡ Some row → is_kept basis.declared basis.seen row ≡ true → is_removed basis row ≡ false
-not_removed basis c row u d e k = rw (kept_names basis c row d e k, u, k) (at (is_of_project basis.declared.project row.labels))
+not_removed basis c row u owned d e k = rw (kept_names basis c row owned d e k, u, k) (at (is_of_project basis.declared.project row.labels))
   where
     at : (t : Bool) → (t && false) ≡ false
     at true = refl
     at false = refl
 
-pub leaves_kept : (basis : Basis) → is_up basis.aim.purpose ≡ true → IsDistinct bytes_eq (map (λ (row : Listed). row.id) basis.seen.containers) → LeavesKept basis
-leaves_kept basis u d = record {
-  stops = λ c row e k. rw e (not_removed basis c row u d e k);
-  removes = λ c row e k. rw e (not_removed basis c row u d e k);
+pub leaves_kept : (basis : Basis) → is_up basis.aim.purpose ≡ true → HasServices basis.declared → IsDistinct bytes_eq (map (λ (row : Listed). row.id) basis.seen.containers) → LeavesKept basis
+leaves_kept basis u owned d = record {
+  stops = λ c row e k. rw e (not_removed basis c row u owned d e k);
+  removes = λ c row e k. rw e (not_removed basis c row u owned d e k);
   creates = λ s row e. creates s row e (slot_at basis.declared s) refl;
 }
   where

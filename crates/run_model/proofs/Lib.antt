@@ -1,6 +1,7 @@
 pub mod Ready
 pub mod DistinctLists
 pub mod PlanLaws
+pub mod RollLaws
 pub mod LegalLaws
 pub mod LostCreate
 pub mod TwoWorlds

@@ -4,13 +4,13 @@ use Rattle.std.specs.Option.{option_map_or}
 use Rattle.std.specs.Prelude.{flat_map}
 use Rattle.engine_types.specs.declared.Action.{Action}
 use Rattle.engine_types.specs.declared.ActionKind.{ActionKind}
-use Rattle.engine_types.specs.declared.ActionKind.TheVariants.{MakeVolume, MakeNetwork, StopContainer, RemoveContainer, CreateSlot, ConnectSlot, StartSlot, RemoveNetwork, RemoveVolume}
+use Rattle.engine_types.specs.declared.ActionKind.TheVariants.{MakeVolume, MakeNetwork, StopContainer, RemoveContainer, CreateSlot, ConnectSlot, StopKept, StartSlot, RemoveNetwork, RemoveVolume}
 use Rattle.engine_types.specs.declared.Attach.{Attach}
 use Rattle.engine_types.specs.declared.Listed.{Listed}
 use Rattle.engine_types.specs.declared.Slot.{Slot}
 use Rattle.run_model.specs.EngineRules.{Among}
 use Rattle.run_model.specs.Observation.{is_up}
-use Rattle.run_model.specs.Plans.{Basis, IsPlanOf, is_needed_by, is_removed, is_unattached, is_unstarted, is_wanted, kind_of, needed_by, needs_of, places_by_id, planned, planned_kinds, possible, slot_at}
+use Rattle.run_model.specs.Plans.{Basis, IsPlanOf, is_needed_by, is_removed, is_restarted, is_unattached, is_unstarted, is_wanted, kind_of, needed_by, needs_of, places_by_id, planned, planned_kinds, possible, slot_at}
 use Rattle.run_model.specs.Numbers.{places}
 use Rattle.run_model.proofs.DistinctLists.{Distinct, among_by_key, among_filter, among_flat_map, among_left, among_map, among_places, among_right, at_place, distinct_append, distinct_by_key, distinct_filter, distinct_flat_map, distinct_map, distinct_places, from_append, from_filter, from_flat_map, from_map, from_place, same_place}
 
@@ -21,13 +21,13 @@ module _ {X : Type 0} where
   some_from f (Some x) e = (x, refl, e)
 
 -- the kinds of listed actions
-kind_of_listed : (ns : ActionKind → List ℕ) (ks : List ActionKind) (a : ℕ)
+pub kind_of_listed : (ns : ActionKind → List ℕ) (ks : List ActionKind) (a : ℕ)
     → kind_of (map (λ (kind : ActionKind). let action : Action = record { kind = kind; needs = ns kind } in action) ks) a ≡ slice_get ks a
 kind_of_listed ns [] a = refl
 kind_of_listed ns (k ∷ ks) zero = refl
 kind_of_listed ns (k ∷ ks) (suc a) = kind_of_listed ns ks a
 
-needs_of_listed : (ns : ActionKind → List ℕ) (ks : List ActionKind) (a : ℕ) (kind : ActionKind) → slice_get ks a ≡ Some kind
+pub needs_of_listed : (ns : ActionKind → List ℕ) (ks : List ActionKind) (a : ℕ) (kind : ActionKind) → slice_get ks a ≡ Some kind
     → needs_of (map (λ (kind : ActionKind). let action : Action = record { kind = kind; needs = ns kind } in action) ks) a ≡ ns kind
 needs_of_listed ns [] a kind e = absurd (cc e)
 needs_of_listed ns (k ∷ ks) zero kind e = let same : k ≡ kind = cc e in ap ns same
@@ -46,9 +46,10 @@ row (StopContainer c) = 2
 row (RemoveContainer c) = 2
 row (CreateSlot s) = 3
 row (ConnectSlot s k) = 4
-row (StartSlot s) = 5
-row (RemoveNetwork n) = 6
-row (RemoveVolume v) = 7
+row (StopKept s) = 5
+row (StartSlot s) = 6
+row (RemoveNetwork n) = 7
+row (RemoveVolume v) = 8
 
 -- the networks that a slot attaches to
 abbrev attaches : Basis → ℕ → List Attach
@@ -76,6 +77,9 @@ joins_of basis s = map (λ k. ConnectSlot s k) (places (attaches basis s))
 abbrev joins : Basis → List ActionKind
 joins basis = flat_map (joins_of basis) (places basis.declared.slots)
 
+abbrev restarts : Basis → List ActionKind
+restarts basis = map (λ s. StopKept s) (places basis.declared.slots)
+
 abbrev starts : Basis → List ActionKind
 starts basis = map (λ s. StartSlot s) (places basis.declared.slots)
 
@@ -99,15 +103,18 @@ abbrev upto4 : Basis → List ActionKind
 upto4 basis = upto3 basis ++ joins basis
 
 abbrev upto5 : Basis → List ActionKind
-upto5 basis = upto4 basis ++ starts basis
+upto5 basis = upto4 basis ++ restarts basis
 
 abbrev upto6 : Basis → List ActionKind
-upto6 basis = upto5 basis ++ network_ends basis
+upto6 basis = upto5 basis ++ starts basis
 
 abbrev upto7 : Basis → List ActionKind
-upto7 basis = upto6 basis ++ volume_ends basis
+upto7 basis = upto6 basis ++ network_ends basis
 
-are_rows : (basis : Basis) → possible basis ≡ upto7 basis
+abbrev upto8 : Basis → List ActionKind
+upto8 basis = upto7 basis ++ volume_ends basis
+
+are_rows : (basis : Basis) → possible basis ≡ upto8 basis
 are_rows basis = refl
 
 distinct_ends : (c : ℕ) → Distinct (ends_of c)
@@ -145,13 +152,14 @@ module _ (basis : Basis) where
   row_joins s kind m = ap row (from_map (λ (k : ℕ). ConnectSlot s k) (places (attaches basis s)) kind m).2
 
 module _ (basis : Basis) where
-  in2 : (kind : ActionKind) → Among (upto2 basis) kind → Among (possible basis) kind
-  in2 kind m = among_left (upto6 basis) (volume_ends basis) kind (among_left (upto5 basis) (network_ends basis) kind
-      (among_left (upto4 basis) (starts basis) kind (among_left (upto3 basis) (joins basis) kind (among_left (upto2 basis) (makes basis) kind m))))
+  in6 : (kind : ActionKind) → Among (upto6 basis) kind → Among (possible basis) kind
+  in6 kind m = among_left (upto7 basis) (volume_ends basis) kind (among_left (upto6 basis) (network_ends basis) kind m)
 
   in4 : (kind : ActionKind) → Among (upto4 basis) kind → Among (possible basis) kind
-  in4 kind m = among_left (upto6 basis) (volume_ends basis) kind (among_left (upto5 basis) (network_ends basis) kind
-      (among_left (upto4 basis) (starts basis) kind m))
+  in4 kind m = in6 kind (among_left (upto5 basis) (starts basis) kind (among_left (upto4 basis) (restarts basis) kind m))
+
+  in2 : (kind : ActionKind) → Among (upto2 basis) kind → Among (possible basis) kind
+  in2 kind m = in4 kind (among_left (upto3 basis) (joins basis) kind (among_left (upto2 basis) (makes basis) kind m))
 
   abbrev id_at : ℕ → List ℕ
   id_at c = option_map_or (λ (r : Listed). r.id) (slice_get basis.seen.containers c) []
@@ -161,7 +169,7 @@ module _ (basis : Basis) where
       (among_by_key id_at (places basis.seen.containers) c (among_places basis.seen.containers c r e)) m))
 
   -- every action that is wanted is listed
-  has_wanted : (kind : ActionKind) → is_wanted basis kind ≡ true → Among (possible basis) kind
+  pub has_wanted : (kind : ActionKind) → is_wanted basis kind ≡ true → Among (possible basis) kind
   has_wanted (MakeVolume v) e =
       let r = some_from _ (slice_get basis.declared.volumes v) (both (is_up basis.aim.purpose) _ e).1 in
       in2 (MakeVolume v) (among_left (upto1 basis) (ends basis) (MakeVolume v) (among_left (volumes basis) (networks basis) (MakeVolume v)
@@ -186,18 +194,21 @@ module _ (basis : Basis) where
       let place : Among (places (attaches basis s)) k = subst (λ (xs : List Attach). Among (places xs) k) (sym here) (among_places slot.attach k q.0 q.1) in
       in4 (ConnectSlot s k) (among_right (upto3 basis) (joins basis) (ConnectSlot s k) (among_flat_map (joins_of basis) (places basis.declared.slots) s (ConnectSlot s k)
       (among_places basis.declared.slots s slot r.1) (among_map (λ (j : ℕ). ConnectSlot s j) (places (attaches basis s)) k place)))
+  has_wanted (StopKept s) e =
+      let r = some_from (is_restarted basis.declared basis.seen) (slot_at basis.declared s) (both (is_up basis.aim.purpose) _ e).1 in
+      in6 (StopKept s) (among_left (upto5 basis) (starts basis) (StopKept s) (among_right (upto4 basis) (restarts basis) (StopKept s)
+      (among_map (λ (n : ℕ). StopKept n) (places basis.declared.slots) s (among_places basis.declared.slots s r.0 r.1))))
   has_wanted (StartSlot s) e =
       let r = some_from (is_unstarted basis) (slot_at basis.declared s) (both (is_up basis.aim.purpose) _ e).1 in
-      among_left (upto6 basis) (volume_ends basis) (StartSlot s) (among_left (upto5 basis) (network_ends basis) (StartSlot s)
-      (among_right (upto4 basis) (starts basis) (StartSlot s)
-      (among_map (λ (n : ℕ). StartSlot n) (places basis.declared.slots) s (among_places basis.declared.slots s r.0 r.1))))
+      in6 (StartSlot s) (among_right (upto5 basis) (starts basis) (StartSlot s)
+      (among_map (λ (n : ℕ). StartSlot n) (places basis.declared.slots) s (among_places basis.declared.slots s r.0 r.1)))
   has_wanted (RemoveNetwork n) e =
       let r = some_from _ (slice_get basis.declared.networks n) (both (not (is_up basis.aim.purpose)) _ e).1 in
-      among_left (upto6 basis) (volume_ends basis) (RemoveNetwork n) (among_right (upto5 basis) (network_ends basis) (RemoveNetwork n)
+      among_left (upto7 basis) (volume_ends basis) (RemoveNetwork n) (among_right (upto6 basis) (network_ends basis) (RemoveNetwork n)
       (among_map (λ (m : ℕ). RemoveNetwork m) (places basis.declared.networks) n (among_places basis.declared.networks n r.0 r.1)))
   has_wanted (RemoveVolume v) e =
       let r = some_from _ (slice_get basis.declared.volumes v) (both (not (is_up basis.aim.purpose) && basis.aim.volumes) _ e).1 in
-      among_right (upto6 basis) (volume_ends basis) (RemoveVolume v)
+      among_right (upto7 basis) (volume_ends basis) (RemoveVolume v)
       (among_map (λ (m : ℕ). RemoveVolume m) (places basis.declared.volumes) v (among_places basis.declared.volumes v r.0 r.1))
 
   -- a list of the rows below one
@@ -216,7 +227,7 @@ module _ (basis : Basis) where
       at kind (inr m) = let same = rows kind m in omega (arith, same)
 
   -- no action is listed twice
-  distinct_possible : Distinct (possible basis)
+  pub distinct_possible : Distinct (possible basis)
   distinct_possible =
       let at0 : IsBelow 1 (volumes basis) = record {
         distinct = distinct_map (λ (v : ℕ). MakeVolume v) (places basis.declared.volumes) (λ x y e. cc e) (distinct_places basis.declared.volumes);
@@ -235,16 +246,19 @@ module _ (basis : Basis) where
       let at4 = joined 4 (upto3 basis) (joins basis) at3
       (distinct_flat_map (joins_of basis) (places basis.declared.slots) (distinct_joins basis) (apart_joins basis) (distinct_places basis.declared.slots))
       (λ kind m. let r = from_flat_map (joins_of basis) (places basis.declared.slots) kind m in row_joins basis r.0 kind r.2) in
-      let at5 = joined 5 (upto4 basis) (starts basis) at4
+      let at5 = joined 5 (upto4 basis) (restarts basis) at4
+      (distinct_map (λ (v : ℕ). StopKept v) (places basis.declared.slots) (λ x y e. cc e) (distinct_places basis.declared.slots))
+      (λ kind m. ap row (from_map (λ (v : ℕ). StopKept v) (places basis.declared.slots) kind m).2) in
+      let at6 = joined 6 (upto5 basis) (starts basis) at5
       (distinct_map (λ (v : ℕ). StartSlot v) (places basis.declared.slots) (λ x y e. cc e) (distinct_places basis.declared.slots))
       (λ kind m. ap row (from_map (λ (v : ℕ). StartSlot v) (places basis.declared.slots) kind m).2) in
-      let at6 = joined 6 (upto5 basis) (network_ends basis) at5
+      let at7 = joined 7 (upto6 basis) (network_ends basis) at6
       (distinct_map (λ (v : ℕ). RemoveNetwork v) (places basis.declared.networks) (λ x y e. cc e) (distinct_places basis.declared.networks))
       (λ kind m. ap row (from_map (λ (v : ℕ). RemoveNetwork v) (places basis.declared.networks) kind m).2) in
-      let at7 = joined 7 (upto6 basis) (volume_ends basis) at6
+      let at8 = joined 8 (upto7 basis) (volume_ends basis) at7
       (distinct_map (λ (v : ℕ). RemoveVolume v) (places basis.declared.volumes) (λ x y e. cc e) (distinct_places basis.declared.volumes))
       (λ kind m. ap row (from_map (λ (v : ℕ). RemoveVolume v) (places basis.declared.volumes) kind m).2) in
-      at7.distinct
+      at8.distinct
 
 -- the listed plan has exactly the wanted actions, each once, with exactly their needs
 pub planned_is_plan : (basis : Basis) → IsPlanOf basis (planned basis)

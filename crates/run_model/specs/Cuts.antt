@@ -11,7 +11,8 @@ use Rattle.run_model.specs.Journals.{Setup}
 use Rattle.run_model.specs.Labels.{is_of_slot}
 use Rattle.run_model.specs.Legal.{IsLegal}
 use Rattle.run_model.specs.Observation.{is_asked, is_up, observed}
-use Rattle.run_model.specs.Plans.{Aim, planned}
+use Rattle.run_model.specs.Plans.{Aim}
+use Rattle.run_model.specs.Rolling.{run_actions}
 use Rattle.run_model.specs.Worlds.{FitsSeen, Move, Took, World, entries_of, seen_effects}
 
 -- a run, whole or cut: what it is of, and its moves, newest first. What the Engine and the requests that are left do before the
@@ -46,7 +47,7 @@ TellsImages images (_ ∷ moves) = TellsImages images moves
 pub record IsRan (declared : Declared) (images : List ℕ → List ℕ) (first : Engine) (ran : Ran) (last : Engine) : Type 0 where
   pub declares : ran.setup.declared ≡ declared
   pub up : is_up ran.aim.purpose ≡ true
-  pub plan : ran.setup.actions ≡ planned (record { declared = ran.setup.declared; seen = ran.setup.seen; aim = ran.aim })
+  pub plan : ran.setup.actions ≡ run_actions (record { declared = ran.setup.declared; seen = ran.setup.seen; aim = ran.aim })
   pub journal : IsCutJournal ran.aim ran.setup ran.moves
   pub told : TellsImages images ran.moves
   pub world : World ran.setup first ran.moves last

@@ -104,7 +104,7 @@ stopped_row row = record row { report = record row.report { state = ContainerSta
 abbrev pub endpoints_of : ContainerSpec → List Endpoint
 endpoints_of spec = unwrap_or spec.endpoints_config []
 
--- the container as a create makes it
+-- the container as a create makes it: it has written nothing
 abbrev pub created_row : List ℕ → List ℕ → ContainerSpec → List ℕ → List (List ℕ) → ContainerRow
 created_row id name spec image networks = record {
   id = id;
@@ -114,6 +114,7 @@ created_row id name spec image networks = record {
   image_id = image;
   networks = networks;
   report = record { state = ContainerState.Created; exit_code = pos 0; health = Health.Absent };
+  logs = [];
 }
 
 -- whether a container binds a volume: the part of a bind before its first colon is the volume's name
@@ -256,6 +257,8 @@ abbrev pub Grants : Engine → Request → Reply → Engine → Type 0
 Grants old (Request.ListContainers project) (Reply.Containers rows) new = ListsContainers old project rows × (new ≡ old)
 Grants old (Request.Inspect id) (Reply.State report) new =
     IsSomeAnd (container_at old id) (λ row. row.report ≡ report) × (new ≡ old)
+Grants old (Request.Logs id) (Reply.Bytes bytes) new =
+    IsSomeAnd (container_at old id) (λ row. row.logs ≡ bytes) × (new ≡ old)
 Grants old (Request.Create name spec) (Reply.Made id) new = Creates old new name spec id
 Grants old (Request.Start id) Reply.Done new = Updates old new id can_start (λ row. Some (started_row row))
 Grants old (Request.Start id) Reply.Already new = Finds old new id is_started

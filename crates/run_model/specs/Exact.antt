@@ -8,7 +8,7 @@ use Rattle.engine_types.specs.declared.NetworkSpec.{NetworkSpec}
 use Rattle.engine_types.specs.declared.Slot.{Slot}
 use Rattle.engine_types.specs.declared.VolumeSpec.{VolumeSpec}
 use Rattle.run_model.specs.EngineRules.{Among, container_at, has_volume, image_at, is_of_project, network_has_name}
-use Rattle.run_model.specs.Labels.{agrees, has_slot_service, is_of_slot, is_orphan}
+use Rattle.run_model.specs.Labels.{agrees, has_declared_service, is_of_slot, is_orphan}
 use Rattle.run_model.specs.Plans.{network_name}
 
 -- whether a container agrees with a slot, by the Engine's images
@@ -43,11 +43,11 @@ pub record IsExact (declared : Declared) (engine : Engine) (orphans : Bool) : Ty
   pub others : (id : List ℕ) (row : ContainerRow) → container_at engine id ≡ Some row → is_of_project declared.project row.labels ≡ true
       → (list_any (λ slot. is_of_slot declared.project slot row.labels) declared.slots || (not orphans && is_orphan declared row.labels)) ≡ true
 
--- all that is declared is gone: no container of the project has a slot's service, or none is there at all where orphans were
+-- all that is declared is gone: no container of the project has a declared service, or none is there at all where orphans were
 -- asked for; no declared network that isn't external is there; and, where volumes were asked for, no such volume
 pub record IsGone (declared : Declared) (engine : Engine) (orphans volumes : Bool) : Type 0 where
   pub containers : (id : List ℕ) (row : ContainerRow) → container_at engine id ≡ Some row → is_of_project declared.project row.labels ≡ true
-      → (orphans || has_slot_service declared row.labels) ≡ false
+      → (orphans || has_declared_service declared row.labels) ≡ false
   pub networks : (network : NetworkSpec) → Among declared.networks network → network.external ≡ false
       → (id : List ℕ) → network_has_name engine network.name id ≡ false
   pub no_volumes : volumes ≡ true → (volume : VolumeSpec) → Among declared.volumes volume → volume.external ≡ false

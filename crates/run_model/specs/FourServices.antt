@@ -17,7 +17,7 @@ use Rattle.engine_types.specs.declared.Request.{Request}
 use Rattle.engine_types.specs.declared.SeenEnd.{SeenEnd}
 use Rattle.engine_types.specs.declared.Slot.{Slot}
 use Rattle.engine_types.specs.declared.VolumeSpec.{VolumeSpec}
-use Rattle.run_model.specs.OneService.{labels_of, plain_spec}
+use Rattle.run_model.specs.OneService.{labels_of, plain_spec, service_of}
 use Rattle.run_model.specs.Told.{answered}
 use Rattle.run_model.specs.ThreeServices.{doing, reported}
 use Rattle.run_model.specs.TwoNetworks.{acts, network_of}
@@ -32,6 +32,7 @@ slot_of service image needs binds = record {
   policy = Policy.Missing;
   has_build = false;
   hash = codes "abc";
+  old_hash = codes "abc";
   spec = record (plain_spec (labels_of service (codes "abc")) image) {
     network_mode = Some (codes "shop_default");
     endpoints_config = Some (record { key = codes "shop_default"; aliases = service ∷ [] } ∷ []);
@@ -45,7 +46,7 @@ slot_of service image needs binds = record {
 
 -- a required need
 abbrev pub requires : ℕ → Condition → Need
-requires s condition = record { slot = s; condition = condition; required = true }
+requires s condition = record { slot = s; condition = condition; required = true; restart = false }
 
 -- the volume of the project
 abbrev pub data_volume : VolumeSpec
@@ -60,6 +61,10 @@ shop = record {
       ∷ slot_of (codes "db") (codes "postgres:16") [] (Some (codes "shop_data:/d:rw" ∷ []))
       ∷ slot_of (codes "mig") (codes "shop/web:2.1") (requires 1 Condition.Healthy ∷ []) None
       ∷ slot_of (codes "web") (codes "shop/web:2.1") (requires 0 Condition.Started ∷ requires 2 Condition.Completed ∷ []) None ∷ [];
+  services =
+      service_of (codes "cache") ∷ service_of (codes "db")
+      ∷ record { key = codes "mig"; depends_on = codes "db" ∷ []; roll = None }
+      ∷ record { key = codes "web"; depends_on = codes "cache" ∷ codes "mig" ∷ []; roll = None } ∷ [];
   networks = network_of (codes "default") ∷ [];
   volumes = data_volume ∷ [];
 }

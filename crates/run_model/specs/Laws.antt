@@ -3,6 +3,7 @@ use Rattle.std.specs.Prelude.{◌≡◌, ◌↔◌, ◌∷◌, ◌++◌, ◌≤�
 use Rattle.std.specs.List.{IsDistinct}
 use Rattle.std.specs.Str.{bytes_eq}
 use Rattle.engine_types.specs.declared.Declared.{Declared}
+use Rattle.engine_types.specs.declared.DeclaredService.{DeclaredService}
 use Rattle.engine_types.specs.declared.Engine.{Engine}
 use Rattle.engine_types.specs.declared.Entry.{Entry}
 use Rattle.engine_types.specs.declared.Exchange.{Exchange}
@@ -13,12 +14,13 @@ use Rattle.engine_types.specs.declared.Seen.{Seen}
 use Rattle.engine_types.specs.declared.SeenEnd.{SeenEnd}
 use Rattle.run_model.specs.Conditions.{is_allowed}
 use Rattle.run_model.specs.Ending.{first_fault, status_of}
-use Rattle.run_model.specs.EngineRules.{Answers}
+use Rattle.run_model.specs.EngineRules.{Among, Answers}
 use Rattle.run_model.specs.Journals.{Setup, claims}
 use Rattle.run_model.specs.Legal.{IsLegal, IsReady}
 use Rattle.run_model.specs.Observation.{Asks, Ends, is_asked, is_request, is_up, observed}
 use Rattle.run_model.specs.Logs.{asker}
-use Rattle.run_model.specs.Plans.{Aim, Basis, IsPlanOf, LeavesKept, planned}
+use Rattle.run_model.specs.Plans.{Aim, Basis, HasPlan, HasServices, IsPlanOf, LeavesKept, planned}
+use Rattle.run_model.specs.Rolling.{run_actions}
 use Rattle.run_model.specs.Told.{IsTold}
 
 -- a refusal changes nothing
@@ -32,6 +34,15 @@ StatusIsZeroWithoutFault = (setup : Setup) (past : List Entry) → (status_of se
 -- the plan, as it is listed, has each wanted action once, with exactly its needs
 abbrev pub PlannedIsPlan : Type 0
 PlannedIsPlan = (basis : Basis) → IsPlanOf basis (planned basis)
+
+-- the actions of a run are the plan's, and each needs at least what it needs in the plan
+abbrev pub RunsHavePlans : Type 0
+RunsHavePlans = (basis : Basis) → HasPlan basis (run_actions basis)
+
+-- where no service is to be replaced a few slots at a time, the actions of a run are the plan's, with its needs
+abbrev pub UnrolledIsPlanned : Type 0
+UnrolledIsPlanned = (basis : Basis) → ((service : DeclaredService) → Among basis.declared.services service → service.roll ≡ None)
+    → run_actions basis ≡ planned basis
 
 -- each claim of a legal journal stands where its action is allowed: it wasn't claimed before, all that it needs ended well, and
 -- each need of the slot that it starts lets it go
@@ -47,9 +58,9 @@ abbrev pub AsksAreAnswered : Type 0
 AsksAreAnswered = (aim : Aim) (setup : Setup) (past : List Entry) (w : ℕ) → IsLegal aim setup past → IsReady setup past w
     → (entry : Entry) × (asker entry ≡ Some w) × IsLegal aim setup (entry ∷ past)
 
--- where the ids of the seen containers differ, a plan of `up` leaves kept containers alone
+-- where the ids of the seen containers differ and each slot is of a declared service, a plan of `up` leaves kept containers alone
 abbrev pub KeptAreLeftAlone : Type 0
-KeptAreLeftAlone = (basis : Basis) → is_up basis.aim.purpose ≡ true → IsDistinct bytes_eq (map (λ row. row.id) basis.seen.containers) → LeavesKept basis
+KeptAreLeftAlone = (basis : Basis) → is_up basis.aim.purpose ≡ true → HasServices basis.declared → IsDistinct bytes_eq (map (λ row. row.id) basis.seen.containers) → LeavesKept basis
 
 -- each exchange of an observation is the one that was to come next after those before it
 abbrev pub EachExchangeIsAsked : Type 0

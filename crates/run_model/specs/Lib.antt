@@ -3,6 +3,7 @@ pub mod EngineRules
 pub mod Labels
 pub mod Observation
 pub mod Plans
+pub mod Rolling
 pub mod Told
 pub mod Journals
 pub mod Requests
@@ -19,6 +20,7 @@ pub mod OneService
 pub mod ThreeServices
 pub mod OneWorld
 pub mod TwoNetworks
+pub mod Updates
 pub mod Laws
 pub mod FourServices
 pub mod OtherRuns

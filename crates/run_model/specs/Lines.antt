@@ -43,6 +43,7 @@ done_words setup (ActionKind.StopContainer c) = codes "container " ++ container_
 done_words setup (ActionKind.RemoveContainer c) = codes "container " ++ container_name setup c ++ codes " removed"
 done_words setup (ActionKind.CreateSlot s) = codes "container " ++ slot_name setup s ++ codes " created"
 done_words setup (ActionKind.ConnectSlot s k) = codes "container " ++ slot_name setup s ++ codes " connected to " ++ attached_network setup s k
+done_words setup (ActionKind.StopKept s) = codes "container " ++ slot_name setup s ++ codes " stopped"
 done_words setup (ActionKind.StartSlot s) = codes "container " ++ slot_name setup s ++ codes " started"
 done_words setup (ActionKind.RemoveNetwork n) = codes "network " ++ declared_network setup n ++ codes " removed"
 done_words setup (ActionKind.RemoveVolume v) = codes "volume " ++ declared_volume setup v ++ codes " removed"
@@ -68,6 +69,7 @@ report_text setup (_ ∷ past) = report_text setup past
 abbrev pub request_words : Request → List ℕ
 request_words (Request.ListContainers project) = codes "list containers"
 request_words (Request.Inspect id) = codes "inspect container " ++ id
+request_words (Request.Logs id) = codes "logs container " ++ id
 request_words (Request.Create name spec) = codes "create container " ++ name
 request_words (Request.Start id) = codes "start container " ++ id
 request_words (Request.Stop id seconds) = codes "stop container " ++ id

@@ -1,9 +1,11 @@
 -- One service, `web` with the image `nginx:1.25` and no network, and runs of it.
 use Rattle.std.specs.Prelude.{ℕ, false, List, [], ◌∷◌, Some, None, codes}
 use Rattle.tree_base.specs.declared.Var.{Var}
+use Rattle.engine_types.specs.Specs.{empty_spec}
 use Rattle.engine_types.specs.declared.Condition.{Condition}
 use Rattle.engine_types.specs.declared.ContainerSpec.{ContainerSpec}
 use Rattle.engine_types.specs.declared.Declared.{Declared}
+use Rattle.engine_types.specs.declared.DeclaredService.{DeclaredService}
 use Rattle.engine_types.specs.declared.Entry.{Entry}
 use Rattle.engine_types.specs.declared.Observed.{Observed}
 use Rattle.engine_types.specs.declared.Outcome.{Outcome}
@@ -30,62 +32,13 @@ labels_of service hash =
 
 -- what the Engine is sent of a service with an image and no network
 abbrev pub plain_spec : List Var → List ℕ → ContainerSpec
-plain_spec labels image = record {
-  labels = labels;
-  platform = None;
-  image = Some image;
-  cmd = None;
-  entrypoint = None;
-  env = None;
-  hostname = None;
-  domainname = None;
-  user = None;
-  working_dir = None;
-  stop_signal = None;
-  open_stdin = None;
-  tty = None;
-  privileged = None;
-  readonly_rootfs = None;
-  init = None;
-  cap_add = None;
-  cap_drop = None;
-  security_opt = None;
-  group_add = None;
-  dns = None;
-  dns_search = None;
-  dns_options = None;
-  extra_hosts = None;
-  sysctls = None;
-  ipc_mode = None;
-  pid_mode = None;
-  userns_mode = None;
-  cpuset_cpus = None;
-  shm_size = None;
-  memory = None;
-  memory_reservation = None;
-  nano_cpus = None;
-  cpu_shares = None;
-  pids_limit = None;
-  ulimits = None;
-  devices = None;
-  log_config = None;
-  restart_policy = None;
-  exposed_ports = None;
-  port_bindings = None;
-  binds = None;
-  volumes = None;
-  tmpfs = None;
-  network_mode = Some (codes "none");
-  endpoints_config = None;
-  healthcheck = None;
-  stop_timeout = None;
-}
+plain_spec labels image = record empty_spec { labels = labels; image = Some image; network_mode = Some (codes "none") }
 
 -- the image
 abbrev pub nginx : List ℕ
 nginx = codes "nginx:1.25"
 
--- the service's slot; the hash stands for that of the configuration
+-- the service's slot; the hash stands for both of the configuration
 abbrev pub web : Slot
 web = record {
   service = codes "web";
@@ -95,6 +48,7 @@ web = record {
   policy = Policy.Missing;
   has_build = false;
   hash = codes "abc";
+  old_hash = codes "abc";
   spec = plain_spec (labels_of (codes "web") (codes "abc")) nginx;
   attach = [];
   needs = [];
@@ -102,9 +56,13 @@ web = record {
   stop_seconds = 10;
 }
 
+-- a service that depends on no other one and is replaced at once
+abbrev pub service_of : List ℕ → DeclaredService
+service_of key = record { key = key; depends_on = []; roll = None }
+
 -- the project `shop`, which declares `web` alone
 abbrev pub shop : Declared
-shop = record { project = codes "shop"; slots = web ∷ []; networks = []; volumes = [] }
+shop = record { project = codes "shop"; slots = web ∷ []; services = service_of (codes "web") ∷ []; networks = []; volumes = [] }
 
 -- one worker, no deadline, and no waiting for goals
 abbrev pub plain_limits : RunLimits

@@ -5,18 +5,19 @@ use Rattle.std.specs.Option.{option_map_or}
 use Rattle.std.specs.Str.{bytes_eq}
 use Rattle.engine_types.specs.declared.Action.{Action}
 use Rattle.engine_types.specs.declared.ActionKind.{ActionKind}
-use Rattle.engine_types.specs.declared.ActionKind.TheVariants.{MakeVolume, MakeNetwork, StopContainer, RemoveContainer, CreateSlot, ConnectSlot, StartSlot, RemoveNetwork, RemoveVolume}
+use Rattle.engine_types.specs.declared.ActionKind.TheVariants.{MakeVolume, MakeNetwork, StopContainer, RemoveContainer, CreateSlot, ConnectSlot, StopKept, StartSlot, RemoveNetwork, RemoveVolume}
 use Rattle.engine_types.specs.declared.Attach.{Attach}
 use Rattle.engine_types.specs.declared.Condition.{Condition}
 use Rattle.engine_types.specs.declared.ContainerSpec.{ContainerSpec}
 use Rattle.engine_types.specs.declared.Declared.{Declared}
+use Rattle.engine_types.specs.declared.DeclaredService.{DeclaredService}
 use Rattle.engine_types.specs.declared.Listed.{Listed}
 use Rattle.engine_types.specs.declared.Need.{Need}
 use Rattle.engine_types.specs.declared.Purpose.{Purpose}
 use Rattle.engine_types.specs.declared.Seen.{Seen}
 use Rattle.engine_types.specs.declared.Slot.{Slot}
 use Rattle.run_model.specs.EngineRules.{Among, is_live, is_of_project}
-use Rattle.run_model.specs.Labels.{agrees, has_slot_service, names_service, names_slot}
+use Rattle.run_model.specs.Labels.{agrees, has_declared_service, is_of_slot, names_service, names_slot}
 use Rattle.run_model.specs.Observation.{is_up}
 use Rattle.tree_base.specs.ByteOrder.{IsAscending, by_key, is_before, least_by}
 use Rattle.run_model.specs.Numbers.{places}
@@ -65,12 +66,17 @@ kept declared seen s = option_and_then (kept_of declared seen) (slot_at declared
 abbrev pub is_kept : Declared → Seen → Listed → Bool
 is_kept declared seen row = list_any (λ slot. option_map_or (λ other. bytes_eq other.id row.id) (kept_of declared seen slot) false) declared.slots
 
--- whether a container is to go: it is of the project, and an orphan where these are asked for, else one of a slot's
+-- the places, among the containers that were seen, of those that the slots keep
+abbrev pub AreKeptPlaces : Declared → Seen → List (Option ℕ) → Type 0
+AreKeptPlaces declared seen kept_places =
+    map (option_and_then (slice_get seen.containers)) kept_places ≡ map (kept_of declared seen) declared.slots
+
+-- whether a container is to go: it is of the project, and an orphan where these are asked for, else one of a declared
 -- service that `up` doesn't keep
 abbrev pub is_removed : Basis → Listed → Bool
 is_removed basis row =
     is_of_project basis.declared.project row.labels
-    && (if has_slot_service basis.declared row.labels then not (is_up basis.aim.purpose && is_kept basis.declared basis.seen row) else basis.aim.orphans)
+    && (if has_declared_service basis.declared row.labels then not (is_up basis.aim.purpose && is_kept basis.declared basis.seen row) else basis.aim.orphans)
 
 -- whether a network with this name was seen
 abbrev pub is_network_seen : Seen → List ℕ → Bool
@@ -92,9 +98,30 @@ is_unattached basis slot k = option_map_or (λ attach. of attach (kept_of basis.
     of attach (Some row) = not (list_any (bytes_eq (network_name basis.declared attach)) row.networks)
     of attach None = not (k == 0)
 
--- whether a slot's container is to be started: no live one is kept
+-- whether a slot keeps a live container
+abbrev pub keeps_live : Declared → Seen → Slot → Bool
+keeps_live declared seen slot = option_map_or (λ row. is_live row.state) (kept_of declared seen slot) false
+
+-- whether a container of a slot was seen
+abbrev pub has_container : Declared → Seen → Slot → Bool
+has_container declared seen slot = list_any (λ row. is_of_slot declared.project slot row.labels) seen.containers
+
+-- whether a slot is updated by `up`: it keeps no container, so that one is created, and a container of it was seen
+abbrev pub is_updated : Declared → Seen → Slot → Bool
+is_updated declared seen slot = not (is_some (kept_of declared seen slot)) && has_container declared seen slot
+
+-- whether a need asks for a restart: it says so, and the slot that is needed is updated; `restart` of the Compose
+-- Specification's `depends_on`
+abbrev pub asks_restart : Declared → Seen → Need → Bool
+asks_restart declared seen need = need.restart && option_map_or (is_updated declared seen) (slot_at declared need.slot) false
+
+-- whether the container that a slot keeps is stopped, to start anew: it is live, and a need of the slot asks for a restart
+abbrev pub is_restarted : Declared → Seen → Slot → Bool
+is_restarted declared seen slot = keeps_live declared seen slot && list_any (asks_restart declared seen) slot.needs
+
+-- whether a slot's container is to be started: no live one is kept, or the one that is kept is stopped
 abbrev pub is_unstarted : Basis → Slot → Bool
-is_unstarted basis slot = option_map_or (λ row. not (is_live row.state)) (kept_of basis.declared basis.seen slot) true
+is_unstarted basis slot = not (keeps_live basis.declared basis.seen slot) || is_restarted basis.declared basis.seen slot
 
 -- whether the plan has an action
 abbrev pub is_wanted : Basis → ActionKind → Bool
@@ -106,6 +133,7 @@ is_wanted basis (StopContainer c) = option_map_or (is_removed basis) (slice_get 
 is_wanted basis (RemoveContainer c) = option_map_or (is_removed basis) (slice_get basis.seen.containers c) false
 is_wanted basis (CreateSlot s) = is_up basis.aim.purpose && option_map_or (λ slot. not (is_some (kept_of basis.declared basis.seen slot))) (slot_at basis.declared s) false
 is_wanted basis (ConnectSlot s k) = is_up basis.aim.purpose && option_map_or (λ slot. is_unattached basis slot k) (slot_at basis.declared s) false
+is_wanted basis (StopKept s) = is_up basis.aim.purpose && option_map_or (is_restarted basis.declared basis.seen) (slot_at basis.declared s) false
 is_wanted basis (StartSlot s) = is_up basis.aim.purpose && option_map_or (is_unstarted basis) (slot_at basis.declared s) false
 is_wanted basis (RemoveNetwork n) = not (is_up basis.aim.purpose)
     && option_map_or (λ network. not network.external && is_network_seen basis.seen network.name) (slice_get basis.declared.networks n) false
@@ -120,16 +148,18 @@ is_bound_by spec name = list_any (λ bind. bytes_eq name (before_first (λ c. c 
 abbrev pub attaches_to : ℕ → Slot → Bool
 attaches_to n slot = list_any (λ attach. attach.network == n) slot.attach
 
--- whether a container's service depends on another container's
+-- whether a container's service depends on another container's: the Compose Specification's `depends_on`
 abbrev pub depends_on : Declared → Listed → Listed → Bool
-depends_on declared row other = list_any (λ slot. names_service slot.service row.labels && list_any needs_other slot.needs) declared.slots
-  where
-    needs_other : Need → Bool
-    needs_other need = option_map_or (λ slot. names_service slot.service other.labels) (slot_at declared need.slot) false
+depends_on declared row other =
+    list_any (λ service. names_service service.key row.labels && list_any (λ key. names_service key other.labels) service.depends_on) declared.services
 
 -- whether a container is of a slot or has its name
 abbrev pub is_in_way : Slot → Listed → Bool
 is_in_way slot row = names_slot slot row.labels || bytes_eq row.name slot.name
+
+-- whether a need of a slot asks for a restart by the update of the slot with this number
+abbrev pub restarts_for : Declared → Seen → ℕ → Slot → Bool
+restarts_for declared seen t slot = list_any (λ need. (need.slot == t) && asks_restart declared seen need) slot.needs
 
 -- whether an action needs another one to have ended well
 abbrev pub is_needed_by : Basis → ActionKind → ActionKind → Bool
@@ -147,7 +177,9 @@ is_needed_by basis (ConnectSlot s k) (CreateSlot t) = s == t
 is_needed_by basis (ConnectSlot s k) (MakeNetwork n) =
     option_map_or (λ slot. option_map_or (λ attach. attach.network == n) (slice_get slot.attach k) false) (slot_at basis.declared s) false
 is_needed_by basis (StartSlot s) (CreateSlot t) = s == t
+is_needed_by basis (StopKept s) (StartSlot t) = option_map_or (restarts_for basis.declared basis.seen t) (slot_at basis.declared s) false
 is_needed_by basis (StartSlot s) (ConnectSlot t k) = s == t
+is_needed_by basis (StartSlot s) (StopKept t) = s == t
 is_needed_by basis (RemoveNetwork n) (RemoveContainer c) = true
 is_needed_by basis (RemoveVolume v) (RemoveContainer c) = true
 is_needed_by _ _ _ = false
@@ -164,6 +196,7 @@ possible basis =
     ++ flat_map (λ c. StopContainer c ∷ RemoveContainer c ∷ []) (places_by_id basis.seen.containers)
     ++ map (λ s. CreateSlot s) (places basis.declared.slots)
     ++ flat_map (λ s. map (λ k. ConnectSlot s k) (places (attaches s))) (places basis.declared.slots)
+    ++ map (λ s. StopKept s) (places basis.declared.slots)
     ++ map (λ s. StartSlot s) (places basis.declared.slots)
     ++ map (λ n. RemoveNetwork n) (places basis.declared.networks)
     ++ map (λ v. RemoveVolume v) (places basis.declared.volumes)
@@ -217,7 +250,16 @@ pub record IsPlanOf (basis : Basis) (actions : List Action) : Type 0 where
   pub needs : (a b : ℕ) (kind other : ActionKind) → kind_of actions a ≡ Some kind → kind_of actions b ≡ Some other
       → (Among (needs_of actions a) b ↔ (is_needed_by basis kind other ≡ true))
 
--- a plan leaves kept containers alone: none is stopped or removed, and no slot that keeps one gets another
+-- actions that carry a plan out: exactly those that are wanted, each once, and each needs at least those that it is said to need
+pub record CarriesOut (basis : Basis) (actions : List Action) : Type 0 where
+  pub wanted : (a : ℕ) (kind : ActionKind) → kind_of actions a ≡ Some kind → is_wanted basis kind ≡ true
+  pub all : (kind : ActionKind) → is_wanted basis kind ≡ true → (a : ℕ) × (kind_of actions a ≡ Some kind)
+  pub once : (a b : ℕ) (kind : ActionKind) → kind_of actions a ≡ Some kind → kind_of actions b ≡ Some kind → a ≡ b
+  pub needs : (a b : ℕ) (kind other : ActionKind) → kind_of actions a ≡ Some kind → kind_of actions b ≡ Some other
+      → is_needed_by basis kind other ≡ true → Among (needs_of actions a) b
+
+-- a plan leaves kept containers alone: none is stopped but by a stop of its slot's kept container, or removed, and no slot
+-- that keeps one gets another
 pub record LeavesKept (basis : Basis) : Type 0 where
   pub stops : (c : ℕ) (row : Listed) → slice_get basis.seen.containers c ≡ Some row → is_kept basis.declared basis.seen row ≡ true
       → is_wanted basis (StopContainer c) ≡ false
@@ -276,12 +318,20 @@ abbrev pub is_running : Condition → Bool
 is_running Condition.Running = true
 is_running _ = false
 
--- a whole declared set: slots in byte order of service, then by number, networks and volumes in byte order of name;
--- attaches and needs name networks and slots that are there, and no need asks for Running
+-- each slot is of a declared service
+abbrev pub HasServices : Declared → Type 0
+HasServices declared = (slot : Slot) → Among declared.slots slot → list_any (λ service. bytes_eq service.key slot.service) declared.services ≡ true
+
+-- a whole declared set: slots in byte order of service, then by number, services in byte order of key, networks and volumes
+-- in byte order of name; each slot is of a declared service, attaches and needs name networks and slots that are there, no need
+-- asks for Running, and a rolling update replaces at least one slot at a time
 pub record IsWhole (declared : Declared) : Type 0 where
   pub slots : IsAscending is_slot_before declared.slots
+  pub services : IsAscending (λ service other. is_before service.key other.key) declared.services
+  pub owners : HasServices declared
   pub networks : IsAscending (λ network other. is_before network.name other.name) declared.networks
   pub volumes : IsAscending (λ volume other. is_before volume.name other.name) declared.volumes
   pub attaches : (slot : Slot) (attach : Attach) → Among declared.slots slot → Among slot.attach attach → attach.network < length declared.networks
   pub needs : (slot : Slot) (need : Need) → Among declared.slots slot → Among slot.needs need → need.slot < length declared.slots
   pub conditions : (slot : Slot) (need : Need) → Among declared.slots slot → Among slot.needs need → is_running need.condition ≡ false
+  pub rolls : (service : DeclaredService) → Among declared.services service → service.roll ≡ Some 0 → ⊥

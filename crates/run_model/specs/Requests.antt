@@ -3,7 +3,7 @@ use Rattle.std.specs.Prelude.{ℕ, if◌then◌else◌, ◌==◌, List, [], ◌�
 use Rattle.std.specs.Option.{option_map_or}
 use Rattle.std.specs.Str.{bytes_eq}
 use Rattle.engine_types.specs.declared.ActionKind.{ActionKind}
-use Rattle.engine_types.specs.declared.ActionKind.TheVariants.{MakeVolume, MakeNetwork, StopContainer, RemoveContainer, CreateSlot, ConnectSlot, StartSlot, RemoveNetwork, RemoveVolume}
+use Rattle.engine_types.specs.declared.ActionKind.TheVariants.{MakeVolume, MakeNetwork, StopContainer, RemoveContainer, CreateSlot, ConnectSlot, StopKept, StartSlot, RemoveNetwork, RemoveVolume}
 use Rattle.engine_types.specs.declared.Attach.{Attach}
 use Rattle.engine_types.specs.declared.Entry.{Entry}
 use Rattle.engine_types.specs.declared.Listed.{Listed}
@@ -11,7 +11,7 @@ use Rattle.engine_types.specs.declared.Reply.{Reply}
 use Rattle.engine_types.specs.declared.Request.{Request}
 use Rattle.run_model.specs.Journals.{Holding, Nothing, Setup, Standing, Watch, Well, Work, holding, standing}
 use Rattle.run_model.specs.Labels.{names_slot}
-use Rattle.run_model.specs.Plans.{create_of, kept, kind_of, make_of, slot_at}
+use Rattle.run_model.specs.Plans.{create_of, kept, kept_of, kind_of, make_of, slot_at}
 
 -- the id that a create or a make was told
 abbrev pub made_id : Standing → Option (List ℕ)
@@ -57,6 +57,8 @@ request_of setup past (RemoveContainer c) = option_map (λ row. Request.Remove r
 request_of setup past (CreateSlot s) = option_map (λ slot. Request.Create slot.name slot.spec) (slot_at setup.declared s)
 request_of setup past (ConnectSlot s k) =
     option_and_then (λ slot. option_and_then (connect_request setup past s) (slice_get slot.attach k)) (slot_at setup.declared s)
+request_of setup past (StopKept s) =
+    option_and_then (λ slot. option_map (λ row. Request.Stop row.id slot.stop_seconds) (kept_of setup.declared setup.seen slot)) (slot_at setup.declared s)
 request_of setup past (StartSlot s) = option_map (λ id. Request.Start id) (slot_id setup past s)
 request_of setup past (RemoveNetwork n) = option_map (λ id. Request.RemoveNetwork id) (network_id setup past n)
 request_of setup past (RemoveVolume v) = option_map (λ spec. Request.RemoveVolume spec.name) (slice_get setup.declared.volumes v)

@@ -12,7 +12,8 @@ use Rattle.run_model.specs.Journals.{Setup, seen_in}
 use Rattle.run_model.specs.Legal.{IsLegal}
 use Rattle.run_model.specs.Lines.{report_text}
 use Rattle.run_model.specs.Logs.{exchanges_of}
-use Rattle.run_model.specs.Plans.{Aim, planned}
+use Rattle.run_model.specs.Plans.{Aim}
+use Rattle.run_model.specs.Rolling.{run_actions}
 use Rattle.run_model.specs.Worlds.{IsWorldOf, Move}
 
 -- what a run is asked to do: for which declared set, with which aim, and within which limits
@@ -29,12 +30,12 @@ unseen = record { containers = []; networks = []; volumes = []; images = [] }
 abbrev pub run_seen : List Entry → Seen
 run_seen journal = unwrap_or (seen_in (reverse journal)) unseen
 
--- what a run is of: its plan is made from what its observation saw
+-- what a run is of: its actions are planned from what its observation saw
 abbrev pub run_setup : Task → List Entry → Setup
 run_setup task journal = record {
   declared = task.declared;
   seen = run_seen journal;
-  actions = planned (record { declared = task.declared; seen = run_seen journal; aim = task.aim });
+  actions = run_actions (record { declared = task.declared; seen = run_seen journal; aim = task.aim });
   limits = task.limits;
 }
 

@@ -3,6 +3,7 @@ use Rattle.std.specs.Prelude.{ℕ, true, false, List, [], ◌∷◌, ◌++◌, S
 use Rattle.engine_types.specs.declared.Condition.{Condition}
 use Rattle.engine_types.specs.declared.ContainerState.{ContainerState}
 use Rattle.engine_types.specs.declared.Declared.{Declared}
+use Rattle.engine_types.specs.declared.DeclaredService.{DeclaredService}
 use Rattle.engine_types.specs.declared.Entry.{Entry}
 use Rattle.engine_types.specs.declared.Health.{Health}
 use Rattle.engine_types.specs.declared.Need.{Need}
@@ -13,7 +14,7 @@ use Rattle.engine_types.specs.declared.Reply.{Reply}
 use Rattle.engine_types.specs.declared.Request.{Request}
 use Rattle.engine_types.specs.declared.SeenEnd.{SeenEnd}
 use Rattle.engine_types.specs.declared.Slot.{Slot}
-use Rattle.run_model.specs.OneService.{labels_of, plain_spec}
+use Rattle.run_model.specs.OneService.{labels_of, plain_spec, service_of}
 use Rattle.run_model.specs.Told.{answered}
 
 -- the image of all three
@@ -30,6 +31,7 @@ slot_of service needs = record {
   policy = Policy.Missing;
   has_build = false;
   hash = codes "abc";
+  old_hash = codes "abc";
   spec = plain_spec (labels_of service (codes "abc")) busybox;
   attach = [];
   needs = needs;
@@ -48,11 +50,16 @@ db = record (slot_of (codes "db") []) {
 
 -- the slot that waits for the other two
 abbrev pub web : Slot
-web = slot_of (codes "web") (record { slot = 0; condition = Condition.Healthy; required = true } ∷ record { slot = 1; condition = Condition.Completed; required = true } ∷ [])
+web = slot_of (codes "web") (record { slot = 0; condition = Condition.Healthy; required = true; restart = false }
+    ∷ record { slot = 1; condition = Condition.Completed; required = true; restart = false } ∷ [])
 
 -- the project of the three
 abbrev pub shop : Declared
-shop = record { project = codes "shop"; slots = db ∷ slot_of (codes "mig") [] ∷ web ∷ []; networks = []; volumes = [] }
+shop = record { project = codes "shop"; slots = db ∷ slot_of (codes "mig") [] ∷ web ∷ []; services = services; networks = []; volumes = [] }
+  where
+    services : List DeclaredService
+    services = service_of (codes "db") ∷ service_of (codes "mig")
+        ∷ record { key = codes "web"; depends_on = codes "db" ∷ codes "mig" ∷ []; roll = None } ∷ []
 
 -- the image is there, and nothing else
 abbrev pub seen_image : Observed

@@ -19,7 +19,7 @@ use Rattle.engine_types.specs.declared.Seen.{Seen}
 use Rattle.engine_types.specs.declared.SeenEnd.{SeenEnd}
 use Rattle.engine_types.specs.declared.Slot.{Slot}
 use Rattle.engine_types.specs.declared.WireEnd.{WireEnd}
-use Rattle.run_model.specs.OneService.{labels_of, nginx, plain_spec}
+use Rattle.run_model.specs.OneService.{labels_of, nginx, plain_spec, service_of}
 use Rattle.run_model.specs.Told.{answered}
 
 -- the labels of a network of the project `shop`
@@ -51,7 +51,13 @@ web = record Rattle.run_model.specs.OneService.web {
 
 -- the project, which declares `web` and both networks
 abbrev pub shop : Declared
-shop = record { project = codes "shop"; slots = web ∷ []; networks = network_of (codes "a") ∷ network_of (codes "b") ∷ []; volumes = [] }
+shop = record {
+  project = codes "shop";
+  slots = web ∷ [];
+  services = service_of (codes "web") ∷ [];
+  networks = network_of (codes "a") ∷ network_of (codes "b") ∷ [];
+  volumes = [];
+}
 
 -- a row of a listing of networks
 abbrev pub network_row : List ℕ → List ℕ → NetRow

@@ -1,4 +1,4 @@
-ghost use Rattle.run_model.specs.Laws.{ActionsAreClaimedOnce, AsksAreAnswered, ClaimsAreAllowed, EachExchangeIsAsked, KeptAreLeftAlone, PlannedIsPlan, RefusalChangesNothing, SeenIsTold, StatusIsZeroWithoutFault};
+ghost use Rattle.run_model.specs.Laws.{ActionsAreClaimedOnce, AsksAreAnswered, ClaimsAreAllowed, EachExchangeIsAsked, KeptAreLeftAlone, PlannedIsPlan, RefusalChangesNothing, RunsHavePlans, SeenIsTold, StatusIsZeroWithoutFault, UnrolledIsPlanned};
 
 /// A refusal changes nothing.
 pub fn refusal_changes_nothing()
@@ -14,6 +14,16 @@ pub fn status_is_zero_without_fault()
 /// it is said to need.
 pub fn planned_is_plan()
     ensures { PlannedIsPlan }
+{}
+
+/// The actions of a run are those of its plan, and each needs at least what it needs there.
+pub fn runs_have_plans()
+    ensures { RunsHavePlans }
+{}
+
+/// Where no service is to be replaced a few slots at a time, the actions of a run are those of its plan, with its needs.
+pub fn unrolled_is_planned()
+    ensures { UnrolledIsPlanned }
 {}
 
 /// Each claim of a legal journal stands where its action is allowed: it wasn't claimed before, all that it needs
@@ -32,8 +42,8 @@ pub fn asks_are_answered()
     ensures { AsksAreAnswered }
 {}
 
-/// Where the ids of the seen containers differ, a plan of `up` stops and removes no kept container, and creates no
-/// other one for its slot.
+/// Where the ids of the seen containers differ and each slot is of a declared service, a plan of `up` removes no kept
+/// container, stops none but by the stop that a restart asks for, and creates no other one for its slot.
 pub fn kept_are_left_alone()
     ensures { KeptAreLeftAlone }
 {}

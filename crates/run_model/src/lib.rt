@@ -12,13 +12,14 @@ mod verdict;
 
 pub use laws::{
     actions_are_claimed_once, asks_are_answered, claims_are_allowed, each_exchange_is_asked,
-    kept_are_left_alone, planned_is_plan, refusal_changes_nothing, seen_is_told,
-    status_is_zero_without_fault,
+    kept_are_left_alone, planned_is_plan, refusal_changes_nothing, runs_have_plans, seen_is_told,
+    status_is_zero_without_fault, unrolled_is_planned,
 };
 pub use rows::{
     failed_condition_is_refused, four_services_come_up, lost_create_is_found,
     lost_create_is_made_once, missing_image_is_refused, name_in_use_is_refused,
-    observations_of_two_networks, one_service_comes_up, one_service_is_exact,
-    plans_of_two_networks, runs_end_early, second_run_and_down, workers_find_other_work,
+    needed_service_is_updated, observations_of_two_networks, one_service_comes_up,
+    one_service_is_exact, plans_of_two_networks, plans_of_updates, runs_end_early,
+    second_run_and_down, workers_find_other_work,
 };
 pub use verdict::Verdict;

@@ -7,19 +7,22 @@ ghost use Rattle.engine_types.specs.declared.Reply.{Reply};
 ghost use Rattle.engine_types.specs.declared.Request.{Request};
 ghost use Rattle.engine_types.specs.declared.SeenEnd.{SeenEnd};
 ghost use Rattle.engine_types.specs.declared.SeenFault.{SeenFault};
+ghost use Rattle.run_model.specs.Labels.{agrees};
 ghost use Rattle.run_model.specs.Legal.{Look, Pause, decision};
 ghost use Rattle.run_model.specs.Lines.{fault_text};
-ghost use Rattle.run_model.specs.OneService.{comes_up, creates_still, name_in_use, nginx, no_image, shop, upping, upping_by_two, web};
+ghost use Rattle.run_model.specs.OneService.{comes_up, creates_still, labels_of, name_in_use, nginx, no_image, shop, upping, upping_by_two, web};
 ghost use Rattle.run_model.specs.Told.{answered};
 ghost use Rattle.run_model.specs.OneWorld.{fresh, moves, up};
 ghost use Rattle.run_model.specs.FourServices as four;
 ghost use Rattle.run_model.specs.OtherRuns.{checked, comes_again, downing, goes_down, is_stopped, runs_late, runs_short, waiting};
 ghost use Rattle.run_model.specs.ThreeServices as three;
 ghost use Rattle.run_model.specs.TwoNetworks as two;
+ghost use Rattle.run_model.specs.Updates as updates;
 ghost use Rattle.run_model.specs.TwoWorlds as worlds;
 ghost use Rattle.run_model.specs.Observation.{Asks, Ends, Strays, observed};
 ghost use Rattle.run_model.specs.Plans.{down_basis, planned, up_basis};
 ghost use Rattle.run_model.specs.Exact.{IsExact};
+ghost use Rattle.run_model.specs.Rolling.{run_actions};
 ghost use Rattle.run_model.specs.Cuts.{Runs, creates, creates_over};
 ghost use Rattle.run_model.specs.Runs.{IsRun, IsWorldOfRun, run_fault, run_report, run_setup, run_status};
 
@@ -150,4 +153,26 @@ pub fn lost_create_is_made_once()
     ensures runs { Runs two.shop (λ image. codes "sha") worlds.bare worlds.both_runs worlds.after }
     ensures once { creates_over two.shop two.web worlds.both_runs ≡ 1 }
     ensures exact { IsExact two.shop worlds.after true }
+{}
+
+/// A service that depends on another one with `restart` is stopped and started once that one is replaced.
+pub fn needed_service_is_updated()
+    ensures plan { (run_setup (upping updates.restarting) updates.restarts).actions ≡ updates.restarting_plan }
+    ensures run { IsRun (upping updates.restarting) updates.restarts }
+    ensures status { run_status (upping updates.restarting) updates.restarts ≡ 0 }
+    ensures report { run_report (upping updates.restarting) updates.restarts
+        ≡ codes "container shop-db-1 stopped\ncontainer shop-db-1 removed\ncontainer shop-db-1 created\ncontainer shop-db-1 started\n"
+        ++ codes "container shop-web-1 stopped\ncontainer shop-web-1 started\n" }
+{}
+
+/// A rolling update of three slots, one and two at a time, and all at once; `down` of a service on which one without
+/// slots depends; and a container's hash, which is compared by its version.
+pub fn plans_of_updates()
+    ensures one { run_actions (updates.rolls (Some 1)) ≡ updates.replacing (9 ∷ []) (10 ∷ []) (0 ∷ 6 ∷ []) (2 ∷ 7 ∷ []) (4 ∷ 8 ∷ []) }
+    ensures two { run_actions (updates.rolls (Some 2)) ≡ updates.replacing [] (9 ∷ []) (0 ∷ 6 ∷ []) (2 ∷ 7 ∷ []) (4 ∷ 8 ∷ []) }
+    ensures all { run_actions (updates.rolls None) ≡ updates.replacing [] [] (6 ∷ []) (7 ∷ []) (8 ∷ []) }
+    ensures down { run_actions updates.downs ≡ updates.down_plan }
+    ensures old { agrees (codes "shop") updates.rehashed (Some (codes "sha")) (labels_of (codes "web") (codes "abc")) (codes "sha") ContainerState.Running ≡ true }
+    ensures stale { agrees (codes "shop") updates.rehashed (Some (codes "sha")) (updates.labels_of_two (codes "abc")) (codes "sha") ContainerState.Running ≡ false }
+    ensures new { agrees (codes "shop") updates.rehashed (Some (codes "sha")) (updates.labels_of_two (codes "new")) (codes "sha") ContainerState.Running ≡ true }
 {}

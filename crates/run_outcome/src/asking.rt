@@ -15,6 +15,7 @@ use crate::ids::{network_id, slot_id};
 use crate::run::Run;
 use crate::stopping::stop_seconds;
 use engine_types::{ActionKind, Attach, Declared, Entry, Request, Seen};
+use run_lookups::stop_kept;
 use std::alloc::Global;
 use tree_base::{Memory, TryCopy};
 
@@ -94,6 +95,7 @@ fn request_of(
         ActionKind::RemoveContainer { container } => remove(alloc, run.seen, container),
         ActionKind::CreateSlot { slot } => create(alloc, run.declared, slot),
         ActionKind::ConnectSlot { slot, attach } => connect_slot(alloc, run, past, slot, attach),
+        ActionKind::StopKept { slot } => stop_kept(alloc, run.declared, run.seen, slot),
         ActionKind::StartSlot { slot } => start(alloc, run, past, slot),
         ActionKind::RemoveNetwork { network } => remove_network(alloc, run, past, network),
         ActionKind::RemoveVolume { volume } => remove_volume(alloc, run.declared, volume),

@@ -162,6 +162,7 @@ fn id_in(reply: &Reply) -> Option<&Text>
         Reply::Made(id) => Some(id),
         Reply::Containers(_) => None,
         Reply::State(_) => None,
+        Reply::Bytes(_) => None,
         Reply::Done => None,
         Reply::Already => None,
         Reply::Networks(_) => None,

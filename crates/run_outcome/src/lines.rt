@@ -21,6 +21,7 @@ pub(crate) fn done_line(alloc: Global, run: &Run<'_>, kind: ActionKind) -> Resul
         ActionKind::RemoveContainer { container } => seen_line(alloc, run, container, " removed"),
         ActionKind::CreateSlot { slot } => slot_line(alloc, run, slot, " created"),
         ActionKind::ConnectSlot { slot, attach } => connected(alloc, run, slot, attach),
+        ActionKind::StopKept { slot } => slot_line(alloc, run, slot, " stopped"),
         ActionKind::StartSlot { slot } => slot_line(alloc, run, slot, " started"),
         ActionKind::RemoveNetwork { network } => network_line(alloc, run, network, " removed"),
         ActionKind::RemoveVolume { volume } => volume_line(alloc, run, volume, " removed"),

@@ -23,7 +23,7 @@ module _ (declared : Declared) (seen : Seen) (actions : List Action) (aim : Aim)
   setup = serial_setup declared seen actions
 
   lower : (a b : ℕ) → Among (needs_of actions a) b → b < a
-  lower a b m = needs_lower declared seen aim a b (inr g.unconditional) (subst (λ (xs : List Action). Among (needs_of xs a) b) g.is_planned m)
+  lower a b m = needs_lower declared seen aim a b g.unconditional (subst (λ (xs : List Action). Among (needs_of xs a) b) g.is_planned m)
 
   pub few : length actions ≤ 65536
   few =

@@ -21,16 +21,16 @@ use Rattle.run_model.specs.Plans.{kind_of, needs_of, slot_at, slot_needs}
 use Rattle.run_model.specs.Numbers.{places}
 use Rattle.run_model.proofs.DistinctLists.{from_numbers, from_place}
 use Rattle.serial_run.proofs.Lists.{all_each, all_from, any_at, any_none, find_none, find_number}
-use Rattle.serial_run.specs.Serial.{NeedsNoSlot, is_clear, is_well_mark, serial_setup}
+use Rattle.serial_run.specs.Serial.{WaitsForNone, is_clear, is_well_mark, serial_setup}
 use Rattle.serial_run.specs.declared.mark.Mark.{Mark}
 
 -- no action waits for a condition
-pub waits_for_none : (declared : Declared) (kind : Option ActionKind) → NeedsNoSlot declared → slot_needs declared kind ≡ []
+pub waits_for_none : (declared : Declared) (kind : Option ActionKind) → WaitsForNone declared → slot_needs declared kind ≡ []
 waits_for_none declared (Some (StartSlot s)) plain = at (slot_at declared s) refl
   where
     at : (o : Option Slot) → slot_at declared s ≡ o → option_map_or (λ slot. slot.needs) o [] ≡ []
     at None e = refl
-    at (Some slot) e = plain slot (from_place declared.slots s slot e)
+    at (Some slot) e = plain.slots slot (from_place declared.slots s slot e)
 waits_for_none declared _ plain = refl
 
 -- how actions stand after these entries, by their marks: what is blocked needs one that didn't end well
@@ -54,7 +54,7 @@ well_mark (Mark.Well place) e = (place, refl)
 well_mark Mark.Badly e = absurd (cc e)
 well_mark Mark.Blocked e = absurd (cc e)
 
-module _ (declared : Declared) (seen : Seen) (actions : List Action) (plain : NeedsNoSlot declared) where
+module _ (declared : Declared) (seen : Seen) (actions : List Action) (plain : WaitsForNone declared) where
   abbrev setup : Setup
   setup = serial_setup declared seen actions
 

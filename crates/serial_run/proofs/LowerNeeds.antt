@@ -1,25 +1,26 @@
--- Each action of a plan needs only actions with lower numbers, where no stop needs a removal.
+-- Each action of a plan needs only actions with lower numbers, where nothing that is declared waits for anything else.
 use Rattle.std.proofs.Common.{◌≡◌, ◌⊎◌, ℕ, zero, suc, ◌+◌, ◌<◌, ◌≤◌, Bool, true, false, not, List, [], ◌∷◌, ◌++◌, map, Option, Some, None, slice_get, refl, sym, ap, ◌∙◌, subst, inl, inr, arith}
 use Rattle.std.proofs.lemmas.Bool.{and_right, eqb-true}
 use Rattle.std.specs.Option.{option_map_or}
 use Rattle.std.specs.Prelude.{flat_map, ◌==◌}
 use Rattle.engine_types.specs.declared.Action.{Action}
 use Rattle.engine_types.specs.declared.ActionKind.{ActionKind}
-use Rattle.engine_types.specs.declared.ActionKind.TheVariants.{MakeVolume, MakeNetwork, StopContainer, RemoveContainer, CreateSlot, ConnectSlot, StartSlot, RemoveNetwork, RemoveVolume}
+use Rattle.engine_types.specs.declared.ActionKind.TheVariants.{MakeVolume, MakeNetwork, StopContainer, RemoveContainer, CreateSlot, ConnectSlot, StopKept, StartSlot, RemoveNetwork, RemoveVolume}
 use Rattle.engine_types.specs.declared.Attach.{Attach}
 use Rattle.engine_types.specs.declared.Declared.{Declared}
 use Rattle.engine_types.specs.declared.Listed.{Listed}
 use Rattle.engine_types.specs.declared.Seen.{Seen}
+use Rattle.engine_types.specs.declared.Slot.{Slot}
 use Rattle.run_model.specs.EngineRules.{Among}
 use Rattle.run_model.specs.Labels.{names_service}
 use Rattle.run_model.specs.Observation.{is_up}
-use Rattle.run_model.specs.Plans.{Aim, Basis, depends_on, is_needed_by, is_wanted, needed_by, needs_of, places_by_id, planned, planned_kinds, possible, slot_at}
+use Rattle.run_model.specs.Plans.{Aim, Basis, depends_on, is_needed_by, is_wanted, needed_by, needs_of, places_by_id, planned, planned_kinds, possible, restarts_for, slot_at}
 use Rattle.run_model.specs.Numbers.{places}
-use Rattle.run_model.proofs.DistinctLists.{Distinct, distinct_by_key, distinct_places, from_append, from_filter, from_flat_map, from_map}
+use Rattle.run_model.proofs.DistinctLists.{Distinct, distinct_by_key, distinct_places, from_append, from_filter, from_flat_map, from_map, from_place}
 use Rattle.run_model.proofs.PlanLaws.{some_from}
 use Rattle.serial_run.proofs.InOrder.{InOrder, all_apart, appended, filtered, needed_before}
 use Rattle.serial_run.proofs.Lists.{any_among_none}
-use Rattle.serial_run.specs.Serial.{NeedsNoSlot, basis_of}
+use Rattle.serial_run.specs.Serial.{WaitsForNone, basis_of}
 
 -- the row of the table of actions that a kind stands in
 abbrev level : ActionKind → ℕ
@@ -29,17 +30,28 @@ level (StopContainer c) = 2
 level (RemoveContainer c) = 2
 level (CreateSlot s) = 3
 level (ConnectSlot s k) = 4
-level (StartSlot s) = 5
-level (RemoveNetwork n) = 6
-level (RemoveVolume v) = 7
+level (StopKept s) = 5
+level (StartSlot s) = 6
+level (RemoveNetwork n) = 7
+level (RemoveVolume v) = 8
 
--- no stop needs a removal
-abbrev StopsNeedNone : Basis → Type 0
-StopsNeedNone basis = (c d : ℕ) → is_needed_by basis (StopContainer c) (RemoveContainer d) ≡ false
+-- no stop needs a removal or a start
+record StopsNeedNone (basis : Basis) : Type 0 where
+  removals : (c d : ℕ) → is_needed_by basis (StopContainer c) (RemoveContainer d) ≡ false
+  starts : (s t : ℕ) → is_needed_by basis (StopKept s) (StartSlot t) ≡ false
 
--- where no slot waits for another one, no container depends on another one
-independent : (declared : Declared) → NeedsNoSlot declared → (row other : Listed) → depends_on declared row other ≡ false
-independent declared plain row other = any_among_none _ declared.slots (λ slot m. rw (plain slot m) (and_right (names_service slot.service row.labels) false refl))
+-- where no service depends on another one, no container does
+independent : (declared : Declared) → WaitsForNone declared → (row other : Listed) → depends_on declared row other ≡ false
+independent declared plain row other =
+    any_among_none _ declared.services (λ service m. rw (plain.services service m) (and_right (names_service service.key row.labels) false refl))
+
+-- where no slot needs another one, none asks for a restart
+unasked : (basis : Basis) → WaitsForNone basis.declared → (s t : ℕ) → is_needed_by basis (StopKept s) (StartSlot t) ≡ false
+unasked basis plain s t = at (slot_at basis.declared s) refl
+  where
+    at : (o : Option Slot) → slot_at basis.declared s ≡ o → option_map_or (restarts_for basis.declared basis.seen t) o false ≡ false
+    at None e = refl
+    at (Some slot) e = rw (plain.slots slot (from_place basis.declared.slots s slot e)) refl
 
 -- a test of two options that no pair of things passes
 both_fail : {X Y : Type 0} (f : X → Y → Bool) (o : Option X) (p : Option Y) → ((x : X) (y : Y) → f x y ≡ false) → option_map_or (λ x. option_map_or (f x) p false) o false ≡ false
@@ -47,10 +59,12 @@ both_fail f None p each = refl
 both_fail f (Some x) None each = refl
 both_fail f (Some x) (Some y) each = each x y
 
-pub stops_need_none : (declared : Declared) (seen : Seen) (aim : Aim) → (is_up aim.purpose ≡ true) ⊎ NeedsNoSlot declared → StopsNeedNone (basis_of declared seen aim)
-stops_need_none declared seen aim (inl up) c d = rw up refl
-stops_need_none declared seen aim (inr plain) c d = and_right (not (is_up aim.purpose)) _
-    (both_fail (λ (row other : Listed). depends_on declared other row) (slice_get seen.containers c) (slice_get seen.containers d) (λ row other. independent declared plain other row))
+stops_need_none : (declared : Declared) (seen : Seen) (aim : Aim) → WaitsForNone declared → StopsNeedNone (basis_of declared seen aim)
+stops_need_none declared seen aim plain = record {
+  removals = λ c d. and_right (not (is_up aim.purpose)) _
+      (both_fail (λ (row other : Listed). depends_on declared other row) (slice_get seen.containers c) (slice_get seen.containers d) (λ row other. independent declared plain other row));
+  starts = unasked (basis_of declared seen aim) plain;
+}
 
 module _ (declared : Declared) (seen : Seen) (aim : Aim) (free : StopsNeedNone (basis_of declared seen aim)) where
   abbrev basis : Basis
@@ -60,7 +74,7 @@ module _ (declared : Declared) (seen : Seen) (aim : Aim) (free : StopsNeedNone (
   apart_rows : (x y : ActionKind) → level x ≤ level y → ((c d : ℕ) → x ≡ RemoveContainer c → y ≡ StopContainer d → c ≡ d → ⊥) → is_needed_by basis x y ≡ false
   apart_rows (MakeVolume v) y le apart = refl
   apart_rows (MakeNetwork n) y le apart = refl
-  apart_rows (StopContainer c) (RemoveContainer d) le apart = free c d
+  apart_rows (StopContainer c) (RemoveContainer d) le apart = free.removals c d
   apart_rows (StopContainer c) y le apart = refl
   apart_rows (RemoveContainer c) (StopContainer d) le apart = at (c == d) refl
     where
@@ -75,8 +89,11 @@ module _ (declared : Declared) (seen : Seen) (aim : Aim) (free : StopsNeedNone (
   apart_rows (ConnectSlot s k) (CreateSlot t) le apart = absurd (omega (arith, le))
   apart_rows (ConnectSlot s k) (MakeNetwork n) le apart = absurd (omega (arith, le))
   apart_rows (ConnectSlot s k) y le apart = refl
+  apart_rows (StopKept s) (StartSlot t) le apart = free.starts s t
+  apart_rows (StopKept s) y le apart = refl
   apart_rows (StartSlot s) (CreateSlot t) le apart = absurd (omega (arith, le))
   apart_rows (StartSlot s) (ConnectSlot t k) le apart = absurd (omega (arith, le))
+  apart_rows (StartSlot s) (StopKept t) le apart = absurd (omega (arith, le))
   apart_rows (StartSlot s) y le apart = refl
   apart_rows (RemoveNetwork n) (RemoveContainer c) le apart = absurd (omega (arith, le))
   apart_rows (RemoveNetwork n) y le apart = refl
@@ -90,7 +107,7 @@ module _ (declared : Declared) (seen : Seen) (aim : Aim) (free : StopsNeedNone (
       (λ c d e f g. not_two (sym (each x m) ∙ ap level e)))
 
   stop_needs_none : (c : ℕ) (y : ActionKind) → is_needed_by basis (StopContainer c) y ≡ false
-  stop_needs_none c (RemoveContainer d) = free c d
+  stop_needs_none c (RemoveContainer d) = free.removals c d
   stop_needs_none c y = refl
 
   abbrev ends_of : ℕ → List ActionKind
@@ -158,10 +175,11 @@ module _ (declared : Declared) (seen : Seen) (aim : Aim) (free : StopsNeedNone (
       (ends_in_order (places_by_id seen.containers) (distinct_by_key (λ (c : ℕ). option_map_or (λ (row : Listed). row.id) (slice_get seen.containers c) []) (places seen.containers) (distinct_places seen.containers))) in
       let r4 = row_joined 3 _ (map (λ (s : ℕ). CreateSlot s) (places declared.slots)) r3 (mapped_level (λ (s : ℕ). CreateSlot s) 3 (places declared.slots) (λ u. refl)) (λ e. omega (arith, e)) in
       let r5 = row_joined 4 _ (flat_map (λ (s : ℕ). map (λ (k : ℕ). ConnectSlot s k) (places (attaches s))) (places declared.slots)) r4 joins_level (λ e. omega (arith, e)) in
-      let r6 = row_joined 5 _ (map (λ (s : ℕ). StartSlot s) (places declared.slots)) r5 (mapped_level (λ (s : ℕ). StartSlot s) 5 (places declared.slots) (λ u. refl)) (λ e. omega (arith, e)) in
-      let r7 = row_joined 6 _ (map (λ (n : ℕ). RemoveNetwork n) (places declared.networks)) r6 (mapped_level (λ (n : ℕ). RemoveNetwork n) 6 (places declared.networks) (λ u. refl)) (λ e. omega (arith, e)) in
-      let r8 = row_joined 7 _ (map (λ (v : ℕ). RemoveVolume v) (places declared.volumes)) r7 (mapped_level (λ (v : ℕ). RemoveVolume v) 7 (places declared.volumes) (λ u. refl)) (λ e. omega (arith, e)) in
-      r8.ordered
+      let r6 = row_joined 5 _ (map (λ (s : ℕ). StopKept s) (places declared.slots)) r5 (mapped_level (λ (s : ℕ). StopKept s) 5 (places declared.slots) (λ u. refl)) (λ e. omega (arith, e)) in
+      let r7 = row_joined 6 _ (map (λ (s : ℕ). StartSlot s) (places declared.slots)) r6 (mapped_level (λ (s : ℕ). StartSlot s) 6 (places declared.slots) (λ u. refl)) (λ e. omega (arith, e)) in
+      let r8 = row_joined 7 _ (map (λ (n : ℕ). RemoveNetwork n) (places declared.networks)) r7 (mapped_level (λ (n : ℕ). RemoveNetwork n) 7 (places declared.networks) (λ u. refl)) (λ e. omega (arith, e)) in
+      let r9 = row_joined 8 _ (map (λ (v : ℕ). RemoveVolume v) (places declared.volumes)) r8 (mapped_level (λ (v : ℕ). RemoveVolume v) 8 (places declared.volumes) (λ u. refl)) (λ e. omega (arith, e)) in
+      r9.ordered
 
 -- the needs of a listed action
 needs_listed : (ns : ActionKind → List ℕ) (ks : List ActionKind) (a : ℕ)
@@ -170,8 +188,7 @@ needs_listed ns [] a = refl
 needs_listed ns (k ∷ ks) zero = refl
 needs_listed ns (k ∷ ks) (suc a) = needs_listed ns ks a
 
-pub needs_lower : (declared : Declared) (seen : Seen) (aim : Aim) (a b : ℕ) → (is_up aim.purpose ≡ true) ⊎ NeedsNoSlot declared
-    → Among (needs_of (planned (basis_of declared seen aim)) a) b → b < a
+pub needs_lower : (declared : Declared) (seen : Seen) (aim : Aim) (a b : ℕ) → WaitsForNone declared → Among (needs_of (planned (basis_of declared seen aim)) a) b → b < a
 needs_lower declared seen aim a b free m = at (slice_get ks a) refl (subst (λ (xs : List ℕ). Among xs b) (needs_listed (needed_by on ks) ks a) m)
   where
     on : Basis

@@ -8,20 +8,23 @@ use Rattle.engine_types.specs.declared.VolumeSpec.{VolumeSpec}
 use Rattle.run_model.specs.Plans.{IsWhole, is_too_long, planned}
 use Rattle.tree_base.specs.ByteOrder.{is_before}
 use Rattle.serial_run.specs.OneVolume.{look, making, nothing, shop, volume}
-use Rattle.serial_run.specs.Serial.{IsBegun, NeedsNoSlot, basis_of, up_aim}
+use Rattle.serial_run.specs.Serial.{IsBegun, WaitsForNone, basis_of, up_aim}
 
 module _ (declared : Declared) (is_shop : declared ≡ shop) where
-  pub unconditional : NeedsNoSlot declared
-  unconditional = subst (λ (d : Declared). NeedsNoSlot d) (sym is_shop) (λ slot m. absurd m)
+  pub unconditional : WaitsForNone declared
+  unconditional = subst (λ (d : Declared). WaitsForNone d) (sym is_shop) (record { slots = λ slot m. absurd m; services = λ service m. absurd m; rolls = λ service m. absurd m })
 
   pub whole : IsWhole declared
   whole = subst (λ (d : Declared). IsWhole d) (sym is_shop) (record {
     slots = λ i j x y l e f. absurd (cc e);
+    services = λ i j x y l e f. absurd (cc e);
+    owners = λ slot m. absurd m;
     networks = λ i j x y l e f. absurd (cc e);
     volumes = alone;
     attaches = λ slot attach m n. absurd m;
     needs = λ slot need m n. absurd m;
     conditions = λ slot need m n. absurd m;
+    rolls = λ service m e. absurd m;
   })
     where
       alone : (i j : ℕ) (x y : VolumeSpec) → i < j → slice_get (volume ∷ []) i ≡ Some x → slice_get (volume ∷ []) j ≡ Some y → is_before x.name y.name ≡ true

@@ -8,7 +8,7 @@ use Rattle.std.specs.Prelude.{if◌then◌else◌, ◌==◌, filter, find, is_so
 use Rattle.std.specs.Str.{bytes_eq}
 use Rattle.engine_types.specs.declared.Action.{Action}
 use Rattle.engine_types.specs.declared.ActionKind.{ActionKind}
-use Rattle.engine_types.specs.declared.ActionKind.TheVariants.{MakeVolume, MakeNetwork, StopContainer, RemoveContainer, CreateSlot, ConnectSlot, StartSlot, RemoveNetwork, RemoveVolume}
+use Rattle.engine_types.specs.declared.ActionKind.TheVariants.{MakeVolume, MakeNetwork, StopContainer, RemoveContainer, CreateSlot, ConnectSlot, StopKept, StartSlot, RemoveNetwork, RemoveVolume}
 use Rattle.engine_types.specs.declared.Attach.{Attach}
 use Rattle.engine_types.specs.declared.Declared.{Declared}
 use Rattle.engine_types.specs.declared.Entry.{Entry}
@@ -22,10 +22,10 @@ use Rattle.engine_types.specs.declared.Seen.{Seen}
 use Rattle.engine_types.specs.declared.SeenFault.{SeenFault}
 use Rattle.engine_types.specs.declared.Slot.{Slot}
 use Rattle.engine_types.specs.declared.VolumeSpec.{VolumeSpec}
-use Rattle.run_model.specs.EngineRules.{Among}
+use Rattle.run_model.specs.EngineRules.{Among, is_live}
 use Rattle.run_model.specs.Journals.{Badly, Out, Setup, Well, ended_as, holding, is_good, is_work_on, standing}
 use Rattle.run_model.specs.Observation.{first_in, is_up, network_fault}
-use Rattle.run_model.specs.Plans.{Aim, Basis, create_of, is_create_of, is_make_of, is_needed_by, is_network_seen, is_removed, is_unattached, is_unstarted, is_wanted, kept, kept_of, kind_of, make_of, needed_by, needs_of, planned_kinds, slot_at}
+use Rattle.run_model.specs.Plans.{Aim, Basis, create_of, is_create_of, is_make_of, is_needed_by, is_network_seen, is_removed, is_restarted, is_unattached, is_unstarted, is_wanted, keeps_live, kept, kept_of, kind_of, make_of, needed_by, needs_of, planned_kinds, slot_at}
 use Rattle.run_model.specs.Requests.{connect_request, made_id, network_id, request_of, seen_network_id, slot_id, stop_seconds}
 use Rattle.tree_base.specs.ByteOrder.{by_key, placed}
 use Rattle.run_model.specs.Numbers.{places}
@@ -371,6 +371,10 @@ module _ (declared : Declared) (seen : Seen) (actions : List Action) (aim : Aim)
               let id = slot_known s slot up there by_create in
               start s id.id id.is_found id.is_defined
 
+          stop_kept : (s : ℕ) (slot : Slot) (row : Listed) → slot_at declared s ≡ Some slot → kept_of declared seen slot ≡ Some row
+              → Known (request_by now (needs_of actions a) (StopKept s)) (request_of setup (reverse journal) (StopKept s))
+          stop_kept s slot row there e = record { request = Request.Stop row.id slot.stop_seconds; is_made = rw (there, e) refl; is_defined = rw (there, e) refl }
+
           volume_removal : (v : ℕ) (spec : VolumeSpec) → slice_get declared.volumes v ≡ Some spec → Known (request_by now (needs_of actions a) (RemoveVolume v)) (request_of setup (reverse journal) (RemoveVolume v))
           volume_removal v spec e = record { request = Request.RemoveVolume spec.name; is_made = rw e refl; is_defined = rw e refl }
 
@@ -399,6 +403,10 @@ module _ (declared : Declared) (seen : Seen) (actions : List Action) (aim : Aim)
           at (ConnectSlot s k) e w =
               let p = and_parts (is_up aim.purpose) _ w in
               let r = some_from (λ (slot : Slot). is_unattached basis slot k) (slot_at declared s) p.1 in by_attach s k e p.0 r.0 r.1 (slice_get r.0.attach k) refl r.2
+          at (StopKept s) e w =
+              let r = some_from (is_restarted declared seen) (slot_at declared s) (and_parts (is_up aim.purpose) _ w).1 in
+              let k = some_from (λ (row : Listed). is_live row.state) (kept_of declared seen r.0) (and_parts (keeps_live declared seen r.0) _ r.2).0 in
+              stop_kept s r.0 k.0 r.1 k.1
           at (StartSlot s) e w =
               let p = and_parts (is_up aim.purpose) _ w in
               let r = some_from (is_unstarted basis) (slot_at declared s) p.1 in by_start s e p.0 r.0 r.1

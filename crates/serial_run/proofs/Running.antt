@@ -26,7 +26,7 @@ use Rattle.run_model.proofs.ToldLaws.{seen_is_told}
 use Rattle.serial_run.proofs.Deciding.{Stand, goals_over, next_is, none_next, over}
 use Rattle.serial_run.proofs.Logging.{Since, cause_within, grows_more, grows_not, hears_same, hears_through, since_is, since_left, since_made, since_short, since_start, told_more}
 use Rattle.serial_run.proofs.Stepping.{between_start, between_step, falls_short, leaves, marks_made, marks_skip, marks_start, stand}
-use Rattle.serial_run.specs.Serial.{AllCaused, AreMarks, Exchanged, GoesOn, IsBegun, IsDone, IsMade, IsOnItsWay, IsSkipped, NeedsNoSlot, Telling, exchanges_since, is_clear, serial_setup}
+use Rattle.serial_run.specs.Serial.{AllCaused, AreMarks, Exchanged, GoesOn, IsBegun, IsDone, IsMade, IsOnItsWay, IsSkipped, WaitsForNone, Telling, exchanges_since, is_clear, serial_setup}
 use Rattle.serial_run.specs.declared.mark.Mark.{Mark}
 
 -- there is no fault in the listings of an observation that ended well
@@ -82,7 +82,7 @@ pub record IsEnd (aim : Aim) (setup : Setup) (old new : List Entry) (before now 
   pub told : ToldBy (exchanges_since setup old new) before.engine now.engine
   pub caused : AllCaused new before.heard before.faults now.faults
 
-module _ (declared : Declared) (seen : Seen) (actions : List Action) (aim : Aim) (plain : NeedsNoSlot declared) where
+module _ (declared : Declared) (seen : Seen) (actions : List Action) (aim : Aim) (plain : WaitsForNone declared) where
   abbrev setup : Setup
   setup = serial_setup declared seen actions
 

@@ -16,7 +16,7 @@ use Rattle.run_model.specs.Legal.{IsLegal, IsReady, entries_limit, next_action}
 use Rattle.run_model.specs.Plans.{Aim, kind_of, needs_of}
 use Rattle.serial_run.proofs.Deciding.{Stand, goes, takes}
 use Rattle.serial_run.proofs.Lists.{all_fails, get_after, get_below, get_left, get_pushed, reverse_push}
-use Rattle.serial_run.specs.Serial.{AreMarks, IsBegun, IsBetween, IsDone, NeedsNoSlot, Stands, is_clear, is_well_mark, mark_of, serial_setup}
+use Rattle.serial_run.specs.Serial.{AreMarks, IsBegun, IsBetween, IsDone, WaitsForNone, Stands, is_clear, is_well_mark, mark_of, serial_setup}
 use Rattle.serial_run.specs.declared.mark.Mark.{Mark}
 
 -- the only worker may call
@@ -62,7 +62,7 @@ module _ (declared : Declared) (seen : Seen) (actions : List Action) (aim : Aim)
         blocked = λ a e. absurd (cc e);
       }
 
-  pub between_step : (journal : List Entry) (a : ℕ) (outcome : Outcome) → NeedsNoSlot declared → IsBetween aim setup (reverse journal) → next_action setup (reverse journal) ≡ Some a
+  pub between_step : (journal : List Entry) (a : ℕ) (outcome : Outcome) → WaitsForNone declared → IsBetween aim setup (reverse journal) → next_action setup (reverse journal) ≡ Some a
       → length journal + 2 < entries_limit → IsBetween aim setup (reverse (journal ++ Entry.Claim 0 a ∷ Entry.Ended 0 outcome ∷ []))
   between_step journal a outcome plain b next short = rw (newest journal a outcome) (record {
     legal = ((b.legal, (ready aim setup (reverse journal) (omega arith) b, takes declared seen actions plain (reverse journal) a b.below b.on next)), refl);
@@ -179,7 +179,7 @@ module _ (declared : Declared) (seen : Seen) (actions : List Action) (aim : Aim)
       on a (inr e) = absurd (not_blocked outcome (length journal + 1) e.1)
 
   -- the worker leaves where nothing is left, and the run is over
-  pub leaves : (journal : List Entry) → NeedsNoSlot declared → IsBetween aim setup (reverse journal) → IsDone setup (reverse journal)
+  pub leaves : (journal : List Entry) → WaitsForNone declared → IsBetween aim setup (reverse journal) → IsDone setup (reverse journal)
       → IsLegal aim setup (reverse (journal ++ Entry.Leave 0 ∷ [])) × IsRunOver setup (reverse (journal ++ Entry.Leave 0 ∷ []))
   leaves journal plain b d = rw (reverse_push journal (Entry.Leave 0)) (
     (b.legal, (ready aim setup (reverse journal) (omega arith) b, goes declared seen actions plain (reverse journal) b.below b.on d.none_left)),

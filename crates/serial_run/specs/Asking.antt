@@ -2,7 +2,7 @@
 use Rattle.std.specs.Prelude.{ℕ, List, Option, Some, None, find, slice_get, option_map, option_and_then}
 use Rattle.engine_types.specs.declared.Action.{Action}
 use Rattle.engine_types.specs.declared.ActionKind.{ActionKind}
-use Rattle.engine_types.specs.declared.ActionKind.TheVariants.{MakeVolume, MakeNetwork, StopContainer, RemoveContainer, CreateSlot, ConnectSlot, StartSlot, RemoveNetwork, RemoveVolume}
+use Rattle.engine_types.specs.declared.ActionKind.TheVariants.{MakeVolume, MakeNetwork, StopContainer, RemoveContainer, CreateSlot, ConnectSlot, StopKept, StartSlot, RemoveNetwork, RemoveVolume}
 use Rattle.engine_types.specs.declared.Attach.{Attach}
 use Rattle.engine_types.specs.declared.Declared.{Declared}
 use Rattle.engine_types.specs.declared.Entry.{Entry}
@@ -11,7 +11,7 @@ use Rattle.engine_types.specs.declared.Outcome.{Outcome}
 use Rattle.engine_types.specs.declared.Reply.{Reply}
 use Rattle.engine_types.specs.declared.Request.{Request}
 use Rattle.engine_types.specs.declared.Seen.{Seen}
-use Rattle.run_model.specs.Plans.{is_create_of, is_make_of, kept, kind_of, slot_at}
+use Rattle.run_model.specs.Plans.{is_create_of, is_make_of, kept, kept_of, kind_of, slot_at}
 use Rattle.run_model.specs.Requests.{seen_network_id, stop_seconds}
 use Rattle.serial_run.specs.Serial.{serial_setup}
 use Rattle.serial_run.specs.declared.mark.Mark.{Mark}
@@ -82,6 +82,8 @@ request_by run needs (RemoveContainer c) = option_map (λ row. Request.Remove ro
 request_by run needs (CreateSlot s) = option_map (λ slot. Request.Create slot.name slot.spec) (slot_at run.declared s)
 request_by run needs (ConnectSlot s k) =
     option_and_then (λ slot. option_and_then (connect_by run needs s) (slice_get slot.attach k)) (slot_at run.declared s)
+request_by run needs (StopKept s) =
+    option_and_then (λ slot. option_map (λ row. Request.Stop row.id slot.stop_seconds) (kept_of run.declared run.seen slot)) (slot_at run.declared s)
 request_by run needs (StartSlot s) = option_map (λ id. Request.Start id) (slot_id_by run needs s)
 request_by run needs (RemoveNetwork n) = option_map (λ id. Request.RemoveNetwork id) (network_id_by run needs n)
 request_by run needs (RemoveVolume v) = option_map (λ spec. Request.RemoveVolume spec.name) (slice_get run.declared.volumes v)

@@ -17,7 +17,7 @@ volume = record { name = codes "shop_data"; labels = []; driver = None; driver_o
 
 -- what the project declares
 abbrev pub shop : Declared
-shop = record { project = codes "shop"; slots = []; networks = []; volumes = volume ∷ [] }
+shop = record { project = codes "shop"; slots = []; services = []; networks = []; volumes = volume ∷ [] }
 
 -- the Engine has nothing
 abbrev pub nothing : Seen

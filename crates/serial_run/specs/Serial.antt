@@ -4,6 +4,7 @@ use Rattle.std.specs.List.{list_all}
 use Rattle.engine_types.specs.declared.Action.{Action}
 use Rattle.engine_types.specs.declared.ActionKind.{ActionKind}
 use Rattle.engine_types.specs.declared.Declared.{Declared}
+use Rattle.engine_types.specs.declared.DeclaredService.{DeclaredService}
 use Rattle.engine_types.specs.declared.Engine.{Engine}
 use Rattle.engine_types.specs.declared.Entry.{Entry}
 use Rattle.engine_types.specs.declared.Exchange.{Exchange}
@@ -49,9 +50,12 @@ basis_of declared seen aim = record { declared = declared; seen = seen; aim = ai
 abbrev pub up_aim : Bool → Aim
 up_aim orphans = record { purpose = Purpose.Up; orphans = orphans; volumes = false }
 
--- no slot waits for a condition of another one
-abbrev pub NeedsNoSlot : Declared → Type 0
-NeedsNoSlot declared = (slot : Slot) → Among declared.slots slot → slot.needs ≡ []
+-- nothing that is declared waits for anything else: no slot needs another one, no service depends on one, and none is to be
+-- replaced a few slots at a time
+pub record WaitsForNone (declared : Declared) : Type 0 where
+  pub slots : (slot : Slot) → Among declared.slots slot → slot.needs ≡ []
+  pub services : (service : DeclaredService) → Among declared.services service → service.depends_on ≡ []
+  pub rolls : (service : DeclaredService) → Among declared.services service → service.roll ≡ None
 
 -- the journal is an observation of the declared set that ended well and saw this
 pub record IsBegun (declared : Declared) (aim : Aim) (seen : Seen) (journal : List Entry) : Type 0 where
@@ -177,5 +181,5 @@ pub record IsGrounded (declared : Declared) (seen : Seen) (actions : List Action
   pub is_planned : actions ≡ planned (basis_of declared seen aim)
   pub fits : is_too_long (basis_of declared seen aim) ≡ false
   pub whole : IsWhole declared
-  pub unconditional : NeedsNoSlot declared
+  pub unconditional : WaitsForNone declared
   pub sound : listing_fault declared aim.purpose seen ≡ None

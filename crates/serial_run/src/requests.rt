@@ -8,7 +8,7 @@ ghost use Rattle.engine_types.specs.declared.ActionKind.TheVariants.{MakeVolume,
 use crate::ids::{network_id, slot_id};
 use crate::mark::Mark;
 use engine_types::{Action, ActionKind, Attach, Declared, Entry, Listed, Plan, Request, Seen};
-use run_lookups::names_slot;
+use run_lookups::{names_slot, stop_kept};
 use std::alloc::Global;
 use tree_base::{Memory, TryCopy};
 
@@ -35,6 +35,7 @@ pub(crate) fn request_of(
         ActionKind::ConnectSlot { slot, attach } => connect_slot(
             alloc, declared, seen, plan, marks, journal, needs, slot, attach,
         ),
+        ActionKind::StopKept { slot } => stop_kept(alloc, declared, seen, slot),
         ActionKind::StartSlot { slot } => {
             start(alloc, declared, seen, plan, marks, journal, needs, slot)
         }

@@ -6,7 +6,7 @@ ghost use Rattle.run_model.specs.Logs.{GrowsBy};
 ghost use Rattle.run_model.specs.Plans.{IsWhole, is_too_long, planned};
 ghost use Rattle.serial_run.specs.Asking.{course, request_by};
 ghost use Rattle.serial_run.specs.LastEntries.{last_entry};
-ghost use Rattle.serial_run.specs.Serial.{AllCaused, GoesOn, IsBegun, IsDone, IsGrounded, IsLeftAlone, IsMade, IsOnItsWay, IsSkipped, NeedsNoSlot, aim_of, basis_of, exchanges_since, is_clear, serial_setup, telling};
+ghost use Rattle.serial_run.specs.Serial.{AllCaused, GoesOn, IsBegun, IsDone, IsGrounded, IsLeftAlone, IsMade, IsOnItsWay, IsSkipped, WaitsForNone, aim_of, basis_of, exchanges_since, is_clear, serial_setup, telling};
 ghost use Rattle.run_model.specs.EngineRules.{ToldBy};
 
 use crate::mark::{Mark, is_clear, mark_of};
@@ -33,7 +33,7 @@ pub fn run_plan<H: Hand>(
     requires planned { plan.now.actions ≡ planned (basis_of declared.now seen.now (aim_of aim)) }
     requires fits { is_too_long (basis_of declared.now seen.now (aim_of aim)) ≡ false }
     requires whole { IsWhole declared.now }
-    requires unconditional { NeedsNoSlot declared.now }
+    requires unconditional { WaitsForNone declared.now }
     requires begun { IsBegun declared.now (aim_of aim) seen.now journal.old.items }
     requires room { 1 ≤ journal.old.spare }
     ensures legal { IsLegal (aim_of aim) (serial_setup declared.now seen.now plan.now.actions) (reverse journal.new.items) }

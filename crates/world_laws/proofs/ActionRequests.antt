@@ -2,7 +2,7 @@
 use Rattle.std.proofs.Common.{◌≡◌, ℕ, true, false, List, Option, Some, None, slice_get, refl, subst}
 use Rattle.std.specs.Prelude.{option_and_then, option_map}
 use Rattle.engine_types.specs.declared.ActionKind.{ActionKind}
-use Rattle.engine_types.specs.declared.ActionKind.TheVariants.{MakeVolume, MakeNetwork, StopContainer, RemoveContainer, CreateSlot, ConnectSlot, StartSlot, RemoveNetwork, RemoveVolume}
+use Rattle.engine_types.specs.declared.ActionKind.TheVariants.{MakeVolume, MakeNetwork, StopContainer, RemoveContainer, CreateSlot, ConnectSlot, StopKept, StartSlot, RemoveNetwork, RemoveVolume}
 use Rattle.engine_types.specs.declared.Attach.{Attach}
 use Rattle.engine_types.specs.declared.Entry.{Entry}
 use Rattle.engine_types.specs.declared.NetworkSpec.{NetworkSpec}
@@ -10,7 +10,7 @@ use Rattle.engine_types.specs.declared.Request.{Request}
 use Rattle.engine_types.specs.declared.Slot.{Slot}
 use Rattle.run_model.specs.Journals.{Setup}
 use Rattle.run_model.specs.Observation.{is_up}
-use Rattle.run_model.specs.Plans.{Basis, is_wanted, slot_at}
+use Rattle.run_model.specs.Plans.{Basis, is_wanted, kept_of, slot_at}
 use Rattle.run_model.specs.Requests.{connect_request, network_id, request_of, slot_id}
 use Rattle.world_laws.proofs.Keeping.{is_sparing}
 
@@ -32,6 +32,7 @@ IsOfKind setup (StopContainer c) (Request.Stop id seconds) = Unit {0}
 IsOfKind setup (RemoveContainer c) (Request.Remove id) = Unit {0}
 IsOfKind setup (CreateSlot s) (Request.Create name spec) = Unit {0}
 IsOfKind setup (ConnectSlot s k) (Request.Connect network container aliases) = Unit {0}
+IsOfKind setup (StopKept s) (Request.Stop id seconds) = Unit {0}
 IsOfKind setup (StartSlot s) (Request.Start id) = Unit {0}
 IsOfKind setup (RemoveNetwork n) (Request.RemoveNetwork id) = Unit {0}
 IsOfKind setup (RemoveVolume v) (Request.RemoveVolume name) = Unit {0}
@@ -56,6 +57,11 @@ of_kind setup past (ConnectSlot s k) request e =
     let n = then_from _ (network_id setup past attach.network) request q.2 in
     let c = map_from _ (slot_id setup past s) request n.2 in
     subst (λ (x : Request). IsOfKind setup (ConnectSlot s k) x) c.2 tt
+of_kind setup past (StopKept s) request e =
+    let r = then_from _ (slot_at setup.declared s) request e in
+    let slot : Slot = r.0 in
+    let q = map_from _ (kept_of setup.declared setup.seen slot) request r.2 in
+    subst (λ (x : Request). IsOfKind setup (StopKept s) x) q.2 tt
 of_kind setup past (StartSlot s) request e = let r = map_from _ (slot_id setup past s) request e in
     subst (λ (q : Request). IsOfKind setup (StartSlot s) q) r.2 tt
 of_kind setup past (RemoveNetwork n) request e = let r = map_from _ (network_id setup past n) request e in
@@ -78,6 +84,7 @@ wanted_sparing basis setup (StopContainer c) (Request.Stop id seconds) up w h = 
 wanted_sparing basis setup (RemoveContainer c) (Request.Remove id) up w h = refl
 wanted_sparing basis setup (CreateSlot s) (Request.Create name spec) up w h = refl
 wanted_sparing basis setup (ConnectSlot s k) (Request.Connect network container aliases) up w h = refl
+wanted_sparing basis setup (StopKept s) (Request.Stop id seconds) up w h = refl
 wanted_sparing basis setup (StartSlot s) (Request.Start id) up w h = refl
 wanted_sparing basis setup (RemoveNetwork n) request up w h = let bad : false ≡ true = rw up at w in absurd (cc bad)
 wanted_sparing basis setup (RemoveVolume v) request up w h = let bad : false ≡ true = rw up at w in absurd (cc bad)

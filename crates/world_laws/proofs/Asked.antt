@@ -8,7 +8,7 @@ use Rattle.std.specs.Prelude.{if◌then◌else◌, ◌==◌, filter, find, is_so
 use Rattle.std.specs.Str.{bytes_eq}
 use Rattle.engine_types.specs.declared.Action.{Action}
 use Rattle.engine_types.specs.declared.ActionKind.{ActionKind}
-use Rattle.engine_types.specs.declared.ActionKind.TheVariants.{ConnectSlot, CreateSlot, MakeNetwork, MakeVolume, RemoveContainer, RemoveNetwork, RemoveVolume, StartSlot, StopContainer}
+use Rattle.engine_types.specs.declared.ActionKind.TheVariants.{ConnectSlot, CreateSlot, MakeNetwork, MakeVolume, RemoveContainer, RemoveNetwork, RemoveVolume, StopKept, StartSlot, StopContainer}
 use Rattle.engine_types.specs.declared.Attach.{Attach}
 use Rattle.engine_types.specs.declared.Declared.{Declared}
 use Rattle.engine_types.specs.declared.Entry.{Entry}
@@ -25,18 +25,19 @@ use Rattle.engine_types.specs.declared.SeenFault.{SeenFault}
 use Rattle.engine_types.specs.declared.Slot.{Slot}
 use Rattle.engine_types.specs.declared.VolumeSpec.{VolumeSpec}
 use Rattle.run_model.specs.Conditions.{asks_for, counts, is_allowed, is_goal_open, is_needed, is_pending, is_watched}
-use Rattle.run_model.specs.EngineRules.{Among}
+use Rattle.run_model.specs.EngineRules.{Among, is_live}
 use Rattle.run_model.specs.Journals.{Badly, Out, Setup, Standing, Watch, Well, Work, ended_as, holding, is_good, is_well, is_work_on, seen_in, standing}
 use Rattle.run_model.specs.Legal.{IsLegal, Look, Saw, answer_to, decision, entries_limit, has_fewest_polls, is_other_out, may_poll, next_action, next_poll}
 use Rattle.run_model.specs.Journals.{Holding, Nothing, is_ending}
 use Rattle.run_model.specs.Observation.{first_in, is_up, listing_fault, network_fault}
-use Rattle.run_model.specs.Plans.{Aim, Basis, IsPlanOf, IsWhole, is_create_of, is_make_of, is_needed_by, is_network_seen, is_removed, is_start_of, is_unattached, is_unstarted, is_wanted, kept, kept_of, kind_of, make_of, planned, slot_at, slot_needs, start_of}
+use Rattle.run_model.specs.Plans.{Aim, Basis, CarriesOut, HasPlan, IsWhole, is_create_of, is_make_of, is_needed_by, is_network_seen, is_removed, is_restarted, is_start_of, is_unattached, is_unstarted, is_wanted, keeps_live, kept, kept_of, kind_of, make_of, slot_at, slot_needs, start_of}
 use Rattle.run_model.specs.Requests.{OfAction, OfPoll, Source, action_request, asked, connect_request, made_id, network_id, poll_place, poll_request, request_of, request_out, seen_network_id, slot_id, source_of, stop_seconds}
 use Rattle.run_model.specs.Numbers.{places}
 use Rattle.run_model.proofs.DistinctLists.{among_places, from_filter, from_numbers, from_place}
 use Rattle.run_model.proofs.KeptLaws.{any_from_list}
 use Rattle.run_model.proofs.LegalLaws.{decision_take}
-use Rattle.run_model.proofs.PlanLaws.{both, planned_is_plan, some_from}
+use Rattle.run_model.proofs.PlanLaws.{both, some_from}
+use Rattle.run_model.proofs.RollLaws.{carries}
 use Rattle.world_laws.proofs.Finished.{basis_of}
 use Rattle.world_laws.proofs.Observing.{seen_by, told_by}
 use Rattle.world_laws.proofs.OneWorker.{claim_needs, source_for, source_is, well_needs}
@@ -181,12 +182,12 @@ answers_look false false None None false s e = absurd (cc e)
 decision_look : (setup : Setup) (past : List Entry) (w s : ℕ) → decision setup past w ≡ Look s → next_poll setup past ≡ Some s
 decision_look setup past w s e = answers_look (nat_le entries_limit (length past)) (is_ending past) (next_action setup past) (next_poll setup past) (is_other_out setup past w) s e
 
-module _ (aim : Aim) (setup : Setup) (plan : setup.actions ≡ planned (basis_of aim setup)) (whole : IsWhole setup.declared) where
+module _ (aim : Aim) (setup : Setup) (plan : HasPlan (basis_of aim setup) setup.actions) (whole : IsWhole setup.declared) where
   abbrev basis : Basis
   basis = basis_of aim setup
 
-  is_plan : IsPlanOf basis setup.actions
-  is_plan = subst (λ (actions : List Action). IsPlanOf basis actions) (sym plan) (planned_is_plan basis)
+  is_plan : CarriesOut basis setup.actions
+  is_plan = carries basis setup.actions plan
 
   among_actions : (a : ℕ) (kind : ActionKind) → kind_of setup.actions a ≡ Some kind → Among (places setup.actions) a
   among_actions a kind e = at (slice_get setup.actions a) refl e
@@ -292,6 +293,10 @@ module _ (aim : Aim) (setup : Setup) (plan : setup.actions ≡ planned (basis_of
             let w = is_plan.wanted d (MakeNetwork n) (finds_make n (kind_of setup.actions d) p.0) in
             absurd (against (is_up aim.purpose) down (both (is_up aim.purpose) _ w).0)
 
+    stop_kept : (s : ℕ) (slot : Slot) (row : Listed) → slot_at setup.declared s ≡ Some slot → kept_of setup.declared setup.seen slot ≡ Some row
+        → request_of setup past (StopKept s) ≡ Some (Request.Stop row.id slot.stop_seconds)
+    stop_kept s slot row there e = rw (there, e) refl
+
     -- each wanted action has a request, once what it needs ended well
     request_known : (kind : ActionKind) → is_wanted basis kind ≡ true → ((other : ActionKind) → is_needed_by basis kind other ≡ true → DidWell other)
         → (request : Request) × (request_of setup past kind ≡ Some request)
@@ -325,6 +330,10 @@ module _ (aim : Aim) (setup : Setup) (plan : setup.actions ≡ planned (basis_of
             let by_make : is_needed_by basis (ConnectSlot s k) (MakeNetwork attach.network) ≡ true = rw (there, f) (eq-eqb attach.network attach.network refl) in
             let net = network_known attach.network within up (needs (MakeNetwork attach.network) by_make) in
             (Request.Connect net.0 id.0 attach.aliases, rw (there, f) (joined attach net.0 id.0 net.1 id.1))
+    request_known (StopKept s) w needs =
+        let r = some_from (is_restarted setup.declared setup.seen) (slot_at setup.declared s) (both (is_up aim.purpose) _ w).1 in
+        let k = some_from (λ (row : Listed). is_live row.state) (kept_of setup.declared setup.seen r.0) (both (keeps_live setup.declared setup.seen r.0) _ r.2).0 in
+        (Request.Stop k.0.id r.0.stop_seconds, stop_kept s r.0 k.0 r.1 k.1)
     request_known (StartSlot s) w needs =
         let r = some_from (is_unstarted basis) (slot_at setup.declared s) (both (is_up aim.purpose) _ w).1 in
         let id = slot_known s r.0 r.1 (both (is_up aim.purpose) _ w).0 (needs (CreateSlot s) (eq-eqb s s refl)) in
@@ -350,7 +359,7 @@ module _ (aim : Aim) (setup : Setup) (plan : setup.actions ≡ planned (basis_of
       let action = from_places setup.actions a p.1 in
       let k : kind_of setup.actions a ≡ Some action.0.kind = ap (option_map (λ (x : Action). x.kind)) action.1 in
       let r = request_known past (begun_sound aim setup past legal.0 legal.1.0.begun) action.0.kind (is_plan.wanted a action.0.kind k)
-      (λ other n b j. claim_needs aim setup past w a b legal ((is_plan.needs a b action.0.kind other k j).1 n)) in
+      (λ other n b j. claim_needs aim setup past w a b legal (is_plan.needs a b action.0.kind other k j n)) in
       (r.0, rw k r.1)
 
   module _ (one : setup.limits.workers ≡ 1) (waits : (is_up aim.purpose ≡ true) ⊎ (setup.limits.wait ≡ false)) where
@@ -413,7 +422,7 @@ module _ (aim : Aim) (setup : Setup) (plan : setup.actions ≡ planned (basis_of
             let k = finds_start s (kind_of setup.actions d) p.0 in
             let well : is_well (standing setup past d) ≡ true = rw h at counted in
             slot_known past sound s slot.0 slot.1 up
-            (λ b j. well_needs aim setup one past d b legal.0 well ((is_plan.needs d b (StartSlot s) (CreateSlot s) k j).1 (eq-eqb s s refl)))
+            (λ b j. well_needs aim setup one past d b legal.0 well (is_plan.needs d b (StartSlot s) (CreateSlot s) k j (eq-eqb s s refl)))
 
         id : (i : List ℕ) × (slot_id setup past s ≡ Some i)
         id = at (start_of setup.actions s) refl

@@ -20,11 +20,11 @@ use Rattle.engine_types.specs.declared.Slot.{Slot}
 use Rattle.run_model.specs.EngineRules.{Among, container_at, image_at, is_of_project, network_has_name}
 use Rattle.run_model.specs.Exact.{IsExactSlot, agrees_in}
 use Rattle.run_model.specs.Journals.{Setup, is_good}
-use Rattle.run_model.specs.Labels.{has_slot_service, is_of_slot, is_orphan, names_service}
-use Rattle.run_model.specs.Plans.{Aim, Basis, IsPlanOf, is_kept, is_removed, is_unattached, is_wanted, kept_of, kind_of, network_name, seen_image, slot_at}
+use Rattle.run_model.specs.Labels.{has_declared_service, is_of_slot, is_orphan, names_service}
+use Rattle.run_model.specs.Plans.{Aim, Basis, CarriesOut, is_kept, is_removed, is_unattached, is_wanted, kept_of, kind_of, network_name, seen_image, slot_at}
 use Rattle.run_model.specs.Worlds.{Move}
 use Rattle.run_model.proofs.DistinctLists.{at_place, from_place}
-use Rattle.run_model.proofs.KeptLaws.{any_from_list, any_of_list}
+use Rattle.run_model.proofs.KeptLaws.{any_from_list, any_of_list, declared_named}
 use Rattle.run_model.proofs.PlanLaws.{some_from}
 use Rattle.world_laws.proofs.ActionRequests.{map_from}
 use Rattle.world_laws.proofs.Effects.{each_has_effect}
@@ -74,7 +74,7 @@ module _ (aim : Aim) (setup : Setup) (first last : Engine) (moves : List Move) (
   held : Holds setup (effects moves) last
   held = holds aim setup first moves last run
 
-  plan : IsPlanOf basis setup.actions
+  plan : CarriesOut basis setup.actions
   plan = plan_of aim setup first last moves run
 
   -- each action that is wanted was done
@@ -134,7 +134,7 @@ module _ (aim : Aim) (setup : Setup) (first last : Engine) (moves : List Move) (
     is_slots : IsSlotId setup (effects moves) s id
 
   abbrev IsLeft : List Var → Type 0
-  IsLeft labels = (has_slot_service setup.declared labels ≡ false) × (aim.orphans ≡ false)
+  IsLeft labels = (has_declared_service setup.declared labels ≡ false) × (aim.orphans ≡ false)
 
   of_kept : (c : ℕ) (listed : Listed) → slice_get setup.seen.containers c ≡ Some listed → is_kept setup.declared setup.seen listed ≡ true → IsOfSlot listed.id listed.labels
   of_kept c listed e k =
@@ -157,9 +157,9 @@ module _ (aim : Aim) (setup : Setup) (first last : Engine) (moves : List Move) (
 
   whose_seen : (c : ℕ) (listed : Listed) → slice_get setup.seen.containers c ≡ Some listed → IsUnremoved setup (effects moves) c
       → is_of_project setup.declared.project listed.labels ≡ true → IsOfSlot listed.id listed.labels ⊎ IsLeft listed.labels
-  whose_seen c listed e u p = at (has_slot_service setup.declared listed.labels) refl (is_kept setup.declared setup.seen listed) refl (rw (p, run.up) at (not_to_go c listed e u))
+  whose_seen c listed e u p = at (has_declared_service setup.declared listed.labels) refl (is_kept setup.declared setup.seen listed) refl (rw (p, run.up) at (not_to_go c listed e u))
     where
-      at : (t : Bool) → has_slot_service setup.declared listed.labels ≡ t → (k : Bool) → is_kept setup.declared setup.seen listed ≡ k
+      at : (t : Bool) → has_declared_service setup.declared listed.labels ≡ t → (k : Bool) → is_kept setup.declared setup.seen listed ≡ k
           → (if t then not k else aim.orphans) ≡ false → IsOfSlot listed.id listed.labels ⊎ IsLeft listed.labels
       at true h true k f = inl (of_kept c listed e k)
       at true h false k f = absurd (cc f)
@@ -212,7 +212,7 @@ module _ (aim : Aim) (setup : Setup) (first last : Engine) (moves : List Move) (
         at : IsOfSlot i other.labels ⊎ IsLeft other.labels → IsSlotId setup (effects moves) s i
         at (inl y) = subst (λ (n : ℕ). IsSlotId setup (effects moves) n i) (one_slot setup.declared run.whole run.own y.s s y.slot slot other.labels y.slot_is slot_is y.of_slot t) y.is_slots
         at (inr y) =
-            let served = any_of_list (λ (z : Slot). names_service z.service other.labels) setup.declared.slots slot among x.service in
+            let served = declared_named setup.declared slot other.labels run.whole.owners among x.service in
             let bad : false ≡ true = sym y.0 ∙ served in absurd (cc bad)
 
     -- the slot's container is there, agrees with it, and is on the networks that it was seen on, or made on

@@ -4,7 +4,7 @@ use Rattle.engine_types.specs.declared.Engine.{Engine}
 use Rattle.run_model.specs.Journals.{Setup, is_well, seen_in, standing}
 use Rattle.run_model.specs.Legal.{IsLegal}
 use Rattle.run_model.specs.Observation.{is_up}
-use Rattle.run_model.specs.Plans.{Aim, Basis, IsWhole, planned}
+use Rattle.run_model.specs.Plans.{Aim, Basis, HasPlan, IsWhole}
 use Rattle.run_model.specs.Worlds.{Move, World, entries_of}
 use Rattle.world_laws.specs.OwnSpecs.{HasOwnSpecs}
 
@@ -14,7 +14,7 @@ basis_of aim setup = record { declared = setup.declared; seen = setup.seen; aim 
 
 -- what holds of a run at each of its moves, once its observation has ended well
 pub record IsUnderWay (aim : Aim) (setup : Setup) (first : Engine) (moves : List Move) (last : Engine) : Type 0 where
-  pub plan : setup.actions ≡ planned (basis_of aim setup)
+  pub plan : HasPlan (basis_of aim setup) setup.actions
   pub legal : IsLegal aim setup (entries_of moves)
   pub saw : seen_in (entries_of moves) ≡ Some setup.seen
   pub world : World setup first moves last
@@ -29,7 +29,7 @@ pub record IsRunning (aim : Aim) (setup : Setup) (first : Engine) (moves : List 
   pub up : is_up aim.purpose ≡ true
   pub whole : IsWhole setup.declared
   pub own : HasOwnSpecs setup.declared
-  pub plan : setup.actions ≡ planned (basis_of aim setup)
+  pub plan : HasPlan (basis_of aim setup) setup.actions
   pub legal : IsLegal aim setup (entries_of moves)
   pub saw : seen_in (entries_of moves) ≡ Some setup.seen
   pub world : World setup first moves last

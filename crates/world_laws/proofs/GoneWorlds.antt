@@ -19,9 +19,9 @@ use Rattle.engine_types.specs.declared.SeenFault.{SeenFault}
 use Rattle.engine_types.specs.declared.VolumeSpec.{VolumeSpec}
 use Rattle.run_model.specs.EngineRules.{Among, ListsNetworks, ListsVolumes, container_at, has_volume, is_of_project, network_at, network_has_name}
 use Rattle.run_model.specs.Journals.{Setup, is_good}
-use Rattle.run_model.specs.Labels.{has_slot_service}
+use Rattle.run_model.specs.Labels.{has_declared_service}
 use Rattle.run_model.specs.Observation.{first_in, is_up, network_fault}
-use Rattle.run_model.specs.Plans.{Aim, Basis, IsPlanOf, is_kept, is_network_seen, is_removed, is_volume_seen, is_wanted}
+use Rattle.run_model.specs.Plans.{Aim, Basis, CarriesOut, is_kept, is_network_seen, is_removed, is_volume_seen, is_wanted}
 use Rattle.run_model.specs.Requests.{seen_network_id}
 use Rattle.run_model.specs.Runs.{run_setup}
 use Rattle.tree_base.specs.ByteOrder.{by_key}
@@ -58,8 +58,8 @@ good_remove _ _ r e = absurd (cc r)
 
 -- a plan of `down` removes each container of the project that has a slot's service, and each other one where orphans are asked for
 removed : (basis : Basis) (row : Listed) → is_up basis.aim.purpose ≡ false → is_of_project basis.declared.project row.labels ≡ true
-    → (basis.aim.orphans || has_slot_service basis.declared row.labels) ≡ true → is_removed basis row ≡ true
-removed basis row down p e = rw (p, down) (at (has_slot_service basis.declared row.labels) basis.aim.orphans e)
+    → (basis.aim.orphans || has_declared_service basis.declared row.labels) ≡ true → is_removed basis row ≡ true
+removed basis row down p e = rw (p, down) (at (has_declared_service basis.declared row.labels) basis.aim.orphans e)
   where
     at : (served orphans : Bool) → (orphans || served) ≡ true → (if served then not (false && is_kept basis.declared basis.seen row) else orphans) ≡ true
     at true orphans f = refl
@@ -94,7 +94,7 @@ module _ (aim : Aim) (setup : Setup) (first last : Engine) (moves : List Move) (
   has : HasLess aim setup (effects moves) last
   has = has_less aim setup first down moves last ended.way
 
-  plan : IsPlanOf basis setup.actions
+  plan : CarriesOut basis setup.actions
   plan = plan_of aim setup first down moves last ended.way
 
   -- what was to go is gone
@@ -110,10 +110,10 @@ module _ (aim : Aim) (setup : Setup) (first last : Engine) (moves : List Move) (
 
   -- no container of the project has a slot's service, and none is there where orphans were asked for
   no_container : (id : List ℕ) (row : ContainerRow) → container_at last id ≡ Some row → is_of_project setup.declared.project row.labels ≡ true
-      → (aim.orphans || has_slot_service setup.declared row.labels) ≡ false
-  no_container id row e p = at (aim.orphans || has_slot_service setup.declared row.labels) refl
+      → (aim.orphans || has_declared_service setup.declared row.labels) ≡ false
+  no_container id row e p = at (aim.orphans || has_declared_service setup.declared row.labels) refl
     where
-      never : (aim.orphans || has_slot_service setup.declared row.labels) ≡ true → ⊥
+      never : (aim.orphans || has_declared_service setup.declared row.labels) ≡ true → ⊥
       never f =
           let was = has.less.containers id row e in
           let of_was : is_of_project setup.declared.project was.0.labels ≡ true = rw (← was.2) p in
@@ -125,7 +125,7 @@ module _ (aim : Aim) (setup : Setup) (first last : Engine) (moves : List Move) (
           let none = without (RemoveContainer c.0) refl (rw (c.1, go) refl) listed c.1 in
           let bad : None ≡ Some row = sym none ∙ ap (container_at last) seen.2 ∙ e in cc bad
 
-      at : (t : Bool) → (aim.orphans || has_slot_service setup.declared row.labels) ≡ t → t ≡ false
+      at : (t : Bool) → (aim.orphans || has_declared_service setup.declared row.labels) ≡ t → t ≡ false
       at false f = refl
       at true f = absurd (never f)
 

@@ -59,6 +59,7 @@ pub answer_spares : (old new : Engine) (request : Request) (reply : Reply) → i
 answer_spares old new request (Reply.Refused status message) e h = same_spares old new request (Reply.Refused status message) h
 answer_spares old new (Request.ListContainers project) (Reply.Containers rows) e h = same_spares old new _ _ h.1
 answer_spares old new (Request.Inspect id) (Reply.State report) e h = same_spares old new _ _ h.1
+answer_spares old new (Request.Logs id) (Reply.Bytes bytes) e h = same_spares old new _ _ h.1
 answer_spares old new (Request.Create name spec) (Reply.Made id) e h = container_spares old new _ _ _ _ h.changes
 answer_spares old new (Request.Start id) Reply.Done e h = container_spares old new _ _ _ _ h.changes
 answer_spares old new (Request.Start id) Reply.Already e h = same_spares old new _ _ h.same

@@ -5,7 +5,7 @@ use Rattle.std.specs.Option.{option_map_or}
 use Rattle.std.specs.Prelude.{filter, option_and_then}
 use Rattle.std.specs.Str.{bytes_eq}
 use Rattle.engine_types.specs.declared.ActionKind.{ActionKind}
-use Rattle.engine_types.specs.declared.ActionKind.TheVariants.{MakeVolume, MakeNetwork, StopContainer, RemoveContainer, CreateSlot, ConnectSlot, StartSlot, RemoveNetwork, RemoveVolume}
+use Rattle.engine_types.specs.declared.ActionKind.TheVariants.{MakeVolume, MakeNetwork, StopContainer, RemoveContainer, CreateSlot, ConnectSlot, StopKept, StartSlot, RemoveNetwork, RemoveVolume}
 use Rattle.engine_types.specs.declared.Declared.{Declared}
 use Rattle.engine_types.specs.declared.Engine.{Engine}
 use Rattle.engine_types.specs.declared.Entry.{Entry}
@@ -63,6 +63,7 @@ create_kind s (Some (MakeNetwork n)) e = absurd (cc e)
 create_kind s (Some (StopContainer c)) e = absurd (cc e)
 create_kind s (Some (RemoveContainer c)) e = absurd (cc e)
 create_kind s (Some (ConnectSlot t k)) e = absurd (cc e)
+create_kind s (Some (StopKept t)) e = absurd (cc e)
 create_kind s (Some (StartSlot t)) e = absurd (cc e)
 create_kind s (Some (RemoveNetwork n)) e = absurd (cc e)
 create_kind s (Some (RemoveVolume v)) e = absurd (cc e)

@@ -1,12 +1,14 @@
 -- The set that declares one service is whole, and its slot's spec is made for it.
-use Rattle.std.proofs.Common.{zero, suc, ◌<◌, Bool, [], ◌∷◌, refl, subst, arith, lit<, sym, inl, inr, length}
+use Rattle.std.proofs.Common.{◌≡◌, ℕ, zero, suc, ◌<◌, Bool, [], ◌∷◌, Option, None, Some, refl, subst, arith, lit<, sym, inl, inr, length}
 use Rattle.std.specs.Fmt.{digits}
+use Rattle.std.specs.Prelude.{codes}
 use Rattle.engine_types.specs.declared.Attach.{Attach}
+use Rattle.engine_types.specs.declared.DeclaredService.{DeclaredService}
 use Rattle.engine_types.specs.declared.Need.{Need}
 use Rattle.engine_types.specs.declared.Slot.{Slot}
 use Rattle.run_model.specs.EngineRules.{Among}
-use Rattle.run_model.specs.OneService.{shop, web}
-use Rattle.run_model.specs.Plans.{IsWhole}
+use Rattle.run_model.specs.OneService.{service_of, shop, web}
+use Rattle.run_model.specs.Plans.{HasServices, IsWhole}
 use Rattle.tree_base.specs.ByteOrder.{IsAscending}
 use Rattle.world_laws.specs.OwnSpecs.{HasOwnSpecs, IsOwnSpec}
 
@@ -26,14 +28,25 @@ no_need : (slot : Slot) (need : Need) → Among shop.slots slot → Among slot.n
 no_need slot need (inl e) m = let none : Among web.needs need = subst (λ (s : Slot). Among s.needs need) e m in none
 no_need slot need (inr n) m = n
 
+owners : HasServices shop
+owners slot (inl e) = rw e refl
+owners slot (inr m) = absurd m
+
+rolls : (service : DeclaredService) → Among shop.services service → service.roll ≡ Some 0 → ⊥
+rolls service (inl e) r = let bad : None ≡ Some 0 = rw e at r in cc bad
+rolls service (inr m) r = m
+
 pub whole : IsWhole shop
 whole = record {
   slots = one_ascends _ web;
+  services = one_ascends _ (service_of (codes "web"));
+  owners = owners;
   networks = none_ascends _;
   volumes = none_ascends _;
   attaches = attaches;
   needs = λ slot need m n. absurd (no_need slot need m n);
   conditions = λ slot need m n. absurd (no_need slot need m n);
+  rolls = rolls;
 }
 
 own_web : IsOwnSpec shop web

@@ -2,9 +2,10 @@
 use Rattle.std.proofs.Common.{◌≡◌, ℕ, zero, suc, true, false, List, [], ◌∷◌, map, Some, slice_get, refl, sym, ap, ◌∙◌}
 use Rattle.std.proofs.lemmas.Slice.Eq.{bytes_eq-Decides}
 use Rattle.std.specs.List.{AllByRecursion, IsDistinct}
+use Rattle.std.specs.Prelude.{option_map}
 use Rattle.std.specs.Str.{bytes_eq}
 use Rattle.engine_types.specs.declared.ActionKind.{ActionKind}
-use Rattle.engine_types.specs.declared.ActionKind.TheVariants.{MakeVolume, MakeNetwork, StopContainer, RemoveContainer, CreateSlot, ConnectSlot, StartSlot, RemoveNetwork, RemoveVolume}
+use Rattle.engine_types.specs.declared.ActionKind.TheVariants.{MakeVolume, MakeNetwork, StopContainer, RemoveContainer, CreateSlot, ConnectSlot, StopKept, StartSlot, RemoveNetwork, RemoveVolume}
 use Rattle.engine_types.specs.declared.Attach.{Attach}
 use Rattle.engine_types.specs.declared.ContainerSpec.{ContainerSpec}
 use Rattle.engine_types.specs.declared.Engine.{Engine}
@@ -13,7 +14,7 @@ use Rattle.engine_types.specs.declared.Listed.{Listed}
 use Rattle.engine_types.specs.declared.Request.{Request}
 use Rattle.engine_types.specs.declared.Slot.{Slot}
 use Rattle.run_model.specs.Journals.{Setup}
-use Rattle.run_model.specs.Plans.{Aim, LeavesKept, slot_at}
+use Rattle.run_model.specs.Plans.{Aim, LeavesKept, kept_of, slot_at}
 use Rattle.run_model.specs.Requests.{connect_request, network_id, request_of, slot_id}
 use Rattle.run_model.specs.Worlds.{Move, entries_of}
 use Rattle.run_model.proofs.KeptLaws.{leaves_kept}
@@ -28,7 +29,7 @@ module _ (aim : Aim) (setup : Setup) (first last : Engine) (moves : List Move) (
 
   -- kept containers are left alone
   pub leaves : LeavesKept (basis_of aim setup)
-  leaves = leaves_kept (basis_of aim setup) run.up seen_ids
+  leaves = leaves_kept (basis_of aim setup) run.up run.whole.owners seen_ids
 
 -- no later element has the id of one that differs from all of theirs
 apart_at : (id : List ℕ) (ys : List Listed) (k : ℕ) (w : Listed) → AllByRecursion (λ (i : List ℕ). bytes_eq id i ≡ false) (map (λ (row : Listed). row.id) ys)
@@ -85,6 +86,14 @@ module _ (setup : Setup) (tail : List Entry) where
       let w = map_from _ (slot_id setup tail s) request z.2 in
       record { slot = x.0; slot_is = x.1; attach = y.0; attach_is = y.1; network = z.0; network_is = z.1; id = w.0; id_is = w.1; request_is = sym w.2 }
 
+  -- the request of the stop of a kept container is a stop
+  pub stop_of : (s : ℕ) (request : Request) → request_of setup tail (StopKept s) ≡ Some request → (id : List ℕ) × (seconds : ℕ) × (request ≡ Request.Stop id seconds)
+  stop_of s request e =
+      let x = then_from (λ (slot : Slot). option_map (λ (row : Listed). Request.Stop row.id slot.stop_seconds) (kept_of setup.declared setup.seen slot)) (slot_at setup.declared s) request e in
+      let slot : Slot = x.0 in
+      let y = map_from (λ (row : Listed). Request.Stop row.id slot.stop_seconds) (kept_of setup.declared setup.seen slot) request x.2 in
+      (y.0.id, slot.stop_seconds, sym y.2)
+
   pub remove_of : (kind : ActionKind) (id : List ℕ) → request_of setup tail kind ≡ Some (Request.Remove id) → IsRemoveOf setup kind id
   remove_of (RemoveContainer c) id e =
       let x = map_from _ (slice_get setup.seen.containers c) _ e in
@@ -94,6 +103,7 @@ module _ (setup : Setup) (tail : List Entry) where
   remove_of (StopContainer c) id e = let x = map_from _ _ _ e in absurd (cc x.2)
   remove_of (CreateSlot s) id e = let x = map_from _ _ _ e in absurd (cc x.2)
   remove_of (ConnectSlot s k) id e = let x = connect_of s k (Request.Remove id) e in absurd (cc x.request_is)
+  remove_of (StopKept s) id e = let x = stop_of s (Request.Remove id) e in absurd (cc x.2)
   remove_of (StartSlot s) id e = let x = map_from _ _ _ e in absurd (cc x.2)
   remove_of (RemoveNetwork n) id e = let x = map_from _ _ _ e in absurd (cc x.2)
   remove_of (RemoveVolume v) id e = let x = map_from _ _ _ e in absurd (cc x.2)
@@ -107,6 +117,7 @@ module _ (setup : Setup) (tail : List Entry) where
   create_is (StopContainer c) name spec e = let x = map_from _ _ _ e in absurd (cc x.2)
   create_is (RemoveContainer c) name spec e = let x = map_from _ _ _ e in absurd (cc x.2)
   create_is (ConnectSlot s k) name spec e = let x = connect_of s k (Request.Create name spec) e in absurd (cc x.request_is)
+  create_is (StopKept s) name spec e = let x = stop_of s (Request.Create name spec) e in absurd (cc x.2)
   create_is (StartSlot s) name spec e = let x = map_from _ _ _ e in absurd (cc x.2)
   create_is (RemoveNetwork n) name spec e = let x = map_from _ _ _ e in absurd (cc x.2)
   create_is (RemoveVolume v) name spec e = let x = map_from _ _ _ e in absurd (cc x.2)

@@ -3,7 +3,7 @@ use Rattle.std.proofs.Common.{◌≡◌, ◌⊎◌, ℕ, true, false, List, [], 
 use Rattle.std.specs.Prelude.{option_and_then, option_map}
 use Rattle.engine_types.specs.declared.Action.{Action}
 use Rattle.engine_types.specs.declared.ActionKind.{ActionKind}
-use Rattle.engine_types.specs.declared.ActionKind.TheVariants.{MakeVolume, MakeNetwork, StopContainer, RemoveContainer, CreateSlot, ConnectSlot, StartSlot, RemoveNetwork, RemoveVolume}
+use Rattle.engine_types.specs.declared.ActionKind.TheVariants.{MakeVolume, MakeNetwork, StopContainer, RemoveContainer, CreateSlot, ConnectSlot, StopKept, StartSlot, RemoveNetwork, RemoveVolume}
 use Rattle.engine_types.specs.declared.Engine.{Engine}
 use Rattle.engine_types.specs.declared.Entry.{Entry}
 use Rattle.engine_types.specs.declared.Listed.{Listed}
@@ -16,13 +16,13 @@ use Rattle.run_model.specs.EngineRules.{Answers, container_at, has_volume, netwo
 use Rattle.run_model.specs.Journals.{Setup}
 use Rattle.run_model.specs.Legal.{IsLegal}
 use Rattle.run_model.specs.Observation.{is_up}
-use Rattle.run_model.specs.Plans.{Aim, IsPlanOf, is_make_of, kind_of, make_of}
+use Rattle.run_model.specs.Plans.{Aim, CarriesOut, is_make_of, kind_of, make_of}
 use Rattle.run_model.specs.Requests.{OfAction, request_of, seen_network_id}
 use Rattle.run_model.specs.Numbers.{places}
 use Rattle.run_model.specs.Worlds.{Did, Move, Took, entries_of}
 use Rattle.run_model.proofs.LegalLaws.{found_passes}
-use Rattle.run_model.proofs.PlanLaws.{planned_is_plan}
 use Rattle.run_model.proofs.RequestLemmas.{same_text}
+use Rattle.run_model.proofs.RollLaws.{carries}
 use Rattle.world_laws.specs.Sights.{IsSightOf}
 use Rattle.world_laws.proofs.ActionRequests.{of_kind}
 use Rattle.world_laws.proofs.Along.{IsCarried, IsEffect, carried_along}
@@ -51,6 +51,7 @@ without_later setup old new (MakeNetwork n) less w = tt
 without_later setup old new (StopContainer c) less w = tt
 without_later setup old new (CreateSlot s) less w = tt
 without_later setup old new (ConnectSlot s k) less w = tt
+without_later setup old new (StopKept s) less w = tt
 without_later setup old new (StartSlot s) less w = tt
 
 -- what was done is gone, where the plan makes no network
@@ -87,6 +88,7 @@ module _ (setup : Setup) (tail : List Entry) (request : Request) (old new : Engi
   without_now (StopContainer c) e = tt
   without_now (CreateSlot s) e = tt
   without_now (ConnectSlot s k) e = tt
+  without_now (StopKept s) e = tt
   without_now (StartSlot s) e = tt
 
 -- what there is in the course of a run of `down`: no more than where its observation ended, and nothing that an action has removed
@@ -97,11 +99,11 @@ pub record HasLess (aim : Aim) (setup : Setup) (effect : ℕ → Option Reply) (
   pub without : (a : ℕ) (kind : ActionKind) → kind_of setup.actions a ≡ Some kind → effect a ≡ Some Reply.Done → IsWithout setup engine kind
 
 module _ (aim : Aim) (setup : Setup) (first : Engine) (down : is_up aim.purpose ≡ false) where
-  pub plan_of : (moves : List Move) (engine : Engine) → IsUnderWay aim setup first moves engine → IsPlanOf (basis_of aim setup) setup.actions
-  plan_of moves engine way = subst (λ (actions : List Action). IsPlanOf (basis_of aim setup) actions) (sym way.plan) (planned_is_plan (basis_of aim setup))
+  pub plan_of : (moves : List Move) (engine : Engine) → IsUnderWay aim setup first moves engine → CarriesOut (basis_of aim setup) setup.actions
+  plan_of moves engine way = carries (basis_of aim setup) setup.actions way.plan
 
   -- a plan of `down` makes no network
-  unmade : IsPlanOf (basis_of aim setup) setup.actions → (n : ℕ) → make_of setup.actions n ≡ None
+  unmade : CarriesOut (basis_of aim setup) setup.actions → (n : ℕ) → make_of setup.actions n ≡ None
   unmade plan n = at (make_of setup.actions n) refl
     where
       at : (o : Option ℕ) → make_of setup.actions n ≡ o → make_of setup.actions n ≡ None
@@ -121,7 +123,7 @@ module _ (aim : Aim) (setup : Setup) (first : Engine) (down : is_up aim.purpose 
     without = λ b kind k e. without b kind k (effect_new moves a b request reply Reply.Done e);
   }
     where
-      plan : IsPlanOf (basis_of aim setup) setup.actions
+      plan : CarriesOut (basis_of aim setup) setup.actions
       plan = plan_of moves old way
 
       now : IsLess old new

@@ -20,10 +20,10 @@ use Rattle.engine_types.specs.declared.VolumeSpec.{VolumeSpec}
 use Rattle.run_model.specs.EngineRules.{Among, Answers, ChangesItself, ListsNetworks, ListsVolumes, SameNetworks, has_volume, image_at, network_at}
 use Rattle.run_model.specs.Journals.{Setup}
 use Rattle.run_model.specs.Observation.{listing_fault}
-use Rattle.run_model.specs.Plans.{Aim, IsPlanOf, kind_of, seen_image}
+use Rattle.run_model.specs.Plans.{Aim, CarriesOut, kind_of, seen_image}
 use Rattle.run_model.specs.Requests.{OfAction, OfPoll, request_of}
 use Rattle.run_model.specs.Worlds.{Changed, Did, Move, Took, effect_of}
-use Rattle.run_model.proofs.PlanLaws.{planned_is_plan}
+use Rattle.run_model.proofs.RollLaws.{carries}
 use Rattle.run_model.proofs.RequestLemmas.{same_text}
 use Rattle.world_laws.specs.Sights.{IsSightOf}
 use Rattle.world_laws.proofs.Along.{IsEffect}
@@ -102,8 +102,8 @@ goes_itself setup moves old new c = record {
 }
 
 -- a run's actions are its plan's
-pub plan_of : (aim : Aim) (setup : Setup) (first last : Engine) (moves : List Move) → IsRunning aim setup first moves last → IsPlanOf (basis_of aim setup) setup.actions
-plan_of aim setup first last moves run = subst (λ (actions : List Action). IsPlanOf (basis_of aim setup) actions) (sym run.plan) (planned_is_plan (basis_of aim setup))
+pub plan_of : (aim : Aim) (setup : Setup) (first last : Engine) (moves : List Move) → IsRunning aim setup first moves last → CarriesOut (basis_of aim setup) setup.actions
+plan_of aim setup first last moves run = carries (basis_of aim setup) setup.actions run.plan
 
 -- the effect of an action
 module _ (aim : Aim) (setup : Setup) (first : Engine) (a : ℕ) (request : Request) (reply : Reply) (moves : List Move) (old new : Engine)

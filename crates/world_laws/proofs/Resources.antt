@@ -31,7 +31,7 @@ use Rattle.run_model.specs.Exact.{IsExactNetwork}
 use Rattle.run_model.specs.Journals.{Setup, is_good, standing}
 use Rattle.run_model.specs.Legal.{IsLegal}
 use Rattle.run_model.specs.Observation.{first_in, is_up, network_fault, volume_fault}
-use Rattle.run_model.specs.Plans.{Aim, Basis, IsPlanOf, is_make_of, is_network_seen, is_volume_seen, is_wanted, kind_of, make_of, seen_image}
+use Rattle.run_model.specs.Plans.{Aim, Basis, CarriesOut, is_make_of, is_network_seen, is_volume_seen, is_wanted, kind_of, make_of, seen_image}
 use Rattle.tree_base.specs.ByteOrder.{IsAscending, by_key, is_before}
 use Rattle.run_model.specs.Requests.{OfAction, OfPoll, made_id, network_id, seen_network_id}
 use Rattle.run_model.specs.Numbers.{places}
@@ -273,7 +273,7 @@ module _ (aim : Aim) (setup : Setup) (first last : Engine) (moves : List Move) (
   has_all : HasResources setup moves last
   has_all = resources aim setup first last moves run
 
-  plan : IsPlanOf (basis_of aim setup) setup.actions
+  plan : CarriesOut (basis_of aim setup) setup.actions
   plan = plan_of aim setup first last moves run
 
   -- each slot's image is the one that was seen

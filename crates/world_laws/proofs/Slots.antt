@@ -13,7 +13,7 @@ use Rattle.engine_types.specs.declared.ContainerState.{ContainerState}
 use Rattle.engine_types.specs.declared.Declared.{Declared}
 use Rattle.engine_types.specs.declared.Slot.{Slot}
 use Rattle.run_model.specs.EngineRules.{Among, has_label, is_of_project, label_in}
-use Rattle.run_model.specs.Labels.{agrees, is_lost_state, is_of_slot, names_service}
+use Rattle.run_model.specs.Labels.{agrees, hash_for, is_lost_state, is_of_slot, names_service}
 use Rattle.run_model.specs.Plans.{IsWhole, is_slot_before, slot_at}
 use Rattle.tree_base.specs.ByteOrder.{is_before}
 use Rattle.run_model.proofs.DistinctLists.{from_place}
@@ -43,7 +43,7 @@ pub record Agrees (project : List ℕ) (slot : Slot) (o : Option (List ℕ)) (la
   pub image : List ℕ
   pub image_is : o ≡ Some image
   pub of_slot : is_of_slot project slot labels ≡ true
-  pub hash : has_label labels the.hash_label slot.hash ≡ true
+  pub hash : has_label labels the.hash_label (hash_for slot labels) ≡ true
   pub same_image : image ≡ image_id
   pub here : is_lost_state state ≡ false
 

@@ -3,7 +3,7 @@ use Rattle.std.proofs.Common.{◌≡◌, ℕ, Bool, true, false, List, Option, S
 use Rattle.std.specs.Prelude.{if◌then◌else◌}
 use Rattle.std.specs.Str.{bytes_eq}
 use Rattle.engine_types.specs.declared.ActionKind.{ActionKind}
-use Rattle.engine_types.specs.declared.ActionKind.TheVariants.{MakeVolume, MakeNetwork, StopContainer, RemoveContainer, CreateSlot, ConnectSlot, StartSlot, RemoveNetwork, RemoveVolume}
+use Rattle.engine_types.specs.declared.ActionKind.TheVariants.{MakeVolume, MakeNetwork, StopContainer, RemoveContainer, CreateSlot, ConnectSlot, StopKept, StartSlot, RemoveNetwork, RemoveVolume}
 use Rattle.engine_types.specs.declared.ContainerRow.{ContainerRow}
 use Rattle.engine_types.specs.declared.Engine.{Engine}
 use Rattle.engine_types.specs.declared.NetRow.{NetRow}
@@ -36,6 +36,7 @@ wanted_taking_down basis setup (MakeVolume v) request down w h = let bad : false
 wanted_taking_down basis setup (MakeNetwork n) request down w h = let bad : false ≡ true = rw down at w in absurd (cc bad)
 wanted_taking_down basis setup (CreateSlot s) request down w h = let bad : false ≡ true = rw down at w in absurd (cc bad)
 wanted_taking_down basis setup (ConnectSlot s k) request down w h = let bad : false ≡ true = rw down at w in absurd (cc bad)
+wanted_taking_down basis setup (StopKept s) request down w h = let bad : false ≡ true = rw down at w in absurd (cc bad)
 wanted_taking_down basis setup (StartSlot s) request down w h = let bad : false ≡ true = rw down at w in absurd (cc bad)
 wanted_taking_down basis setup _ _ down w h = absurd h
 

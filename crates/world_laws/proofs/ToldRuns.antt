@@ -16,11 +16,12 @@ use Rattle.run_model.specs.Journals.{Holding, Nothing, Setup, Watch, Work, holdi
 use Rattle.run_model.specs.Legal.{IsLegal}
 use Rattle.run_model.specs.Logs.{exchanges_of}
 use Rattle.run_model.specs.Observation.{is_up}
-use Rattle.run_model.specs.Plans.{Aim, IsWhole, planned}
+use Rattle.run_model.specs.Plans.{Aim, HasPlan, IsWhole}
 use Rattle.run_model.specs.Requests.{OfAction, OfPoll, OfSeen, Source, asked, poll_place, request_out, source_of}
 use Rattle.run_model.specs.Runs.{run_setup}
 use Rattle.run_model.specs.Worlds.{Did, Effect, Fits, FitsLast, FitsOutcome, FitsSeen, IsLeft, IsWorldOf, MayAct, Move, Took, World, effect_of, entries_of, is_source, is_unsure, outcome_of, seen_effects}
 use Rattle.world_laws.specs.Laws.{ToldRunsHaveWorlds}
+use Rattle.run_model.proofs.RollLaws.{has_plan}
 use Rattle.world_laws.proofs.Asked.{out_asked}
 use Rattle.world_laws.proofs.Finished.{basis_of}
 use Rattle.world_laws.proofs.OneWorker.{eqb_back, not_ended, only_holder, source_for, source_is}
@@ -157,7 +158,7 @@ record IsOut (setup : Setup) (past : List Entry) (w : ℕ) : Type 0 where
   unended : outcome_of past source ≡ None
   asks : asked setup past source ≡ Some (request_out setup past w)
 
-module _ (aim : Aim) (setup : Setup) (plan : setup.actions ≡ planned (basis_of aim setup)) (whole : IsWhole setup.declared) (one : setup.limits.workers ≡ 1)
+module _ (aim : Aim) (setup : Setup) (plan : HasPlan (basis_of aim setup) setup.actions) (whole : IsWhole setup.declared) (one : setup.limits.workers ≡ 1)
     (waits : (is_up aim.purpose ≡ true) ⊎ (setup.limits.wait ≡ false)) where
   is_out : (past : List Entry) (w : ℕ) → IsLegal aim setup past → is_open (holding past w) ≡ true → IsOut setup past w
   is_out past w legal e = at (holding past w) refl e
@@ -311,10 +312,13 @@ module _ (aim : Aim) (setup : Setup) (plan : setup.actions ≡ planned (basis_of
 
 pub told_runs_have_worlds : ToldRunsHaveWorlds
 told_runs_have_worlds task journal first new one whole waits run told =
-    mapped aim setup refl whole one waits first _ _ new (λ last t. (t.moves, t.is)) (runs aim setup refl whole one waits first (reverse journal) new run.legal told)
+    mapped aim setup plan whole one waits first _ _ new (λ last t. (t.moves, t.is)) (runs aim setup plan whole one waits first (reverse journal) new run.legal told)
   where
     aim : Aim
     aim = task.aim
 
     setup : Setup
     setup = run_setup task journal
+
+    plan : HasPlan (basis_of aim setup) setup.actions
+    plan = has_plan (basis_of aim setup)

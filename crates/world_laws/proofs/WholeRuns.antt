@@ -14,8 +14,9 @@ use Rattle.run_model.specs.Plans.{Aim}
 use Rattle.run_model.specs.Runs.{IsRun, IsWorldOfRun, Task, run_fault, run_setup, unseen}
 use Rattle.run_model.specs.Worlds.{Move}
 use Rattle.run_model.proofs.KeptLaws.{any_from_list}
+use Rattle.run_model.proofs.RollLaws.{has_plan}
 use Rattle.world_laws.proofs.Ended.{all_well, not_bad}
-use Rattle.world_laws.proofs.Finished.{IsEnded}
+use Rattle.world_laws.proofs.Finished.{IsEnded, basis_of}
 
 -- a legal journal that has begun and whose observation didn't end badly has one that ended well
 sees : (aim : Aim) (setup : Setup) (past : List Entry) → IsLegal aim setup past → is_seen_bad past ≡ false → (past ≡ [] → ⊥) → is_some (seen_in past) ≡ true
@@ -50,7 +51,7 @@ pub is_ended : (task : Task) (journal : List Entry) (first last : Engine) (moves
     → IsWorldOfRun task journal first moves last → IsEnded task.aim (run_setup task journal) first moves last
 is_ended task journal first last moves run sound world = record {
   way = record {
-    plan = refl;
+    plan = has_plan (basis_of task.aim setup);
     legal = subst (λ (l : List Entry). IsLegal task.aim setup l) (sym world.journal) run.legal;
     saw = ap seen_in world.journal ∙ saw;
     world = world.world;

@@ -8,7 +8,7 @@ ghost use Rattle.world_laws.specs.Exactly.{fits, found_containers, found_network
 
 use crate::look_ups::{found_containers, found_networks, has_volume, image_at, network_has_name};
 use engine_types::{ContainerRow, Declared, Engine, NetRow, Pairs, Slot};
-use run_lookups::{agrees, has_slot_service, is_of_project, is_of_slot, network_name};
+use run_lookups::{agrees, has_declared_service, is_of_project, is_of_slot, network_name};
 use std::alloc::Global;
 use tree_base::{Memory, Text};
 
@@ -230,7 +230,7 @@ fn may_be_there(
     if !is_of_project(&declared.project, pairs) {
         return Ok(true);
     }
-    if !orphans && !has_slot_service(declared, pairs) {
+    if !orphans && !has_declared_service(declared, pairs) {
         return Ok(true);
     }
     is_of_some_slot(alloc, declared, pairs)

@@ -3,7 +3,7 @@ use Rattle.engine_types.specs.declared.Declared.{Declared}
 use Rattle.compose_cli.specs.Runs.{MovesEngine, RunsTask}
 use Rattle.project_run.specs.Whole.{IfBegun, task_of}
 use Rattle.run_model.specs.Plans.{IsWhole}
-use Rattle.serial_run.specs.Serial.{NeedsNoSlot, aim_of}
+use Rattle.serial_run.specs.Serial.{WaitsForNone, aim_of}
 use Rattle.world_laws.specs.OwnSpecs.{HasOwnSpecs}
 use Rattle.compose_cli.proofs.Declares.{declares_own, needs_no_slot}
 use Rattle.identity.proofs.Declares.{declares_whole}
@@ -16,7 +16,7 @@ pub run_declared-requires-clause-whole : goal.run_declared-requires-clause-whole
 run_declared-requires-clause-whole g c = subst IsWhole (sym c.in-Ok.ensures) (declares_whole c.args.project.now c.requires.order)
 
 pub run_declared-requires-clause-unconditional : goal.run_declared-requires-clause-unconditional
-run_declared-requires-clause-unconditional g c = subst NeedsNoSlot (sym c.in-Ok.ensures) (needs_no_slot c.args.project.now)
+run_declared-requires-clause-unconditional g c = subst WaitsForNone (sym c.in-Ok.ensures) (needs_no_slot c.args.project.now)
 
 pub returns-in-Ok-clause-ran : goal.returns-in-Ok-clause-ran
 returns-in-Ok-clause-ran g c = subst (λ (declared : Declared). IfBegun c.run_declared.result.journal

@@ -5,7 +5,7 @@ use Rattle.project_run.specs.Whole.{task_of}
 use Rattle.project_run.proofs.whole_run.run_project.Goals as goal
 
 pub returns-clause-kept : goal.returns-clause-kept
-returns-clause-kept g c = λ up. runs_spare_kept (task_of c.args.declared.now (aim_of c.args.aim)) c.run.result.journal up c.run.ensures.leaves.run
+returns-clause-kept g c = λ up. runs_spare_kept (task_of c.args.declared.now (aim_of c.args.aim)) c.run.result.journal up c.requires.whole.owners c.run.ensures.leaves.run
 
 pub returns-clause-world : goal.returns-clause-world
 returns-clause-world g c = if_any c.run.result.journal

@@ -11,6 +11,7 @@ returns c =
     let r3 = next_row w _ _ _ _ r2 c.in_ok-push_ends_by_id.ensures in
     let r4 = next_row w _ _ _ _ r3 c.in_ok-push_creates.ensures in
     let r5 = next_row w _ _ _ _ r4 c.in_ok-push_connects.ensures in
-    let r6 = next_row w _ _ _ _ r5 c.in_ok-push_starts.ensures in
-    let r7 = next_row w _ _ _ _ r6 c.in_ok-push_old_networks.ensures in
-    next_row w _ _ _ _ r7 c.in_ok-push_old_volumes.ensures
+    let r6 = next_row w _ _ _ _ r5 c.in_ok-push_restarts.ensures in
+    let r7 = next_row w _ _ _ _ r6 c.in_ok-push_starts.ensures in
+    let r8 = next_row w _ _ _ _ r7 c.in_ok-push_old_networks.ensures in
+    next_row w _ _ _ _ r8 c.in_ok-push_old_volumes.ensures
