@@ -1,10 +1,10 @@
-ghost use Rattle.config_command.specs.Commands.{IsConfigOrNone};
+ghost use Rattle.compose_config.specs.Commands.{IsConfigOrNone};
 ghost use Rattle.plain_services.specs.Commands.{command_of};
 
 use crate::scene::{Scene, scene_of};
 use crate::stage::{Stage, stage_of};
 use case_files::{Answers, CaseFault, Fields};
-use config_command::config_run;
+use compose_config::config_run;
 use plain_services::{Command, command_of};
 use std::alloc::Global;
 

@@ -1,6 +1,6 @@
 ghost use Rattle.std.specs.Prelude.{◌≡◌, false};
 ghost use Rattle.std.specs.List.{list_any};
-ghost use Rattle.run_outcome.specs.Permits.{is_poll};
+ghost use Rattle.run_report.specs.Permits.{is_poll};
 
 use crate::planning::{declared_at, seen_at};
 use case_files::{Answers, CaseFault, Fields};
@@ -8,7 +8,7 @@ use cases_messages::request_line;
 use cases_values::{journal_of, plan_of};
 use engine_types::{Declared, Entry, RunFault, Seen};
 use refusals::{Refusal, refusal_line, refusal_of, refusal_status};
-use run_outcome::{Run, fault, report};
+use run_report::{Run, fault, report};
 use std::alloc::Global;
 
 /// What a journal of a plan for what is declared and seen ends with: its `status`, its `report`, the line of its `fault`

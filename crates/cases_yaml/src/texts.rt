@@ -1,9 +1,9 @@
 use crate::refusals::{refuse, small_number};
 use crate::rows::row_under;
 use case_files::{Answers, CaseFault, Fields};
-use logical_lines::{LogicalLine, cut_len, grouped};
 use std::alloc::Global;
 use tree_base::{List, Memory, Text, Tree};
+use yaml_groups::{LogicalLine, cut_len, grouped};
 use yaml_lines::{Lines, YamlRefusal, rows_of, scan};
 use yaml_tree::read;
 

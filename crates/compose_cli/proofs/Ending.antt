@@ -2,8 +2,8 @@
 use Rattle.std.proofs.Common.{◌≡◌, Some, None, Ok, Err, subst, sym}
 use Rattle.std.specs.Prelude.{ℕ, List, Option, Result, IfErr, IfSome}
 use Rattle.compose_cli.specs.Ends.{IsRefusedWith, SendsNothing}
-use Rattle.config_command.specs.Commands.{IfLoads, IsFailedRead, IsReadFault}
-use Rattle.config_command.proofs.Loads.{IsRefusedAs, free_memory, joined_as, joined_refusal, loads_weaker, not_loaded}
+use Rattle.compose_config.specs.Commands.{IfLoads, IsFailedRead, IsReadFault}
+use Rattle.compose_config.proofs.Loads.{IsRefusedAs, free_memory, joined_as, joined_refusal, loads_weaker, not_loaded}
 use Rattle.compose_cli.specs.Runs.{IfRuns, aim_for}
 use Rattle.outside_files.specs.Files.{Contents}
 use Rattle.refusals.specs.Origins.{IsBeforeDial, IsOfLoading, loading_refusal}

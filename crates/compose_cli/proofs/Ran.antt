@@ -11,7 +11,7 @@ use Rattle.compose_cli.specs.Runs.{ForTask, HoldsExactly, HoldsNone, IsRefusalOf
 use Rattle.engine_types.specs.declared.Entry.{Entry}
 use Rattle.engine_types.specs.declared.Exchange.{Exchange}
 use Rattle.observe_project.specs.Exchanges.{HasCauseOfEnd, HasCauseOfFault}
-use Rattle.config_command.proofs.Loads.{for_project}
+use Rattle.compose_config.proofs.Loads.{for_project}
 use Rattle.plain_services.specs.Commands.{command_of}
 use Rattle.plain_services.specs.Loading.{IsSpelled, LoadsAs, loaded}
 use Rattle.service_attrs.specs.declared.Project.{Project}

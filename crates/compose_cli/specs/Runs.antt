@@ -6,7 +6,7 @@ use Rattle.engine_types.specs.declared.Exchange.{Exchange}
 use Rattle.engine_types.specs.declared.Purpose.{Purpose}
 use Rattle.engine_types.specs.declared.RunFault.{RunFault}
 use Rattle.compose_cli.specs.declared.ended.Ended.{Ended}
-use Rattle.config_command.specs.Commands.{ForProject}
+use Rattle.compose_config.specs.Commands.{ForProject}
 use Rattle.identity.specs.Declaring.{declared_of}
 use Rattle.outside_files.specs.Counts.{Rose}
 use Rattle.outside_files.specs.Files.{Contents}

@@ -12,7 +12,7 @@ mod main_plug;
 mod run;
 mod top;
 
-pub use config_command::{ConfigEnd, config_run};
+pub use compose_config::{ConfigEnd, config_run};
 pub use ended::Ended;
 pub use main_plug::MainPlug;
 pub use top::serial_main;

@@ -2,7 +2,7 @@ ghost use Rattle.std.specs.Prelude.{◌≡◌, ◌⊎◌, ◌<◌, ◌^◌, [], 
 ghost use Rattle.std.specs.Option.{ForSome};
 ghost use Rattle.compose_cli.specs.Ends.{CountsHands, IsRefusedWith, SendsNothing};
 ghost use Rattle.compose_cli.specs.Runs.{ForTask, HoldsExactly, HoldsNone, IfRuns, IsRefusalOf, IsStatusOf, IsUnbegun, LeadsOn, MovesEngine, Reports, RunsTask, aim_for, task_for};
-ghost use Rattle.config_command.specs.Commands.{ForProject, GrewByPrefix, IfLoads, IsFailedRead, IsOfConfig, IsReadFault, OnlyOutsideFails};
+ghost use Rattle.compose_config.specs.Commands.{ForProject, GrewByPrefix, IfLoads, IsFailedRead, IsOfConfig, IsReadFault, OnlyOutsideFails};
 ghost use Rattle.project_print.specs.ProjectPages.{project_page};
 ghost use Rattle.outside_files.specs.Counts.{Rose};
 ghost use Rattle.outside_files.specs.Sinks.{GrewBy};
@@ -27,7 +27,7 @@ ghost use Rattle.refusals.specs.Saying.{IsSaid, SaysRefusal};
 
 use crate::ended::Ended;
 use crate::run::{refused, run_declared};
-use config_command::{ConfigEnd, config_run};
+use compose_config::{ConfigEnd, config_run};
 use engine_types::Purpose;
 use identity::declare;
 use outside_api::Plug;

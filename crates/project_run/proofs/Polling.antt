@@ -10,8 +10,8 @@ use Rattle.engine_types.specs.declared.Seen.{Seen}
 use Rattle.run_model.specs.Legal.{IsLegal, Look, answer_to, entries_limit, is_other_out, next_action, next_poll}
 use Rattle.run_model.specs.Journals.{is_ending}
 use Rattle.run_model.specs.Plans.{Aim}
-use Rattle.run_outcome.specs.Permits.{is_poll}
-use Rattle.run_outcome.proofs.Polls.{none_reversed}
+use Rattle.run_report.specs.Permits.{is_poll}
+use Rattle.run_report.proofs.Polls.{none_reversed}
 use Rattle.serial_run.proofs.Deciding.{no_poll}
 use Rattle.serial_run.specs.Serial.{WaitsForNone, serial_setup}
 

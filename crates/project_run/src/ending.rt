@@ -3,11 +3,11 @@ ghost use Rattle.std.specs.List.{list_any};
 ghost use Rattle.project_run.specs.Whole.{IsFault, IsReport};
 ghost use Rattle.run_model.specs.Ending.{first_fault};
 ghost use Rattle.run_model.specs.Lines.{report_text};
-ghost use Rattle.run_outcome.specs.Permits.{is_poll, of_one_worker};
+ghost use Rattle.run_report.specs.Permits.{is_poll, of_one_worker};
 
 use crate::ran::Ran;
 use engine_types::{Entry, RunFault};
-use run_outcome::{Run, fault, report};
+use run_report::{Run, fault, report};
 use std::alloc::Global;
 use tree_base::{List, Memory, Text};
 

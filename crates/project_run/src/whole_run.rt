@@ -18,7 +18,7 @@ use crate::opening::{Opening, open};
 use crate::ran::Ran;
 use engine_types::{Declared, Entry, Plan, RunFault, Seen};
 use outside_api::Hand;
-use run_outcome::Run;
+use run_report::Run;
 use serial_run::{Aim, run_plan};
 use std::alloc::Global;
 use tree_base::{List, ReservedList, Text};

@@ -1,6 +1,6 @@
 //! Laws, which run nothing.
 
-use config_command::{
+use compose_config::{
     empty_projects_have_two_lines, pages_have_their_lines, plain_pages_are_files,
 };
 

@@ -2,7 +2,7 @@
 use Rattle.std.proofs.Common.{◌≡◌, ◌∙◌, ℕ, zero, suc, ◌+◌, ◌-◌, ◌≤◌, List, [], ◌∷◌, ◌++◌, Bool, true, false, not, eqb, leb, if◌then◌else◌, Result, Ok, Err, IfOk, length, drop, refl, sym, ap, subst, inl, inr, arith, length-drop}
 use Rattle.std.proofs.lemmas.Bool.{cases_Bool, eqb-true}
 use Rattle.std.proofs.lemmas.List.{drop-drop}
-use Rattle.logical_lines.specs.Cuts.{cut_len, is_cut, is_space, open_behind, token_len}
+use Rattle.yaml_groups.specs.Cuts.{cut_len, is_cut, is_space, open_behind, token_len}
 use Rattle.tree_base.specs.declared.tree.Tree.{Tree}
 use Rattle.yaml_flow.specs.declared.piece.Piece.{Piece}
 use Rattle.yaml_flow.specs.Flow.{PieceReader, at_stop, flow, flow_entry, flow_item, flow_node, flow_properties, flow_value, nothing_before, read_piece}

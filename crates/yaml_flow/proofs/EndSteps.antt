@@ -2,8 +2,8 @@
 use Rattle.std.proofs.Common.{◌≡◌, ◌∙◌, ℕ, zero, suc, ◌+◌, ◌-◌, ◌≤◌, ◌<◌, List, [], ◌∷◌, Bool, true, false, ◌&&◌, ◌||◌, not, eqb, if◌then◌else◌, Result, Ok, ◌⊎◌, get_or, length, drop, refl, sym, ap, subst, inl, inr, arith, length-drop}
 use Rattle.std.proofs.lemmas.Bool.{cases_Bool, eqb-true}
 use Rattle.std.proofs.lemmas.List.{drop-drop, get_or-drop}
-use Rattle.logical_lines.specs.Cuts.{cut_len, is_cut, is_space, open_behind, quoted_token, token_len, with_colon}
-use Rattle.logical_lines.proofs.CutSteps.{space_at, space_before, token_step}
+use Rattle.yaml_groups.specs.Cuts.{cut_len, is_cut, is_space, open_behind, quoted_token, token_len, with_colon}
+use Rattle.yaml_groups.proofs.CutSteps.{space_at, space_before, token_step}
 use Rattle.yaml_flow.specs.Gaps.{next_place}
 use Rattle.yaml_flow.specs.Pieces.{is_end, is_stop, stop_from}
 use Rattle.yaml_flow.proofs.PieceSteps.{stands}

@@ -2,8 +2,8 @@
 use Rattle.std.proofs.Common.{◌≡◌, ◌∙◌, ℕ, zero, suc, ◌+◌, ◌-◌, ◌≤◌, ◌<◌, List, [], ◌∷◌, Bool, true, false, ◌||◌, eqb, leb, if◌then◌else◌, Option, Some, None, Result, Ok, Err, length, drop, refl, sym, ap, subst, inl, inr, arith}
 use Rattle.std.proofs.lemmas.Bool.{cases_Bool, eqb-true}
 use Rattle.std.proofs.lemmas.List.{drop-drop}
-use Rattle.logical_lines.specs.Cuts.{cut_len, cuts, is_closing, is_cut, is_opening, is_space, open_behind, token_len}
-use Rattle.logical_lines.specs.Grouped.{closing}
+use Rattle.yaml_groups.specs.Cuts.{cut_len, cuts, is_closing, is_cut, is_opening, is_space, open_behind, token_len}
+use Rattle.yaml_groups.specs.Grouped.{closing}
 use Rattle.tree_base.specs.declared.tree.Tree.{Tree}
 use Rattle.tree_base.specs.declared.tree.Tree.TheVariants.{Seq}
 use Rattle.tree_base.specs.Entries.{value_at}

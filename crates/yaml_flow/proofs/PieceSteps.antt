@@ -2,8 +2,8 @@
 use Rattle.std.proofs.Common.{◌≡◌, ◌∙◌, ℕ, ◌+◌, ◌-◌, ◌≤◌, ◌<◌, List, [], ◌∷◌, Bool, true, false, eqb, if◌then◌else◌, Result, Ok, length, drop, refl, sym, ap, inl, inr, arith, length-drop}
 use Rattle.std.proofs.lemmas.Bool.{cases_Bool, false≢true}
 use Rattle.std.proofs.lemmas.List.{drop-drop}
-use Rattle.logical_lines.specs.Cuts.{cuts, cut_len}
-use Rattle.logical_lines.proofs.CutSteps.{cuts_are, cuts_here}
+use Rattle.yaml_groups.specs.Cuts.{cuts, cut_len}
+use Rattle.yaml_groups.proofs.CutSteps.{cuts_are, cuts_here}
 use Rattle.yaml_flow.specs.declared.piece.Piece.{Piece}
 use Rattle.yaml_flow.specs.Flow.{PieceReader, pieces, read_piece}
 use Rattle.yaml_flow.specs.Pieces.{is_last_of, piece_at}

@@ -2,7 +2,7 @@
 use Rattle.std.proofs.Common.{◌≡◌, ◌∙◌, ℕ, zero, suc, ◌+◌, ◌-◌, List, [], ◌∷◌, Bool, true, false, ◌&&◌, ◌||◌, eqb, leb, ◌==◌, Result, Ok, drop, refl, sym, ap, subst, inl, inr, arith}
 use Rattle.std.proofs.lemmas.Bool.{cases_Bool, eqb-true}
 use Rattle.std.proofs.lemmas.List.{drop-drop}
-use Rattle.logical_lines.specs.Cuts.{cut_len, is_cut, is_space, line_len, open_behind, token_len}
+use Rattle.yaml_groups.specs.Cuts.{cut_len, is_cut, is_space, line_len, open_behind, token_len}
 use Rattle.yaml_flow.specs.Gaps.{next_place, past_gap}
 use Rattle.yaml_flow.specs.Pieces.{is_end, is_stop, stop_from}
 use Rattle.yaml_lines.specs.Blanks.{blanks, is_white}

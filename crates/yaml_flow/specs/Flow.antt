@@ -1,6 +1,6 @@
 -- Flow collections: one row of all their lines, cut at their own commas (YAML 1.2, chapter 7.4).
 use Rattle.std.specs.Prelude.{ℕ, zero, suc, ◌+◌, List, [], ◌∷◌, ◌++◌, Bool, true, false, Result, Ok, Err, length, nat_le, ◌==◌, if◌then◌else◌}
-use Rattle.logical_lines.specs.Cuts.{cuts}
+use Rattle.yaml_groups.specs.Cuts.{cuts}
 use Rattle.tree_base.specs.declared.tree.Tree.{Tree}
 use Rattle.tree_base.specs.declared.tree.Tree.TheVariants.{Seq}
 use Rattle.yaml_flow.specs.declared.piece.Piece.{Piece}

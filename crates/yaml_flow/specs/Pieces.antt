@@ -1,6 +1,6 @@
 -- Words for the pieces of a flow collection, which private contracts cite.
 use Rattle.std.specs.Prelude.{ℕ, ◌+◌, List, [], ◌∷◌, Bool, true, false, Result, Ok, not, if◌then◌else◌}
-use Rattle.logical_lines.specs.Cuts.{cut_len, is_cut}
+use Rattle.yaml_groups.specs.Cuts.{cut_len, is_cut}
 use Rattle.yaml_flow.specs.declared.piece.Piece.{Piece}
 use Rattle.yaml_flow.specs.Gaps.{next_place}
 use Rattle.yaml_lines.specs.declared.refusal.YamlFault.TheVariants.{BadFlow}

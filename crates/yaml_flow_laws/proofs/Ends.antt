@@ -1,7 +1,7 @@
 -- What may stand behind a node in a flow collection: a comma, a bracket that closes, or nothing.
 use Rattle.std.proofs.Common.{◌≡◌, ℕ, ◌||◌, Bool, true, false, eqb, List, [], ◌∷◌, Ok, refl, sym, subst, inl, inr}
 use Rattle.std.proofs.lemmas.Bool.{eqb-true, or_cases}
-use Rattle.logical_lines.specs.Cuts.{with_colon}
+use Rattle.yaml_groups.specs.Cuts.{with_colon}
 use Rattle.yaml_flow.specs.Gaps.{past_gap}
 use Rattle.yaml_lines.specs.Blanks.{blanks}
 use Rattle.yaml_lines.specs.declared.plain.Context.TheVariants.{Flow}

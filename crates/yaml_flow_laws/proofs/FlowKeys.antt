@@ -1,7 +1,7 @@
 -- The keys of a flow mapping, with the colon and the space behind them.
 use Rattle.std.proofs.Common.{◌≡◌, ◌∙◌, ℕ, suc, ◌+◌, ◌||◌, Bool, true, false, eqb, List, [], ◌∷◌, ◌++◌, Ok, drop, length, refl, sym, ap, subst, append_assoc, append-nil, length-append, arith}
 use Rattle.std.proofs.lemmas.List.{drop_at}
-use Rattle.logical_lines.specs.Cuts.{is_closing, token_len, with_colon}
+use Rattle.yaml_groups.specs.Cuts.{is_closing, token_len, with_colon}
 use Rattle.project_print.specs.Scalars.{scalar}
 use Rattle.yaml_lines.specs.declared.plain.Context.TheVariants.{Flow}
 use Rattle.yaml_lines.specs.declared.row.Row.{Row}

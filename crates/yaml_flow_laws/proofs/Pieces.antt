@@ -3,7 +3,7 @@ use Rattle.std.proofs.Common.{◌≡◌, ◌∙◌, ℕ, All, ◌+◌, ◌<◌, 
 use Rattle.std.proofs.lemmas.Bool.{cond-false, cond-true, le-leb, lt-leb}
 use Rattle.std.proofs.lemmas.List.{drop-drop}
 use Rattle.std.proofs.lemmas.List.Elements.{All-head, All-tail}
-use Rattle.logical_lines.specs.Cuts.{cuts, is_cut}
+use Rattle.yaml_groups.specs.Cuts.{cuts, is_cut}
 use Rattle.yaml_flow.specs.declared.piece.Piece.{Piece}
 use Rattle.yaml_flow.specs.Flow.{PieceReader, pieces, read_piece}
 use Rattle.yaml_flow.specs.Gaps.{next_place, past_gap}

@@ -3,7 +3,7 @@ use Rattle.std.proofs.Common.{◌≡◌, ◌∙◌, ℕ, suc, ◌+◌, ◌-◌, 
 use Rattle.std.proofs.lemmas.Bool.{and_left, cond-false, cond-true}
 use Rattle.std.proofs.lemmas.List.{drop_at}
 use Rattle.std.specs.Str.{encode_utf8_all}
-use Rattle.logical_lines.specs.Cuts.{is_closing, is_opening, open_behind, quoted_token, token_len, with_colon}
+use Rattle.yaml_groups.specs.Cuts.{is_closing, is_opening, open_behind, quoted_token, token_len, with_colon}
 use Rattle.project_print.specs.Scalars.{scalar}
 use Rattle.tree_base.specs.declared.tree.Tree.{Tree}
 use Rattle.tree_base.specs.declared.tree.Tree.TheVariants.{Null, Scalar}

@@ -1,7 +1,7 @@
 -- How the cuts of a flow collection go over a text: over tokens, and over brackets that open and close.
 use Rattle.std.proofs.Common.{◌≡◌, ◌∙◌, ℕ, suc, ◌+◌, ◌-◌, Bool, false, cond, eqb, ◌||◌, List, [], ◌∷◌, ◌++◌, length, refl, ap, append_assoc, length-append, arith}
 use Rattle.std.proofs.lemmas.Bool.{and_left, and_right, ne_eqb}
-use Rattle.logical_lines.specs.Cuts.{cuts, is_closing, is_cut, is_space, open_behind, token_len}
+use Rattle.yaml_groups.specs.Cuts.{cuts, is_closing, is_cut, is_space, open_behind, token_len}
 
 -- a text is passed over, before a rest: behind so many open brackets, and then so many
 abbrev pub Goes : ℕ → ℕ → List ℕ → List ℕ → Type 0

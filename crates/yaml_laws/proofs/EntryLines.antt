@@ -2,7 +2,7 @@
 use Rattle.std.proofs.Common.{◌≡◌, ◌∙◌, ℕ, suc, ◌+◌, ◌&&◌, ◌||◌, Bool, true, false, cond, List, [], ◌∷◌, ◌++◌, Some, None, drop, length, arith, refl, sym, ap}
 use Rattle.std.proofs.lemmas.Bool.{and_parts, cond-false}
 use Rattle.std.proofs.lemmas.List.{drop-drop, drop_at}
-use Rattle.logical_lines.specs.Grouped.{begins_block, begins_flow, head_of}
+use Rattle.yaml_groups.specs.Grouped.{begins_block, begins_flow, head_of}
 use Rattle.yaml_lines.specs.Blanks.{is_white, spaces, tab_indent}
 use Rattle.yaml_lines.specs.declared.plain.Context.TheVariants.{Block}
 use Rattle.yaml_lines.specs.Plain.{is_colon, plain_of}

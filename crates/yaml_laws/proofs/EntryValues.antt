@@ -4,7 +4,7 @@ use Rattle.std.proofs.lemmas.Bool.{and_parts}
 use Rattle.std.proofs.lemmas.List.{drop-drop}
 use Rattle.std.proofs.lemmas.Str.{encode_ascii}
 use Rattle.std.specs.Str.{bytes_eq, encode_utf8_all}
-use Rattle.logical_lines.specs.declared.line.LogicalLine.{LogicalLine}
+use Rattle.yaml_groups.specs.declared.line.LogicalLine.{LogicalLine}
 use Rattle.tree_base.specs.Entries.{value_at, with_entry}
 use Rattle.tree_base.specs.declared.tree.Tree.{Tree}
 use Rattle.yaml_lines.specs.Blanks.{blanks, is_rest_blank}

@@ -2,8 +2,8 @@
 use Rattle.std.proofs.Common.{◌≡◌, ℕ, List, [], ◌∷◌, Bool, true, false, All, Ok, Result, map, drop, refl, ap, subst, ◌∙◌}
 use Rattle.std.proofs.lemmas.List.{get_or-map, length-map}
 use Rattle.std.proofs.lemmas.List.Elements.{All-head, All-tail}
-use Rattle.logical_lines.specs.declared.line.LogicalLine.{LogicalLine}
-use Rattle.logical_lines.specs.Grouped.{begins_block, begins_flow, grouped, head_of}
+use Rattle.yaml_groups.specs.declared.line.LogicalLine.{LogicalLine}
+use Rattle.yaml_groups.specs.Grouped.{begins_block, begins_flow, grouped, head_of}
 use Rattle.yaml_lines.specs.Blanks.{is_blank, spaces}
 use Rattle.yaml_lines.specs.Block.{lines_of_rows}
 use Rattle.yaml_lines.specs.declared.lines.Line.{Line}

@@ -1,6 +1,6 @@
 -- What every piece of a flow collection keeps.
 use Rattle.std.proofs.Common.{ℕ, ◌+◌, List, [], ◌∷◌, Bool, true, false, nat_le, length}
-use Rattle.logical_lines.specs.Cuts.{cuts}
+use Rattle.yaml_groups.specs.Cuts.{cuts}
 use Rattle.yaml_flow.specs.declared.piece.Piece.{Piece}
 use Rattle.yaml_flow.specs.Flow.{PieceReader, between, pieces, read_piece}
 use Rattle.yaml_flow.specs.Gaps.{next_place}

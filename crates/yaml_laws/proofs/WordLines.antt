@@ -2,7 +2,7 @@
 use Rattle.std.proofs.Common.{◌≡◌, ℕ, ◌<◌, ◌&&◌, ◌||◌, Bool, true, false, eqb, List, ◌∷◌, None, Ok, refl, arith}
 use Rattle.std.proofs.lemmas.Bool.{agree_below, agree_below_at}
 use Rattle.std.proofs.lemmas.Bool.Decides.{nat_tests}
-use Rattle.logical_lines.specs.Grouped.{begins_block, begins_flow}
+use Rattle.yaml_groups.specs.Grouped.{begins_block, begins_flow}
 use Rattle.yaml_lines.specs.Blanks.{blanks, is_rest_blank, is_white, spaces, tab_indent}
 use Rattle.yaml_lines.specs.declared.plain.Context.TheVariants.{Block}
 use Rattle.yaml_lines.specs.declared.row.Row.{Row}

@@ -2,9 +2,9 @@
 use Rattle.std.proofs.Common.{◌≡◌, ◌∙◌, ℕ, zero, suc, ◌+◌, ◌-◌, ◌<◌, ◌≤◌, ◌==◌, ◌||◌, ◌&&◌, List, [], ◌∷◌, ◌++◌, Bool, true, false, nat_le, nat_lt, Option, Some, None, take, drop, length, refl, sym, ap, subst, ◌⊎◌, inl, inr, arith, append_assoc, if◌then◌else◌}
 use Rattle.std.proofs.lemmas.Bool.{cases_Bool, cond_both, le-leb}
 use Rattle.std.proofs.lemmas.List.{append-nil, drop-append-le, length-append, length-drop, length-map, map-append, take-append-le}
-use Rattle.logical_lines.specs.Cuts.{cuts, is_cut, is_space, open_behind, token_len}
-use Rattle.logical_lines.specs.declared.line.LogicalLine.{LogicalLine}
-use Rattle.logical_lines.specs.Grouped.{begins_block, begins_flow, belonging, closing, ends_before, flow_lines, grouped, head_of, joined_chars, line_ends_in, with_lines}
+use Rattle.yaml_groups.specs.Cuts.{cuts, is_cut, is_space, open_behind, token_len}
+use Rattle.yaml_groups.specs.declared.line.LogicalLine.{LogicalLine}
+use Rattle.yaml_groups.specs.Grouped.{begins_block, begins_flow, belonging, closing, ends_before, flow_lines, grouped, head_of, joined_chars, line_ends_in, with_lines}
 use Rattle.yaml_lines.specs.Blanks.{is_blank, spaces}
 use Rattle.yaml_lines.specs.Block.{block_of, block_with, content_indent, content_len, empty_len, is_all_spaces, lines_of_rows}
 use Rattle.yaml_lines.specs.declared.block_style.Chomp.TheVariants.{Clip}

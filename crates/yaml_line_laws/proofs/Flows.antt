@@ -1,6 +1,6 @@
 -- Flow collections are read alike in rows without their numbers.
 use Rattle.std.proofs.Common.{◌≡◌, ℕ, zero, suc, ◌+◌, ◌==◌, ◌||◌, ◌&&◌, List, [], ◌∷◌, Bool, true, false, eqb, nat_le, length, refl, ap, subst}
-use Rattle.logical_lines.specs.Cuts.{cuts}
+use Rattle.yaml_groups.specs.Cuts.{cuts}
 use Rattle.tree_base.specs.declared.tree.Tree.{Tree}
 use Rattle.tree_base.specs.declared.tree.Tree.TheVariants.{Seq}
 use Rattle.yaml_flow.specs.declared.piece.Piece.{Piece}

@@ -4,7 +4,7 @@ use Rattle.std.proofs.lemmas.Bool.{cond_both}
 use Rattle.std.proofs.lemmas.List.{drop-append-le, length-drop, length-take, take-append-le}
 use Rattle.std.specs.Char.{digit_value}
 use Rattle.std.specs.Option.{option_and_then, option_map}
-use Rattle.logical_lines.specs.Cuts.{line_len, quoted_token, token_len, with_colon}
+use Rattle.yaml_groups.specs.Cuts.{line_len, quoted_token, token_len, with_colon}
 use Rattle.yaml_lines.specs.Blanks.{blanks, is_white}
 use Rattle.yaml_lines.specs.declared.plain.Context.TheVariants.{Flow}
 use Rattle.yaml_lines.specs.Plain.{begins_plain, ends_item, ends_plain, is_colon, is_flow_mark, is_indicator, is_mark_before_space, is_space_or_end, plain_len, plain_run, trimmed_len}

@@ -1,8 +1,8 @@
 -- Lines belong together alike without the numbers of their rows.
 use Rattle.std.proofs.Common.{◌≡◌, ◌∙◌, ℕ, zero, suc, ◌+◌, List, [], ◌∷◌, ◌++◌, Bool, true, false, take, drop, map, refl, sym, ap, if◌then◌else◌}
 use Rattle.std.proofs.lemmas.List.{length-map, take-map}
-use Rattle.logical_lines.specs.declared.line.LogicalLine.{LogicalLine}
-use Rattle.logical_lines.specs.Grouped.{begins_block, begins_flow, belonging, flow_lines, grouped, head_of, joined_chars, with_lines}
+use Rattle.yaml_groups.specs.declared.line.LogicalLine.{LogicalLine}
+use Rattle.yaml_groups.specs.Grouped.{begins_block, begins_flow, belonging, flow_lines, grouped, head_of, joined_chars, with_lines}
 use Rattle.yaml_lines.specs.Blanks.{is_blank}
 use Rattle.yaml_lines.specs.Block.{block_of}
 use Rattle.yaml_lines.specs.declared.block_style.Chomp.TheVariants.{Clip}

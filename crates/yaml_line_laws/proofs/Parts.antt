@@ -1,7 +1,7 @@
 -- Lines without the numbers of their rows: how they are cut into parts, and what is read alike of each.
 use Rattle.std.proofs.Common.{◌≡◌, ◌∙◌, ℕ, ◌+◌, List, [], ◌∷◌, Bool, true, false, ◌||◌, not, Option, Some, None, map, refl, sym, ap, if◌then◌else◌}
 use Rattle.std.proofs.lemmas.List.{length-map}
-use Rattle.logical_lines.specs.declared.line.LogicalLine.{LogicalLine}
+use Rattle.yaml_groups.specs.declared.line.LogicalLine.{LogicalLine}
 use Rattle.yaml_lines.specs.Blanks.{tab_indent}
 use Rattle.yaml_lines.specs.declared.refusal.YamlFault.TheVariants.{BadIndent, TabIndent, Unsupported}
 use Rattle.yaml_nodes.specs.declared.progress.Progress.{Progress}

@@ -2,7 +2,7 @@
 use Rattle.std.specs.Prelude.{◌≡◌, ℕ, zero, suc, List, [], ◌∷◌, ◌++◌, true, Result, Ok, Err, All, map, if◌then◌else◌}
 use Rattle.tree_base.specs.declared.place.Place.{Place}
 use Rattle.tree_base.specs.declared.tree.Tree.{Tree}
-use Rattle.logical_lines.specs.Grouped.{belonging, head_of}
+use Rattle.yaml_groups.specs.Grouped.{belonging, head_of}
 use Rattle.yaml_lines.specs.Blanks.{is_blank, spaces}
 use Rattle.yaml_lines.specs.Block.{lines_of_rows}
 use Rattle.yaml_lines.specs.declared.lines.Lines.{Lines}

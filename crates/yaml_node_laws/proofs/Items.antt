@@ -4,7 +4,7 @@ use Rattle.std.proofs.lemmas.Bool.{and_from, cond-true, eq-eqb, le-leb}
 use Rattle.std.proofs.lemmas.List.{append-nil, drop-drop}
 use Rattle.std.proofs.lemmas.List.Elements.{All-cons, All-nil}
 use Rattle.std.proofs.lemmas.List.Sums.{sum_by-cons}
-use Rattle.logical_lines.specs.declared.line.LogicalLine.{LogicalLine}
+use Rattle.yaml_groups.specs.declared.line.LogicalLine.{LogicalLine}
 use Rattle.project_print.specs.declared.node.Node.{Node}
 use Rattle.project_print.specs.Pages.{Shown, block, deeper, item, lines_of, shown, word}
 use Rattle.tree_base.specs.Trees.{depth, node_count, text_size}

@@ -1,7 +1,7 @@
 -- Lines with what is shown of a tree are read as that tree.
 use Rattle.std.proofs.Common.{◌≡◌, ◌∙◌, ℕ, ◌≤◌, false, List, [], ◌∷◌, Ok, map, ap, arith}
 use Rattle.std.proofs.lemmas.Bool.{cond-false}
-use Rattle.logical_lines.specs.Grouped.{grouped}
+use Rattle.yaml_groups.specs.Grouped.{grouped}
 use Rattle.project_print.specs.Pages.{Shown, lines_of}
 use Rattle.tree_base.specs.Trees.{node_count, text_size}
 use Rattle.tree_base.specs.declared.tree.Tree.{Tree}

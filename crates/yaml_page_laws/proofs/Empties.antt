@@ -2,8 +2,8 @@
 use Rattle.std.proofs.Common.{◌≡◌, ◌∙◌, ℕ, suc, ◌+◌, ◌-◌, ◌<◌, ◌≤◌, true, false, List, [], ◌∷◌, ◌++◌, Ok, drop, length, refl, sym, ap, length-drop, arith}
 use Rattle.std.proofs.lemmas.Bool.{cond-true, le-leb}
 use Rattle.std.proofs.lemmas.List.{drop-append-le, drop-drop}
-use Rattle.logical_lines.specs.Cuts.{cuts}
-use Rattle.logical_lines.specs.Grouped.{begins_flow, belonging, flow_lines, joined_chars}
+use Rattle.yaml_groups.specs.Cuts.{cuts}
+use Rattle.yaml_groups.specs.Grouped.{begins_flow, belonging, flow_lines, joined_chars}
 use Rattle.tree_base.specs.declared.tree.Tree.TheVariants.{Map, Seq}
 use Rattle.yaml_flow.specs.Flow.{PieceReader, between, flow, flow_entry, flow_item, flow_mapping, flow_sequence, pieces, read_piece}
 use Rattle.yaml_flow.specs.Gaps.{next_place, past_gap}

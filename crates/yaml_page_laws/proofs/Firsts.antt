@@ -3,7 +3,7 @@ use Rattle.std.proofs.Common.{◌≡◌, ℕ, ◌<◌, ◌&&◌, ◌||◌, Bool,
 use Rattle.std.proofs.lemmas.Bool.{agree_below, agree_below_at}
 use Rattle.std.proofs.lemmas.Bool.Decides.{nat_tests}
 use Rattle.std.specs.Char.{is_ascii_alphanumeric}
-use Rattle.logical_lines.specs.Grouped.{begins_block, begins_flow}
+use Rattle.yaml_groups.specs.Grouped.{begins_block, begins_flow}
 use Rattle.yaml_lines.specs.Blanks.{blanks, is_rest_blank, is_tab_first, is_white, spaces}
 use Rattle.yaml_lines.specs.declared.row.Row.{Row}
 use Rattle.yaml_lines.specs.Plain.{is_colon}

@@ -3,7 +3,7 @@ use Rattle.std.proofs.Common.{◌≡◌, ◌∙◌, ℕ, zero, suc, ◌+◌, ◌
 use Rattle.std.proofs.lemmas.Bool.{cond-false}
 use Rattle.std.proofs.lemmas.List.{drop-drop, drop_at}
 use Rattle.std.specs.Str.{encode_utf8_all}
-use Rattle.logical_lines.specs.Grouped.{head_of}
+use Rattle.yaml_groups.specs.Grouped.{head_of}
 use Rattle.project_print.specs.Scalars.{scalar}
 use Rattle.yaml_lines.specs.Blanks.{is_rest_blank, is_tab_first, is_white, spaces}
 use Rattle.yaml_lines.specs.declared.plain.Context.TheVariants.{Block}

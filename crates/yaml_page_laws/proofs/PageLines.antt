@@ -3,8 +3,8 @@ use Rattle.std.proofs.Common.{◌≡◌, ◌∙◌, ℕ, zero, suc, ◌+◌, ◌
 use Rattle.std.proofs.lemmas.Bool.{cond-false, or_parts}
 use Rattle.std.proofs.lemmas.List.{drop-drop, drop_at}
 use Rattle.std.proofs.lemmas.List.Elements.{All-append, All-cons, All-head, All-map, All-nil, All-tail, All-weaker}
-use Rattle.logical_lines.specs.declared.line.LogicalLine.{LogicalLine}
-use Rattle.logical_lines.specs.Grouped.{begins_flow, belonging, grouped, head_of, with_lines}
+use Rattle.yaml_groups.specs.declared.line.LogicalLine.{LogicalLine}
+use Rattle.yaml_groups.specs.Grouped.{begins_flow, belonging, grouped, head_of, with_lines}
 use Rattle.project_print.specs.Pages.{Shown, block, deeper, entry, item, lines_of, word}
 use Rattle.project_print.specs.Scalars.{scalar}
 use Rattle.tree_base.specs.declared.tree.Tree.{Tree}

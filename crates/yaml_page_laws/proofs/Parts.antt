@@ -2,7 +2,7 @@
 use Rattle.std.proofs.Common.{◌≡◌, ◌∙◌, ℕ, suc, ◌+◌, ◌<◌, Bool, true, false, not, eqb, ◌||◌, All, List, [], ◌∷◌, ◌++◌, drop, length, map, refl, ap, arith}
 use Rattle.std.proofs.lemmas.Bool.{and_left, cond-false, cond-true, lt-leb, ne_eqb}
 use Rattle.std.proofs.lemmas.List.Elements.{All-cons, All-head, All-nil, All-tail}
-use Rattle.logical_lines.specs.declared.line.LogicalLine.{LogicalLine}
+use Rattle.yaml_groups.specs.declared.line.LogicalLine.{LogicalLine}
 use Rattle.project_print.specs.Pages.{deeper}
 use Rattle.yaml_lines.specs.Blanks.{spaces}
 use Rattle.yaml_lines.specs.declared.row.Row.{Row}

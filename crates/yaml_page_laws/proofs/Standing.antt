@@ -1,6 +1,6 @@
 -- Rows that have lines, each behind so many spaces.
 use Rattle.std.proofs.Common.{◌≡◌, ◌∙◌, ℕ, zero, suc, ◌+◌, List, [], ◌∷◌, ◌++◌, drop, map, refl, ap, subst, arith}
-use Rattle.logical_lines.specs.declared.line.LogicalLine.{LogicalLine}
+use Rattle.yaml_groups.specs.declared.line.LogicalLine.{LogicalLine}
 use Rattle.project_print.specs.Pages.{deeper}
 use Rattle.yaml_lines.specs.Blanks.{spaces}
 use Rattle.yaml_lines.specs.Block.{lines_of_rows}

@@ -4,8 +4,8 @@ use Rattle.std.proofs.lemmas.Bool.{cond-false, cond-true}
 use Rattle.std.proofs.lemmas.List.{append-nil, drop-drop, drop_all}
 use Rattle.std.specs.Prelude.{nat_lt}
 use Rattle.std.specs.Str.{encode_utf8_all}
-use Rattle.logical_lines.specs.declared.line.LogicalLine.{LogicalLine}
-use Rattle.logical_lines.specs.Grouped.{begins_block, begins_flow, belonging, head_of}
+use Rattle.yaml_groups.specs.declared.line.LogicalLine.{LogicalLine}
+use Rattle.yaml_groups.specs.Grouped.{begins_block, begins_flow, belonging, head_of}
 use Rattle.project_print.specs.Scalars.{scalar}
 use Rattle.tree_base.specs.Trees.{depth, node_count, text_size}
 use Rattle.tree_base.specs.declared.tree.Tree.{Tree}

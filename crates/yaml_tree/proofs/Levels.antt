@@ -1,6 +1,6 @@
 -- A node, one level opened.
 use Rattle.std.proofs.Common.{◌≡◌, ◌∙◌, ℕ, zero, suc, ◌+◌, ◌-◌, ◌<◌, List, ◌∷◌, true, Result, if◌then◌else◌, refl, sym, arith}
-use Rattle.logical_lines.specs.declared.line.LogicalLine.{LogicalLine}
+use Rattle.yaml_groups.specs.declared.line.LogicalLine.{LogicalLine}
 use Rattle.tree_base.specs.declared.tree.Tree.{Tree}
 use Rattle.yaml_lines.specs.Blanks.{is_rest_blank}
 use Rattle.yaml_lines.specs.declared.refusal.YamlRefusal.{YamlRefusal}

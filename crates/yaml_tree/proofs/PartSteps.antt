@@ -1,7 +1,7 @@
 -- Parts of a block, as a loop meets them.
 use Rattle.std.proofs.Common.{◌≡◌, ◌∙◌, ◌<◌, ℕ, zero, suc, ◌+◌, ◌==◌, ◌&&◌, length, List, [], ◌∷◌, Bool, true, false, not, cond, if◌then◌else◌, take, drop, Result, Ok, Err, refl, sym, ap, arith}
 use Rattle.std.specs.List.{position_or_len}
-use Rattle.logical_lines.specs.declared.line.LogicalLine.{LogicalLine}
+use Rattle.yaml_groups.specs.declared.line.LogicalLine.{LogicalLine}
 use Rattle.yaml_lines.specs.Answers.{Fails}
 use Rattle.yaml_lines.specs.declared.refusal.YamlFault.TheVariants.{BadIndent}
 use Rattle.yaml_lines.specs.declared.refusal.YamlRefusal.{YamlRefusal}

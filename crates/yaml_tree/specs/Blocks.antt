@@ -1,6 +1,6 @@
 -- Block collections: lines, by their indentation (YAML 1.2, chapter 8.2).
 use Rattle.std.specs.Prelude.{ℕ, zero, suc, ◌+◌, List, [], ◌∷◌, ◌++◌, Bool, true, false, Result, Ok, Err, take, drop, not, ◌&&◌, ◌||◌, if◌then◌else◌}
-use Rattle.logical_lines.specs.declared.line.LogicalLine.{LogicalLine}
+use Rattle.yaml_groups.specs.declared.line.LogicalLine.{LogicalLine}
 use Rattle.tree_base.specs.declared.tree.Tree.{Tree}
 use Rattle.tree_base.specs.declared.tree.Tree.TheVariants.{Seq}
 use Rattle.yaml_lines.specs.Blanks.{blanks, is_rest_blank}

@@ -1,7 +1,7 @@
 -- A node that stands on one line of a block.
 use Rattle.std.specs.Prelude.{ℕ, ◌+◌, List, [], ◌∷◌, Bool, Result, Ok, nat_le, ◌==◌, ◌&&◌, ◌||◌, not, if◌then◌else◌}
-use Rattle.logical_lines.specs.declared.line.LogicalLine.{LogicalLine}
-use Rattle.logical_lines.specs.Grouped.{begins_block, begins_flow}
+use Rattle.yaml_groups.specs.declared.line.LogicalLine.{LogicalLine}
+use Rattle.yaml_groups.specs.Grouped.{begins_block, begins_flow}
 use Rattle.tree_base.specs.declared.tree.Tree.{Tree}
 use Rattle.yaml_flow.specs.Flow.{flow}
 use Rattle.yaml_lines.specs.declared.plain.Context.TheVariants.{Block}

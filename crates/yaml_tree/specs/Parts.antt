@@ -1,6 +1,6 @@
 -- How a block is cut: into parts, at the lines that aren't deeper than it (YAML 1.2, chapter 8.2).
 use Rattle.std.specs.Prelude.{ℕ, ◌+◌, List, [], ◌∷◌, Bool, true, Option, Some, None, Result, Ok, length, nat_le, ◌==◌, ◌&&◌, ◌||◌, not, if◌then◌else◌}
-use Rattle.logical_lines.specs.declared.line.LogicalLine.{LogicalLine}
+use Rattle.yaml_groups.specs.declared.line.LogicalLine.{LogicalLine}
 use Rattle.yaml_lines.specs.Blanks.{is_rest_blank, tab_indent}
 use Rattle.yaml_lines.specs.declared.refusal.YamlFault.TheVariants.{BadIndent, TabIndent, Unsupported}
 use Rattle.yaml_lines.specs.declared.refusal.YamlRefusal.{YamlRefusal}

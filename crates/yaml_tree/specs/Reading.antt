@@ -1,7 +1,7 @@
 -- What the lines of a text spell.
 use Rattle.std.specs.Prelude.{ℕ, List, [], ◌∷◌, Bool, false, Result, Ok, map, drop, codes, ◌&&◌, if◌then◌else◌}
-use Rattle.logical_lines.specs.declared.line.LogicalLine.{LogicalLine}
-use Rattle.logical_lines.specs.Grouped.{grouped}
+use Rattle.yaml_groups.specs.declared.line.LogicalLine.{LogicalLine}
+use Rattle.yaml_groups.specs.Grouped.{grouped}
 use Rattle.tree_base.specs.declared.tree.Tree.{Tree}
 use Rattle.yaml_lines.specs.Blanks.{is_rest_blank}
 use Rattle.yaml_lines.specs.declared.lines.Lines.{Lines}

@@ -1,6 +1,6 @@
 -- Steps of the reading of blocks that stand in it more than once, or have no name there.
 use Rattle.std.specs.Prelude.{ℕ, zero, suc, List, Bool, true, Result, Ok, if◌then◌else◌}
-use Rattle.logical_lines.specs.declared.line.LogicalLine.{LogicalLine}
+use Rattle.yaml_groups.specs.declared.line.LogicalLine.{LogicalLine}
 use Rattle.tree_base.specs.declared.tree.Tree.{Tree}
 use Rattle.yaml_lines.specs.Blanks.{is_rest_blank}
 use Rattle.yaml_lines.specs.declared.refusal.YamlFault.TheVariants.{BadIndent}

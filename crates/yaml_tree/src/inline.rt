@@ -1,15 +1,15 @@
 ghost use Rattle.std.specs.Prelude.{◌≡◌, ◌≤◌, length, IfOk};
-ghost use Rattle.logical_lines.specs.Grouped.{begins_flow, begins_block};
+ghost use Rattle.yaml_groups.specs.Grouped.{begins_flow, begins_block};
 ghost use Rattle.yaml_lines.specs.Answers.{Gives};
 ghost use Rattle.yaml_nodes.specs.Progress.{result_beside, result_left};
 ghost use Rattle.yaml_tree.specs.Inline.{inline, is_scalar, alone, inline_alone, goes_on_at};
 
 use crate::owner::Owner;
 use crate::parts::begun;
-use logical_lines::LogicalLine;
 use std::alloc::Global;
 use tree_base::Tree;
 use yaml_flow::flow;
+use yaml_groups::LogicalLine;
 use yaml_lines::{Context, YamlFault, YamlRefusal, text_at};
 use yaml_nodes::{Progress, Properties, block_scalar, line_end, starts, word};
 

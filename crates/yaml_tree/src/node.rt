@@ -12,9 +12,9 @@ use crate::parts::{
     begun, behind_dash, colon_behind, entry_len, is_item_at, item_len, later_begun, stands_behind,
     value_len,
 };
-use logical_lines::LogicalLine;
 use std::alloc::Global;
 use tree_base::{List, Tree};
+use yaml_groups::LogicalLine;
 use yaml_lines::{Context, YamlFault, YamlRefusal, blanks, is_rest_blank, place_in, text_at};
 use yaml_nodes::{
     Entries, Progress, Properties, Spot, carried, finished, is_colon_of, is_item, is_key_behind,

@@ -9,7 +9,7 @@ ghost use Rattle.yaml_tree.specs.Blocks.{stands_behind};
 ghost use Rattle.yaml_tree.specs.Parts.{begun, is_item_at, begins_item, begins_entry, is_bare, value_len};
 ghost use Rattle.yaml_tree.specs.Steps.{later_begun};
 
-use logical_lines::LogicalLine;
+use yaml_groups::LogicalLine;
 use yaml_lines::{Row, YamlFault, YamlRefusal, blanks, is_rest_blank, tab_indent, text_at};
 use yaml_nodes::{Key, Progress, is_item, is_left_out, is_property, properties_len};
 

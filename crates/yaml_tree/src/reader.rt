@@ -4,9 +4,9 @@ ghost use Rattle.yaml_tree.specs.Reading.{is_start, behind_start, document, read
 
 use crate::node::below;
 use crate::owner::Owner;
-use logical_lines::{LogicalLine, grouped};
 use std::alloc::Global;
 use tree_base::{List, Tree};
+use yaml_groups::{LogicalLine, grouped};
 use yaml_lines::{Lines, Row, YamlRefusal, is_rest_blank, rows_of};
 use yaml_nodes::{Progress, no_properties};
 

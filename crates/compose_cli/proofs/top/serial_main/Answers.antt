@@ -1,6 +1,6 @@
 use Rattle.std.proofs.Common.{[], ◌≡◌, Err, true, false, ap}
 use Rattle.plain_services.specs.Loading.{loaded}
-use Rattle.config_command.proofs.Loads.{IfSome-map, failed_read}
+use Rattle.compose_config.proofs.Loads.{IfSome-map, failed_read}
 use Rattle.compose_cli.proofs.Ending.{no_fault_of_plug, only_reads, refused_with, said_read, said_words}
 use Rattle.compose_cli.proofs.Ran.{asked, for_task, has_begun, if_begun, said_not_zero, status_by}
 use Rattle.compose_cli.specs.Runs.{HoldsExactly, HoldsNone, IsRefusalOf, IsStatusOf, LeadsOn, Reports, task_for}

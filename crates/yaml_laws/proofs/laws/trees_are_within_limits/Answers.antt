@@ -1,5 +1,5 @@
 use Rattle.std.specs.Prelude.{map}
-use Rattle.logical_lines.specs.Grouped.{grouped}
+use Rattle.yaml_groups.specs.Grouped.{grouped}
 use Rattle.yaml_lines.specs.Rows.{row_of}
 use Rattle.yaml_laws.proofs.ReadingLimits.{document_limited}
 use Rattle.yaml_laws.proofs.laws.trees_are_within_limits.Goals as goal

@@ -1,6 +1,0 @@
-use Rattle.std.proofs.Common.{◌≡◌, ◌++◌, drop}
-use Rattle.logical_lines.specs.Parts.{led}
-use Rattle.logical_lines.proofs.group.push_lines.Given as goal
-
-abbrev pub invariant-loop-row : goal.invariant-loop-row
-invariant-loop-row l = l.chars ++ led (drop l.row-index l.rows) ≡ l.initial.chars ++ led l.rows

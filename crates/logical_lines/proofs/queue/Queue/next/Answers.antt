@@ -1,6 +1,0 @@
-use Rattle.std.proofs.Common.{◌∙◌, sym, arith}
-use Rattle.logical_lines.proofs.GroupSteps.{next_row}
-use Rattle.logical_lines.proofs.queue.Queue.next.Goals as goal
-
-pub returns : goal.returns
-returns c = sym c.self.view_is ∙ next_row c.self.inside.rows _ c.self.inside.at c.replace-row.result _ c.replace-row.ensures.old (omega arith) c.replace-row.ensures.new

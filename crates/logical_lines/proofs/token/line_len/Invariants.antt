@@ -1,6 +1,0 @@
-use Rattle.std.proofs.Common.{◌≡◌, ◌+◌, drop}
-use Rattle.logical_lines.specs.Cuts.{line_len}
-use Rattle.logical_lines.proofs.token.line_len.Given as goal
-
-abbrev pub invariant-loop-at : goal.invariant-loop-at
-invariant-loop-at l = l.at + line_len (drop l.at l.chars) ≡ line_len l.chars

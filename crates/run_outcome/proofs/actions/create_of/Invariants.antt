@@ -1,9 +1,0 @@
-use Rattle.std.proofs.Common.{◌≡◌, ℕ, ◌-◌, length}
-use Rattle.std.specs.Prelude.{find}
-use Rattle.run_model.specs.Plans.{is_create_of, kind_of, create_of}
-use Rattle.run_model.specs.Numbers.{numbers_from}
-use Rattle.run_outcome.proofs.actions.create_of.Given as goal
-
-abbrev pub invariant-loop-at : goal.invariant-loop-at
-invariant-loop-at l =
-    find (λ (a : ℕ). is_create_of l.slot (kind_of l.plan.actions a)) (numbers_from l.at (length l.plan.actions - l.at)) ≡ create_of l.plan.actions l.slot
