@@ -7,7 +7,7 @@ use Rattle.engine_types.specs.declared.Outcome.{Outcome}
 use Rattle.engine_types.specs.declared.RunFault.{RunFault}
 use Rattle.engine_types.specs.declared.SeenEnd.{SeenEnd}
 use Rattle.engine_types.specs.declared.SeenFault.{SeenFault}
-use Rattle.compose_cli.specs.Runs.{ForTask, HoldsExactly, HoldsNone, IsRefusalOf, IsStatusOf, IsUnbegun, LeadsOn, Reports, RunsTask, aim_for, task_for}
+use Rattle.compose_cli.specs.Runs.{ForTask, HoldsExactly, HoldsNone, IsRefusalOf, IsStatusOf, IsUnbegun, LeadsOn, Reports, RunsTask, aim_for, run_options, task_for}
 use Rattle.engine_types.specs.declared.Entry.{Entry}
 use Rattle.engine_types.specs.declared.Exchange.{Exchange}
 use Rattle.observe_project.specs.Exchanges.{HasCauseOfEnd, HasCauseOfFault}
@@ -30,7 +30,7 @@ use Rattle.run_model.specs.Ending.{fault_status}
 use Rattle.run_model.specs.Logs.{GrowsBy}
 use Rattle.run_model.specs.Observation.{is_up}
 use Rattle.run_model.specs.Plans.{Aim}
-use Rattle.run_model.specs.Runs.{IsRun, IsWorldOfRun, Task, run_exchanges, run_fault, run_report}
+use Rattle.run_model.specs.Runs.{IsLeftByAll, IsRun, IsWorldOfRun, Task, limits_of, run_exchanges, run_fault, run_report}
 use Rattle.run_model.specs.Worlds.{Move}
 use Rattle.plain_services.specs.declared.Command.{Command}
 use Rattle.serial_run.specs.Serial.{aim_of}
@@ -175,9 +175,9 @@ end_now : (h g : Option (List Heard)) (old new : ℕ) (end : SeenEnd) → HearsM
 end_now h g old new (SeenEnd.Good seen) more c = tt
 end_now h g old new (SeenEnd.Bad fault) more c = fault_now h g old new fault more c
 
-pub caused_now : (journal : List Entry) (h g : Option (List Heard)) (old new : ℕ) → HearsMore h g → IsCaused journal h old new → IsCaused journal g old new
-caused_now journal h g old new more is = record {
-  observed = λ observation e. end_now h g old new observation.end more (is.observed observation e);
+pub caused_now : (journal : List Entry) (w : ℕ) (h g : Option (List Heard)) (old new : ℕ) → HearsMore h g → IsCaused journal w h old new → IsCaused journal w g old new
+caused_now journal w h g old new more is = record {
+  observed = λ first observation e. end_now h g old new observation.end more (is.observed first observation e);
   ended = λ outcome m. cause_now h g old new outcome more (is.ended outcome m);
 }
 
@@ -188,14 +188,22 @@ among_one xs x y e m = at (subst (λ (l : List _). Among l y) e m)
     at (inl h) = h
     at (inr h) = absurd h
 
--- a fact on a journal that has an entry, from one, and from three
+-- the only hand is that of worker 0
+only_at : {X : Type 0} (xs : List X) (x y : X) (w : ℕ) → xs ≡ x ∷ [] → slice_get xs w ≡ Some y → (w ≡ 0) × (y ≡ x)
+only_at xs x y w e m = at w (subst (λ (l : List _). slice_get l w ≡ Some y) e m)
+  where
+    at : (n : ℕ) → slice_get (x ∷ []) n ≡ Some y → (n ≡ 0) × (y ≡ x)
+    at zero h = (refl, cc h)
+    at (suc n) h = absurd (cc h)
+
+-- a fact on a journal that has an entry, from one, and from four
 pub if_begun : (journal : List Entry) {A R : Type 0} → IfBegun journal A → (A → R) → IfBegun journal R
 if_begun [] a f = tt
 if_begun (entry ∷ rest) a f = f a
 
-if_begun_of : (journal : List Entry) {A B C R : Type 0} → IfBegun journal A → IfBegun journal B → IfBegun journal C → (A → B → C → R) → IfBegun journal R
-if_begun_of [] a b c f = tt
-if_begun_of (entry ∷ rest) a b c f = f a b c
+if_begun_of : (journal : List Entry) {A B C D R : Type 0} → IfBegun journal A → IfBegun journal B → IfBegun journal C → IfBegun journal D → (A → B → C → D → R) → IfBegun journal R
+if_begun_of [] a b c d f = tt
+if_begun_of (entry ∷ rest) a b c d f = f a b c d
 
 -- a run of which nothing is refused went well
 unrefused : (fault : Option RunFault) (old new : ℕ) (refusal : Option Refusal) → IsRefusalOf fault old new refusal → refusal ≡ None → fault ≡ None
@@ -210,19 +218,22 @@ went_well fault old new refusal found r h e = unrefused fault old new refusal r 
 -- what a call leaves, by what its run left
 pub runs_task : {H : Type 0} (log : H → List Exchange) (heard : H → Option (List Heard)) (faults : H → ℕ) (task : Task) (journal : List Entry) (hands : List H) (status : ℕ) (report : List ℕ)
     (fault : Option RunFault) (refusal found : Option Refusal) (hand after : H) (written_old written_new : Option (List ℕ)) (old new : ℕ)
-    → IfBegun journal (IsRun task journal) → IfBegun journal (GrowsBy (run_exchanges task journal 0) (log hand) (log after)) → IfBegun journal (IsFault (run_fault task journal) fault)
-    → IsReport (run_report task journal) fault report → IsCaused journal (heard hand) (faults hand) (faults after) → HearsMore (heard hand) (heard after)
+    → task.limits.workers ≡ 1 → IfBegun journal (IsRun task journal) → IfBegun journal (IsLeftByAll task journal) → IfBegun journal (GrowsBy (run_exchanges task journal 0) (log hand) (log after)) → IfBegun journal (IsFault (run_fault task journal) fault)
+    → IsReport (run_report task journal) fault report → IsCaused journal 0 (heard hand) (faults hand) (faults after) → HearsMore (heard hand) (heard after)
     → (is_up task.aim.purpose ≡ true → SparesKept task journal) → (fault ≡ None → is_up task.aim.purpose ≡ true → EndsExact task journal)
     → (fault ≡ None → is_up task.aim.purpose ≡ false → EndsGone task journal) → log hand ≡ [] → faults hand ≡ 0 → hands ≡ after ∷ [] → IsRefusalOf fault old new refusal → Says report written_old written_new old new → IsSaidIfAny refusal found
     → IfBegun journal (RunsTask log heard faults task (record { status = status; journal = journal; hands = hands; refusal = found }) written_old written_new old new)
-runs_task log heard faults task journal hands status report fault refusal found hand after written_old written_new old new is grows told reports causes hears spares ends lacks unused faultless one refused says is_said =
-    if_begun_of journal is grows told (λ run grown is_fault. record {
+runs_task log heard faults task journal hands status report fault refusal found hand after written_old written_new old new worker is left grows told reports causes hears spares ends lacks unused faultless one refused says is_said =
+    if_begun_of journal is left grows told (λ run all_left grown is_fault. record {
       run = run;
-      logs = λ other m. let same : other ≡ after = among_one hands after other one m in
-          subst (λ (h : _). GrowsBy (run_exchanges task journal 0) [] (log h)) (sym same) (subst (λ (l : List Exchange). GrowsBy (run_exchanges task journal 0) l (log after)) unused grown);
-      caused = λ other m. let same : other ≡ after = among_one hands after other one m in
-          subst (λ (h : _). IsCaused journal (heard h) 0 (faults h)) (sym same)
-          (caused_now journal (heard hand) (heard after) 0 (faults after) hears (subst (λ (n : ℕ). IsCaused journal (heard hand) n (faults after)) faultless causes));
+      left = all_left;
+      hands = ap length one ∙ sym worker;
+      logs = λ w other m. let only = only_at hands after other w one m in
+          subst (λ (n : ℕ). GrowsBy (run_exchanges task journal n) [] (log other)) (sym only.0) (subst (λ (h : _). GrowsBy (run_exchanges task journal 0) [] (log h)) (sym only.1)
+          (subst (λ (l : List Exchange). GrowsBy (run_exchanges task journal 0) l (log after)) unused grown));
+      caused = λ w other m. let only = only_at hands after other w one m in
+          subst (λ (n : ℕ). IsCaused journal n (heard other) 0 (faults other)) (sym only.0) (subst (λ (h : _). IsCaused journal 0 (heard h) 0 (faults h)) (sym only.1)
+          (caused_now journal 0 (heard hand) (heard after) 0 (faults after) hears (subst (λ (n : ℕ). IsCaused journal 0 (heard hand) n (faults after)) faultless causes)));
       refused = refused_by old new (run_fault task journal) fault refusal found is_fault refused is_said;
       reported = reports_by old new (run_report task journal) report fault refusal found written_old written_new reports says refused is_said;
       spares = spares;
@@ -289,9 +300,11 @@ pub has_begun : (journal : List Entry) {A : Type 0} (refusal : Option Refusal) �
 has_begun journal refusal unbegun e a = begun_by journal a (λ n. subst IsUnbegun e (unbegun n))
 
 -- a fact on the task that the words ask for of the project that was loaded
-pub for_task : (words : List (List ℕ)) (cwd : List ℕ) (told : Option Contents) (aim : Aim) (project : Project) (Fact : Task → Type 0) → aim_for (command_of words) ≡ Some aim
-    → IfSome told (λ contents. LoadsAs (loaded words cwd contents) (Ok project)) → IsSpelled cwd project → Fact (task_for aim project) → ForTask words cwd told Fact
-for_task words cwd told aim project Fact asked loads spelled fact = rw asked (for_project words cwd told project (λ p. Fact (task_for aim p)) loads spelled fact)
+pub for_task : (words : List (List ℕ)) (cwd : List ℕ) (told : Option Contents) (first : ℕ) (aim : Aim) (project : Project) (Fact : Task → Type 0) → aim_for (command_of words) ≡ Some aim
+    → IfSome told (λ contents. LoadsAs (loaded words cwd contents) (Ok project)) → IsSpelled cwd project → Fact (task_for aim (limits_of run_options first) project)
+    → ForTask words cwd told first Fact
+for_task words cwd told first aim project Fact asked loads spelled fact =
+    rw asked (for_project words cwd told project (λ p. Fact (task_for aim (limits_of run_options first) p)) loads spelled fact)
 
 -- what the words' run is for, by the calls that found it
 pub asked : (command : Option Command) (words : List (List ℕ)) (found : Option given.Aim.Aim) (aim : given.Aim.Aim) → command ≡ command_of words → option_map aim_of found ≡ aim_for command → found ≡ Some aim

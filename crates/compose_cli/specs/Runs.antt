@@ -1,15 +1,17 @@
 -- What a call leaves that ran a project.
-use Rattle.std.specs.Prelude.{◌≡◌, ◌⊎◌, ◌≤◌, ℕ, true, false, List, [], Option, Some, None, IfSome, length, option_map, take}
+use Rattle.std.specs.Prelude.{◌≡◌, ◌⊎◌, ◌≤◌, ℕ, true, false, List, [], ◌∷◌, Option, Some, None, IfSome, length, option_map, slice_get, take}
 use Rattle.engine_types.specs.declared.Engine.{Engine}
 use Rattle.engine_types.specs.declared.Entry.{Entry}
 use Rattle.engine_types.specs.declared.Exchange.{Exchange}
 use Rattle.engine_types.specs.declared.Purpose.{Purpose}
 use Rattle.engine_types.specs.declared.RunFault.{RunFault}
+use Rattle.engine_types.specs.declared.RunLimits.{RunLimits}
 use Rattle.compose_cli.specs.declared.ended.Ended.{Ended}
 use Rattle.compose_config.specs.Commands.{ForProject}
 use Rattle.identity.specs.Declaring.{declared_of}
 use Rattle.outside_files.specs.Counts.{Rose}
 use Rattle.outside_files.specs.Files.{Contents}
+use Rattle.outside_api.specs.Clock.{Clock}
 use Rattle.outside_api.specs.Hands.{Heard}
 use Rattle.outside_files.specs.Sinks.{GrewBy}
 use Rattle.plain_services.specs.Commands.{command_of}
@@ -25,7 +27,7 @@ use Rattle.run_model.specs.Exact.{IsExact, IsGone}
 use Rattle.run_model.specs.Logs.{GrowsBy}
 use Rattle.run_model.specs.Observation.{is_up}
 use Rattle.run_model.specs.Plans.{Aim}
-use Rattle.run_model.specs.Runs.{IsRun, IsWorldOfRun, Task, run_exchanges, run_fault, run_report}
+use Rattle.run_model.specs.Runs.{IsLeftByAll, IsRun, IsWorldOfRun, RunOptions, Task, limits_of, run_exchanges, run_fault, run_report}
 use Rattle.run_model.specs.Worlds.{Move}
 use Rattle.outside_files.specs.Writing.{Says}
 
@@ -40,14 +42,24 @@ aim_for None = None
 abbrev pub IfRuns : List (List ℕ) → (Aim → Type 0) → Type 0
 IfRuns words Fact = IfSome (aim_for (command_of words)) Fact
 
--- to do with what a project declares what a run is for
-abbrev pub task_for : Aim → Project → Task
-task_for aim project = task_of (declared_of project) aim
+-- what the words' options bound of a run: so far nothing, and there is one worker
+abbrev pub run_options : RunOptions
+run_options = record { workers = 1; wait = false; wait_seconds = None; stop_seconds = None }
 
--- a fact on the task that a call runs: what its words ask for, of the project that they and its files give where the files are
--- told, else of some project
-abbrev pub ForTask : List (List ℕ) → List ℕ → Option Contents → (Task → Type 0) → Type 0
-ForTask words cwd told Fact = IfRuns words (λ aim. ForProject words cwd told (λ project. Fact (task_for aim project)))
+-- the first reading of the clock of hand 0; 0 where there is no hand, or it never read its clock
+abbrev pub first_reading : {H : Type 0} → (H → Clock) → List H → ℕ
+first_reading clock [] = 0
+first_reading clock (hand ∷ others) = (clock hand).first
+
+-- to do with what a project declares what a run is for, within limits
+abbrev pub task_for : Aim → RunLimits → Project → Task
+task_for aim limits project = task_of (declared_of project) aim limits
+
+-- a fact on the task that a call runs: what its words ask for, within the limits that its options and the first reading of hand
+-- 0's clock set, of the project that the words and the files give where the files are told, else of some project
+abbrev pub ForTask : List (List ℕ) → List ℕ → Option Contents → ℕ → (Task → Type 0) → Type 0
+ForTask words cwd told first Fact =
+    IfRuns words (λ aim. ForProject words cwd told (λ project. Fact (task_for aim (limits_of run_options first) project)))
 
 -- what a call is refused with whose run has this fault, if any: that fault, or a fault of the output where the run has none, or
 -- want of memory
@@ -88,12 +100,14 @@ HoldsExactly task now = IfSome now (λ engine. IsExact task.declared engine task
 abbrev pub HoldsNone : Task → Option Engine → Type 0
 HoldsNone task now = IfSome now (λ engine. IsGone task.declared engine task.aim.orphans task.aim.volumes)
 
--- a call ran a task: its journal, what its hand tells, its refusal, and what it wrote
+-- a call ran a task: its journal, what each worker's hand tells, its refusal, and what it wrote
 pub record RunsTask {H : Type 0} (log : H → List Exchange) (heard : H → Option (List Heard)) (faults : H → ℕ) (task : Task) (ended : Ended H)
     (written_old written_new : Option (List ℕ)) (faults_old faults_new : ℕ) : Type 0 where
   pub run : IsRun task ended.journal
-  pub logs : (hand : H) → Among ended.hands hand → GrowsBy (run_exchanges task ended.journal 0) [] (log hand)
-  pub caused : (hand : H) → Among ended.hands hand → IsCaused ended.journal (heard hand) 0 (faults hand)
+  pub left : IsLeftByAll task ended.journal
+  pub hands : length ended.hands ≡ task.limits.workers
+  pub logs : (w : ℕ) (hand : H) → slice_get ended.hands w ≡ Some hand → GrowsBy (run_exchanges task ended.journal w) [] (log hand)
+  pub caused : (w : ℕ) (hand : H) → slice_get ended.hands w ≡ Some hand → IsCaused ended.journal w (heard hand) 0 (faults hand)
   pub refused : IsRefusalOf (run_fault task ended.journal) faults_old faults_new ended.refusal
   pub reported : Reports (run_report task ended.journal) ended.refusal written_old written_new faults_old faults_new
   pub spares : is_up task.aim.purpose ≡ true → SparesKept task ended.journal

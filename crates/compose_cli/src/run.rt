@@ -12,7 +12,7 @@ ghost use Rattle.refusals.specs.declared.Refusal.{Refusal};
 ghost use Rattle.run_model.specs.EngineRules.{Among};
 ghost use Rattle.run_model.specs.Observation.{is_up};
 ghost use Rattle.run_model.specs.Plans.{IsWhole};
-ghost use Rattle.serial_run.specs.Serial.{WaitsForNone, aim_of};
+ghost use Rattle.serial_run.specs.Serial.{WaitsForNone, aim_of, one_worker};
 ghost use Rattle.refusals.specs.Saying.{IsSaid, SaysRefusal};
 ghost use Rattle.outside_files.specs.Writing.{Says};
 ghost use Rattle.world_laws.specs.OwnSpecs.{HasOwnSpecs};
@@ -45,9 +45,9 @@ pub(crate) fn run_declared<P: Plug, O: Sink, G: Sink>(
     ensures unbegun { result.journal ≡ [] → IsUnbegun result.refusal }
     ensures quiet_unbegun { result.journal ≡ [] → O.written out.new ≡ O.written out.old }
     ensures unsent { result.journal ≡ [] → (hand : P.Hand) → Among result.hands hand → P.Hand.log hand ≡ [] }
-    ensures ran { IfBegun result.journal (RunsTask (λ h. P.Hand.log h) (λ h. P.Hand.heard h) (λ h. P.Hand.faults h) (task_of declared.now (aim_of aim)) result
+    ensures ran { IfBegun result.journal (RunsTask (λ h. P.Hand.log h) (λ h. P.Hand.heard h) (λ h. P.Hand.faults h) (task_of declared.now (aim_of aim) one_worker) result
         (O.written out.old) (O.written out.new) (O.faults out.old) (O.faults out.new)) }
-    ensures engine { MovesEngine (λ h. P.Hand.engine h) (task_of declared.now (aim_of aim)) result (P.engine plug.old) }
+    ensures engine { MovesEngine (λ h. P.Hand.engine h) (task_of declared.now (aim_of aim) one_worker) result (P.engine plug.old) }
     ensures status { result.status ≡ status_of result.refusal }
     ensures line { SaysRefusal result.refusal (G.written err.old) (G.written err.new) (G.faults err.old) (G.faults err.new) }
     ensures quiet { result.refusal ≡ Some (Refusal.Outside Part.Plug) → O.written out.new ≡ O.written out.old }
@@ -100,11 +100,11 @@ fn run_with<H: Hand, O: Sink, G: Sink>(
     ensures unbegun { result.journal ≡ [] → IsUnbegun result.refusal }
     ensures quiet_unbegun { result.journal ≡ [] → O.written out.new ≡ O.written out.old }
     ensures unsent { result.journal ≡ [] → (hand : H) → Among result.hands hand → H.log hand ≡ [] }
-    ensures ran { IfBegun result.journal (RunsTask (λ h. H.log h) (λ h. H.heard h) (λ h. H.faults h) (task_of declared.now (aim_of aim)) result
+    ensures ran { IfBegun result.journal (RunsTask (λ h. H.log h) (λ h. H.heard h) (λ h. H.faults h) (task_of declared.now (aim_of aim) one_worker) result
         (O.written out.old) (O.written out.new) (O.faults out.old) (O.faults out.new)) }
-    ensures through { IfBegun result.journal ((other : H) → Among result.hands other → GoesThrough (task_of declared.now (aim_of aim)) result.journal (H.engine hand) (H.engine other)) }
-    ensures exact { result.refusal ≡ None → is_up aim.purpose ≡ true → (other : H) → Among result.hands other → HoldsExactly (task_of declared.now (aim_of aim)) (H.engine other) }
-    ensures gone { result.refusal ≡ None → is_up aim.purpose ≡ false → (other : H) → Among result.hands other → HoldsNone (task_of declared.now (aim_of aim)) (H.engine other) }
+    ensures through { IfBegun result.journal ((other : H) → Among result.hands other → GoesThrough (task_of declared.now (aim_of aim) one_worker) result.journal (H.engine hand) (H.engine other)) }
+    ensures exact { result.refusal ≡ None → is_up aim.purpose ≡ true → (other : H) → Among result.hands other → HoldsExactly (task_of declared.now (aim_of aim) one_worker) (H.engine other) }
+    ensures gone { result.refusal ≡ None → is_up aim.purpose ≡ false → (other : H) → Among result.hands other → HoldsNone (task_of declared.now (aim_of aim) one_worker) (H.engine other) }
     ensures status { result.status ≡ status_of result.refusal }
     ensures line { SaysRefusal result.refusal (G.written err.old) (G.written err.new) (G.faults err.old) (G.faults err.new) }
 {

@@ -1,7 +1,7 @@
-ghost use Rattle.std.specs.Prelude.{◌≡◌, ◌⊎◌, ◌<◌, ◌^◌, [], Some, None, IfSome, IfErr, length, true, false, option_map};
+ghost use Rattle.std.specs.Prelude.{◌≡◌, ◌⊎◌, ℕ, ◌<◌, ◌^◌, [], Some, None, IfSome, IfErr, length, true, false, option_map, slice_get};
 ghost use Rattle.std.specs.Option.{ForSome};
 ghost use Rattle.compose_cli.specs.Ends.{CountsHands, IsRefusedWith, SendsNothing};
-ghost use Rattle.compose_cli.specs.Runs.{ForTask, HoldsExactly, HoldsNone, IfRuns, IsRefusalOf, IsStatusOf, IsUnbegun, LeadsOn, MovesEngine, Reports, RunsTask, aim_for, task_for};
+ghost use Rattle.compose_cli.specs.Runs.{ForTask, HoldsExactly, HoldsNone, IfRuns, IsRefusalOf, IsStatusOf, IsUnbegun, LeadsOn, MovesEngine, Reports, RunsTask, aim_for, first_reading, task_for};
 ghost use Rattle.compose_config.specs.Commands.{ForProject, GrewByPrefix, IfLoads, IsFailedRead, IsOfConfig, IsReadFault, OnlyOutsideFails};
 ghost use Rattle.project_print.specs.ProjectPages.{project_page};
 ghost use Rattle.outside_files.specs.Counts.{Rose};
@@ -21,8 +21,8 @@ ghost use Rattle.plain_services.specs.declared.Unbuilt.{Unbuilt};
 ghost use Rattle.run_model.specs.EngineRules.{Among};
 ghost use Rattle.run_model.specs.Logs.{GrowsBy};
 ghost use Rattle.run_model.specs.Observation.{is_up};
-ghost use Rattle.run_model.specs.Runs.{IsRun, run_exchanges, run_fault, run_report, run_status};
-ghost use Rattle.serial_run.specs.Serial.{aim_of};
+ghost use Rattle.run_model.specs.Runs.{IsLeftByAll, IsRun, run_exchanges, run_fault, run_report, run_status};
+ghost use Rattle.serial_run.specs.Serial.{aim_of, one_worker};
 ghost use Rattle.refusals.specs.Saying.{IsSaid, SaysRefusal};
 
 use crate::ended::Ended;
@@ -95,31 +95,36 @@ pub fn serial_main<F: Files, P: Plug, O: Sink, G: Sink>(
     ensures quiet_unbegun { IfRuns words.now (λ aim. result.journal ≡ [] → O.written out.new ≡ O.written out.old) }
     ensures unsent { result.journal ≡ [] → (hand : P.Hand) → Among result.hands hand → P.Hand.log hand ≡ [] }
 
-    // Else the journal is that of a whole run of what the words ask for of the project, and the hand made its exchanges.
-    ensures legal { IfBegun result.journal (ForTask words.now cwd.now (F.told files.old) (λ task. IsRun task result.journal)) }
-    ensures log { IfBegun result.journal (ForTask words.now cwd.now (F.told files.old) (λ task.
-        (hand : P.Hand) → Among result.hands hand → GrowsBy (run_exchanges task result.journal 0) [] (P.Hand.log hand))) }
-    ensures cause { IfBegun result.journal ((hand : P.Hand) → Among result.hands hand → IsCaused result.journal (P.Hand.heard hand) 0 (P.Hand.faults hand)) }
+    // Else the journal is that of a whole run of what the words ask for of the project, within their limits. There are as many hands as
+    // workers, each worker left where the observation ended well, and the hand of each made its exchanges.
+    ensures legal { IfBegun result.journal (ForTask words.now cwd.now (F.told files.old) (first_reading (λ h. P.Hand.clock h) result.hands) (λ task. IsRun task result.journal)) }
+    ensures left { IfBegun result.journal (ForTask words.now cwd.now (F.told files.old) (first_reading (λ h. P.Hand.clock h) result.hands) (λ task. IsLeftByAll task result.journal)) }
+    ensures hands { IfBegun result.journal (ForTask words.now cwd.now (F.told files.old) (first_reading (λ h. P.Hand.clock h) result.hands) (λ task.
+        length result.hands ≡ task.limits.workers)) }
+    ensures log { IfBegun result.journal (ForTask words.now cwd.now (F.told files.old) (first_reading (λ h. P.Hand.clock h) result.hands) (λ task.
+        (w : ℕ) (hand : P.Hand) → slice_get result.hands w ≡ Some hand → GrowsBy (run_exchanges task result.journal w) [] (P.Hand.log hand))) }
+    ensures cause { IfBegun result.journal ((w : ℕ) (hand : P.Hand) → slice_get result.hands w ≡ Some hand
+        → IsCaused result.journal w (P.Hand.heard hand) 0 (P.Hand.faults hand)) }
 
     // Status, refusal and report are those of the run, and `up` leaves kept containers alone.
-    ensures run_status { IfBegun result.journal (ForTask words.now cwd.now (F.told files.old) (λ task. IsStatusOf (run_status task result.journal) result.status)) }
-    ensures run_fault { IfBegun result.journal (ForTask words.now cwd.now (F.told files.old) (λ task.
+    ensures run_status { IfBegun result.journal (ForTask words.now cwd.now (F.told files.old) (first_reading (λ h. P.Hand.clock h) result.hands) (λ task. IsStatusOf (run_status task result.journal) result.status)) }
+    ensures run_fault { IfBegun result.journal (ForTask words.now cwd.now (F.told files.old) (first_reading (λ h. P.Hand.clock h) result.hands) (λ task.
         IsRefusalOf (run_fault task result.journal) (O.faults out.old) (O.faults out.new) result.refusal)) }
-    ensures report { IfBegun result.journal (ForTask words.now cwd.now (F.told files.old) (λ task.
+    ensures report { IfBegun result.journal (ForTask words.now cwd.now (F.told files.old) (first_reading (λ h. P.Hand.clock h) result.hands) (λ task.
         Reports (run_report task result.journal) result.refusal (O.written out.old) (O.written out.new) (O.faults out.old) (O.faults out.new))) }
-    ensures kept { IfBegun result.journal (ForTask words.now cwd.now (F.told files.old) (λ task. is_up task.aim.purpose ≡ true → SparesKept task result.journal)) }
+    ensures kept { IfBegun result.journal (ForTask words.now cwd.now (F.told files.old) (first_reading (λ h. P.Hand.clock h) result.hands) (λ task. is_up task.aim.purpose ≡ true → SparesKept task result.journal)) }
 
     // The Engine went through the run: the one that the hand tells, and one in every world of the run, whatever it held before.
-    ensures world { IfBegun result.journal (ForTask words.now cwd.now (F.told files.old) (λ task.
+    ensures world { IfBegun result.journal (ForTask words.now cwd.now (F.told files.old) (first_reading (λ h. P.Hand.clock h) result.hands) (λ task.
         (hand : P.Hand) → Among result.hands hand → LeadsOn task result.journal (P.engine plug.old) (P.Hand.engine hand))) }
 
     // At status 0 it holds exactly what the project declares after `up`, and nothing of it after `down`.
-    ensures exact { result.status ≡ 0 → ForTask words.now cwd.now (F.told files.old) (λ task. is_up task.aim.purpose ≡ true
+    ensures exact { result.status ≡ 0 → ForTask words.now cwd.now (F.told files.old) (first_reading (λ h. P.Hand.clock h) result.hands) (λ task. is_up task.aim.purpose ≡ true
         → (hand : P.Hand) → Among result.hands hand → HoldsExactly task (P.Hand.engine hand)) }
-    ensures exact_in_each_world { result.status ≡ 0 → ForTask words.now cwd.now (F.told files.old) (λ task. is_up task.aim.purpose ≡ true → EndsExact task result.journal) }
-    ensures gone { result.status ≡ 0 → ForTask words.now cwd.now (F.told files.old) (λ task. is_up task.aim.purpose ≡ false
+    ensures exact_in_each_world { result.status ≡ 0 → ForTask words.now cwd.now (F.told files.old) (first_reading (λ h. P.Hand.clock h) result.hands) (λ task. is_up task.aim.purpose ≡ true → EndsExact task result.journal) }
+    ensures gone { result.status ≡ 0 → ForTask words.now cwd.now (F.told files.old) (first_reading (λ h. P.Hand.clock h) result.hands) (λ task. is_up task.aim.purpose ≡ false
         → (hand : P.Hand) → Among result.hands hand → HoldsNone task (P.Hand.engine hand)) }
-    ensures gone_in_each_world { result.status ≡ 0 → ForTask words.now cwd.now (F.told files.old) (λ task. is_up task.aim.purpose ≡ false → EndsGone task result.journal) }
+    ensures gone_in_each_world { result.status ≡ 0 → ForTask words.now cwd.now (F.told files.old) (first_reading (λ h. P.Hand.clock h) result.hands) (λ task. is_up task.aim.purpose ≡ false → EndsGone task result.journal) }
 
     // The line of the refusal is written to `err`, and nothing to `out` where nothing was sent.
     ensures line { SaysRefusal result.refusal (G.written err.old) (G.written err.new) (G.faults err.old) (G.faults err.new) }
@@ -188,9 +193,9 @@ fn run_project<P: Plug, O: Sink, G: Sink>(
     ensures unbegun { result.journal ≡ [] → IsUnbegun result.refusal }
     ensures quiet_unbegun { result.journal ≡ [] → O.written out.new ≡ O.written out.old }
     ensures unsent { result.journal ≡ [] → (hand : P.Hand) → Among result.hands hand → P.Hand.log hand ≡ [] }
-    ensures ran { IfBegun result.journal (RunsTask (λ h. P.Hand.log h) (λ h. P.Hand.heard h) (λ h. P.Hand.faults h) (task_for (aim_of aim) project.now) result
+    ensures ran { IfBegun result.journal (RunsTask (λ h. P.Hand.log h) (λ h. P.Hand.heard h) (λ h. P.Hand.faults h) (task_for (aim_of aim) one_worker project.now) result
         (O.written out.old) (O.written out.new) (O.faults out.old) (O.faults out.new)) }
-    ensures engine { MovesEngine (λ h. P.Hand.engine h) (task_for (aim_of aim) project.now) result (P.engine plug.old) }
+    ensures engine { MovesEngine (λ h. P.Hand.engine h) (task_for (aim_of aim) one_worker project.now) result (P.engine plug.old) }
     ensures status { result.status ≡ status_of result.refusal }
     ensures line { SaysRefusal result.refusal (G.written err.old) (G.written err.new) (G.faults err.old) (G.faults err.new) }
     ensures quiet { result.refusal ≡ Some (Refusal.Outside Part.Plug) → O.written out.new ≡ O.written out.old }

@@ -12,7 +12,7 @@ use Rattle.engine_types.specs.declared.Seen.{Seen}
 use Rattle.engine_types.specs.declared.SeenEnd.{SeenEnd}
 use Rattle.engine_types.specs.declared.SeenFault.{SeenFault}
 use Rattle.observe_project.specs.Exchanges.{HasCauseOfEnd}
-use Rattle.observe_project.proofs.Ways.{cause-wider, fault-wider, grows-append, hears-append}
+use Rattle.observe_project.proofs.Ways.{cause-wider, fault-wider, grows-append, hears-append, told-append}
 use Rattle.outside_api.specs.Hands.{Heard, HearsMore}
 use Rattle.run_model.specs.Ending.{first_fault}
 use Rattle.run_model.specs.EngineRules.{Among, ToldBy}
@@ -24,12 +24,12 @@ use Rattle.run_model.specs.Plans.{Aim, planned}
 use Rattle.run_model.specs.Rolling.{run_actions}
 use Rattle.run_model.proofs.RollLaws.{unrolled}
 use Rattle.run_model.specs.Runs.{IsRun, Task, run_exchanges, run_fault, run_report, run_seen, run_setup}
-use Rattle.serial_run.specs.Serial.{IsBegun, Telling, WaitsForNone, basis_of, exchanges_since, serial_setup}
+use Rattle.serial_run.specs.Serial.{IsBegun, Telling, WaitsForNone, basis_of, exchanges_since, one_worker, serial_setup}
 use Rattle.project_run.specs.Opening.{IsCarriedOut, IsObservedBadly, Opens}
 use Rattle.project_run.specs.Whole.{IsCaused, Leaves, task_of}
 use Rattle.project_run.specs.declared.opening.Opening.{Opening}
 use Rattle.project_run.proofs.Joining.{exchanges_joined, seen_after}
-use Rattle.project_run.proofs.Told.{told_append}
+use Rattle.world_laws.proofs.Leaving.{one_worker_leaves}
 
 -- an end's cause within a longer time is one of it
 end_wider : (h g : Option (List Heard)) (a b c d : ℕ) (end : SeenEnd) → HearsMore h g → a ≤ b → b ≤ c → c ≤ d → HasCauseOfEnd g b c end → HasCauseOfEnd h a d end
@@ -53,15 +53,15 @@ module _ (declared : Declared) (aim : Aim) (journal : List Entry) (before now : 
   pub badly : IsObservedBadly journal
   badly = record { observation = observation; only = opens.only; fault = fault; bad = bad }
 
-  bad_run : IsRun (task_of declared aim) (Entry.Seen observation ∷ [])
+  bad_run : IsRun (task_of declared aim one_worker) (Entry.Seen observation ∷ [])
   bad_run = record {
     legal = (tt, (refl, opens.observed, rw bad tt));
     over = inl (rw bad refl);
   }
 
-  bad_caused : IsCaused (Entry.Seen observation ∷ []) before.heard before.faults now.faults
+  bad_caused : IsCaused (Entry.Seen observation ∷ []) 0 before.heard before.faults now.faults
   bad_caused = record {
-    observed = λ other e. let same : Some (Entry.Seen observation) ≡ Some (Entry.Seen other) = e in
+    observed = λ first other e. let same : Some (Entry.Seen observation) ≡ Some (Entry.Seen other) = e in
         let one : observation ≡ other = cc same in subst (λ (o : Observed). HasCauseOfEnd before.heard before.faults now.faults o.end) one opens.cause;
     ended = λ outcome m. none outcome m;
   }
@@ -70,9 +70,10 @@ module _ (declared : Declared) (aim : Aim) (journal : List Entry) (before now : 
       none outcome (inl e) = absurd (cc e)
       none outcome (inr m) = absurd m
 
-  pub leaves_badly : Leaves (task_of declared aim) journal before now
+  pub leaves_badly : Leaves (task_of declared aim one_worker) journal before now
   leaves_badly = rw opens.only (record {
     run = bad_run;
+    left = one_worker_leaves (task_of declared aim one_worker) (Entry.Seen observation ∷ []) refl bad_run;
     begun = (Entry.Seen observation, [], refl);
     log = opens.log;
     told = opens.told;
@@ -116,16 +117,16 @@ module _ (declared : Declared) (aim : Aim) (seen : Seen) (actions : List Action)
   saw : run_seen new ≡ seen
   saw = rw seen_last refl
 
-  pub same_setup : serial_setup declared seen actions ≡ run_setup (task_of declared aim) new
+  pub same_setup : serial_setup declared seen actions ≡ run_setup (task_of declared aim one_worker) new
   same_setup = rw (saw, is) refl
 
-  run : IsRun (task_of declared aim) new
+  run : IsRun (task_of declared aim one_worker) new
   run = record {
     legal = subst (λ (setup : Setup). IsLegal aim setup (reverse new)) same_setup carried.legal;
     over = inr (subst (λ (setup : Setup). Rattle.run_model.specs.Ending.IsRunOver setup (reverse new)) same_setup carried.over);
   }
 
-  exchanges : run_exchanges (task_of declared aim) new 0 ≡ look.exchanges ++ exchanges_since (serial_setup declared seen actions) old new
+  exchanges : run_exchanges (task_of declared aim one_worker) new 0 ≡ look.exchanges ++ exchanges_since (serial_setup declared seen actions) old new
   exchanges =
       ap (λ (setup : Setup). exchanges_of setup (reverse new) 0) (sym same_setup)
       ∙ exchanges_joined (serial_setup declared seen actions) old new carried.more
@@ -140,9 +141,9 @@ module _ (declared : Declared) (aim : Aim) (seen : Seen) (actions : List Action)
   begins : (entry : Entry) × (rest : List Entry) × (new ≡ entry ∷ rest)
   begins = (Entry.Seen look, carried.more.0, starts)
 
-  caused : IsCaused new before.heard before.faults now.faults
+  caused : IsCaused new 0 before.heard before.faults now.faults
   caused = record {
-    observed = λ other e. at other starts e;
+    observed = λ first other e. at other starts e;
     ended = λ outcome m. cause-wider before.heard mid.heard before.faults mid.faults now.faults now.faults outcome opens.hears opens.counted carried.counted (omega arith) (carried.caused outcome m);
   }
     where
@@ -154,14 +155,15 @@ module _ (declared : Declared) (aim : Aim) (seen : Seen) (actions : List Action)
           subst (λ (o : Observed). HasCauseOfEnd before.heard before.faults now.faults o.end) one
           (end_wider before.heard before.heard before.faults before.faults mid.faults now.faults look.end (hears_none before.heard) (omega arith) opens.counted carried.counted opens.cause)
 
-  pub leaves_well : Leaves (task_of declared aim) new before now
+  pub leaves_well : Leaves (task_of declared aim one_worker) new before now
   leaves_well = record {
     run = run;
+    left = one_worker_leaves (task_of declared aim one_worker) new refl run;
     begun = begins;
     log = subst (λ (l : List Exchange). GrowsBy l before.log now.log) (sym exchanges)
         (grows-append look.exchanges (exchanges_since (serial_setup declared seen actions) old new) before.log mid.log now.log opens.log carried.log);
     told = subst (λ (l : List Exchange). ToldBy l before.engine now.engine) (sym exchanges)
-        (told_append look.exchanges (exchanges_since (serial_setup declared seen actions) old new) before.engine mid.engine now.engine
+        (told-append look.exchanges (exchanges_since (serial_setup declared seen actions) old new) before.engine mid.engine now.engine
         opens.told carried.told);
     caused = caused;
     hears = hears-append before.heard mid.heard now.heard opens.hears carried.hears;

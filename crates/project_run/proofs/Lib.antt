@@ -3,7 +3,6 @@ pub mod Polling
 pub mod Joining
 pub mod Opened
 pub mod PlansOfAims
-pub mod Told
 pub mod Leaving
 pub mod Ascending
 pub mod Exact

@@ -55,7 +55,7 @@ pub record IsCarriedOut (declared : Declared) (aim : Aim) (seen : Seen) (actions
   pub more : GoesOn old new
   pub log : GrowsBy (exchanges_since (serial_setup declared seen actions) old new) before.log now.log
   pub told : ToldBy (exchanges_since (serial_setup declared seen actions) old new) before.engine now.engine
-  pub caused : AllCaused new before.heard before.faults now.faults
+  pub caused : AllCaused new 0 before.heard before.faults now.faults
   pub hears : HearsMore before.heard now.heard
   pub hears_each : HearsEach before.log before.heard → HearsEach now.log now.heard
   pub counted : before.faults ≤ now.faults

@@ -6,18 +6,19 @@ use Rattle.engine_types.specs.declared.Declared.{Declared}
 use Rattle.engine_types.specs.declared.Entry.{Entry}
 use Rattle.engine_types.specs.declared.Observed.{Observed}
 use Rattle.engine_types.specs.declared.RunFault.{RunFault}
+use Rattle.engine_types.specs.declared.RunLimits.{RunLimits}
 use Rattle.engine_types.specs.declared.Seen.{Seen}
 use Rattle.observe_project.specs.Exchanges.{HasCauseOfEnd}
 use Rattle.outside_api.specs.Hands.{Heard, HearsEach, HearsMore}
 use Rattle.run_model.specs.EngineRules.{Among, ToldBy}
 use Rattle.run_model.specs.Logs.{GrowsBy}
 use Rattle.run_model.specs.Plans.{Aim, is_kept, is_restarted, kept, kind_of, slot_at}
-use Rattle.run_model.specs.Runs.{IsRun, Task, run_exchanges, run_seen, run_setup}
-use Rattle.serial_run.specs.Serial.{AllCaused, Telling, one_worker}
+use Rattle.run_model.specs.Runs.{IsLeftByAll, IsRun, Task, run_exchanges, run_seen, run_setup}
+use Rattle.serial_run.specs.Serial.{AllCaused, Telling}
 
--- to carry out for a declared set what an aim asks for, with one worker
-abbrev pub task_of : Declared → Aim → Task
-task_of declared aim = record { declared = declared; aim = aim; limits = one_worker }
+-- to carry out for a declared set what an aim asks for, within limits
+abbrev pub task_of : Declared → Aim → RunLimits → Task
+task_of declared aim limits = record { declared = declared; aim = aim; limits = limits }
 
 -- a fact on a journal that has an entry
 abbrev pub IfBegun : List Entry → Type 0 → Type 0
@@ -32,11 +33,11 @@ IsFault expected fault = (fault ≡ expected) ⊎ (fault ≡ Some RunFault.Memor
 abbrev pub IsReport : List ℕ → Option RunFault → List ℕ → Type 0
 IsReport expected fault report = (report ≡ expected) ⊎ ((report ≡ []) × (fault ≡ Some RunFault.Memory))
 
--- each outcome of a journal that tells of a fault has its cause: the count of faults rose, or, where the hand tells what it
--- heard, the response may be broken
-pub record IsCaused (journal : List Entry) (heard : Option (List Heard)) (old new : ℕ) : Type 0 where
-  pub observed : (observation : Observed) → slice_get journal 0 ≡ Some (Entry.Seen observation) → HasCauseOfEnd heard old new observation.end
-  pub ended : AllCaused journal heard old new
+-- each outcome of a worker's in a journal that tells of a fault has its cause: the count of faults rose, or, where the hand
+-- tells what it heard, the response may be broken; the observation's outcomes are worker 0's
+pub record IsCaused (journal : List Entry) (w : ℕ) (heard : Option (List Heard)) (old new : ℕ) : Type 0 where
+  pub observed : w ≡ 0 → (observation : Observed) → slice_get journal 0 ≡ Some (Entry.Seen observation) → HasCauseOfEnd heard old new observation.end
+  pub ended : AllCaused journal w heard old new
 
 -- an action that leaves kept containers alone: it removes none, stops none but that of a slot which a need asks to restart, and
 -- creates no other one for their slots
@@ -55,10 +56,11 @@ SparesKept task journal = (w a : ℕ) → Among journal (Entry.Claim w a)
 -- a run of the task was made with the hand, whole
 pub record Leaves (task : Task) (journal : List Entry) (before now : Telling) : Type 0 where
   pub run : IsRun task journal
+  pub left : IsLeftByAll task journal
   pub begun : (entry : Entry) × (rest : List Entry) × (journal ≡ entry ∷ rest)
   pub log : GrowsBy (run_exchanges task journal 0) before.log now.log
   pub told : ToldBy (run_exchanges task journal 0) before.engine now.engine
-  pub caused : IsCaused journal before.heard before.faults now.faults
+  pub caused : IsCaused journal 0 before.heard before.faults now.faults
   pub hears : HearsMore before.heard now.heard
   pub hears_each : HearsEach before.log before.heard → HearsEach now.log now.heard
   pub counted : before.faults ≤ now.faults

@@ -6,8 +6,8 @@ ghost use Rattle.run_model.specs.Ending.{first_fault};
 ghost use Rattle.run_model.specs.Lines.{report_text};
 ghost use Rattle.run_model.specs.Observation.{is_up};
 ghost use Rattle.run_model.specs.Plans.{IsWhole, is_too_long, planned};
-ghost use Rattle.run_model.specs.Runs.{IsRun, Task, run_exchanges, run_fault, run_report};
-ghost use Rattle.serial_run.specs.Serial.{IsBegun, WaitsForNone, aim_of, basis_of, serial_setup, telling};
+ghost use Rattle.run_model.specs.Runs.{IsLeftByAll, IsRun, Task, run_exchanges, run_fault, run_report};
+ghost use Rattle.serial_run.specs.Serial.{IsBegun, WaitsForNone, aim_of, basis_of, one_worker, serial_setup, telling};
 ghost use Rattle.project_run.specs.Opening.{IsCarriedOut, IsObservedBadly};
 ghost use Rattle.project_run.specs.Worlds.{EndsExact, EndsGone, GoesThrough};
 ghost use Rattle.world_laws.specs.OwnSpecs.{HasOwnSpecs};
@@ -36,15 +36,16 @@ pub fn run_project<H: Hand>(alloc: Global, hand: &mut H, declared: &Declared, ai
     requires whole { IsWhole declared.now }
     requires unconditional { WaitsForNone declared.now }
     ensures empty { result.journal ≡ [] → (result.fault ≡ Some RunFault.Memory) × (H.log hand.new ≡ H.log hand.old) }
-    ensures run { IfBegun result.journal (IsRun (task_of declared.now (aim_of aim)) result.journal) }
-    ensures log { IfBegun result.journal (GrowsBy (run_exchanges (task_of declared.now (aim_of aim)) result.journal 0) (H.log hand.old) (H.log hand.new)) }
-    ensures fault { IfBegun result.journal (IsFault (run_fault (task_of declared.now (aim_of aim)) result.journal) result.fault) }
-    ensures report { IsReport (run_report (task_of declared.now (aim_of aim)) result.journal) result.fault result.report }
-    ensures kept { is_up aim.purpose ≡ true → SparesKept (task_of declared.now (aim_of aim)) result.journal }
-    ensures world { IfBegun result.journal (GoesThrough (task_of declared.now (aim_of aim)) result.journal (H.engine hand.old) (H.engine hand.new)) }
-    ensures exact { result.fault ≡ None → is_up aim.purpose ≡ true → HasOwnSpecs declared.now → EndsExact (task_of declared.now (aim_of aim)) result.journal }
-    ensures gone { result.fault ≡ None → is_up aim.purpose ≡ false → EndsGone (task_of declared.now (aim_of aim)) result.journal }
-    ensures cause { IsCaused result.journal (H.heard hand.old) (H.faults hand.old) (H.faults hand.new) }
+    ensures run { IfBegun result.journal (IsRun (task_of declared.now (aim_of aim) one_worker) result.journal) }
+    ensures left { IfBegun result.journal (IsLeftByAll (task_of declared.now (aim_of aim) one_worker) result.journal) }
+    ensures log { IfBegun result.journal (GrowsBy (run_exchanges (task_of declared.now (aim_of aim) one_worker) result.journal 0) (H.log hand.old) (H.log hand.new)) }
+    ensures fault { IfBegun result.journal (IsFault (run_fault (task_of declared.now (aim_of aim) one_worker) result.journal) result.fault) }
+    ensures report { IsReport (run_report (task_of declared.now (aim_of aim) one_worker) result.journal) result.fault result.report }
+    ensures kept { is_up aim.purpose ≡ true → SparesKept (task_of declared.now (aim_of aim) one_worker) result.journal }
+    ensures world { IfBegun result.journal (GoesThrough (task_of declared.now (aim_of aim) one_worker) result.journal (H.engine hand.old) (H.engine hand.new)) }
+    ensures exact { result.fault ≡ None → is_up aim.purpose ≡ true → HasOwnSpecs declared.now → EndsExact (task_of declared.now (aim_of aim) one_worker) result.journal }
+    ensures gone { result.fault ≡ None → is_up aim.purpose ≡ false → EndsGone (task_of declared.now (aim_of aim) one_worker) result.journal }
+    ensures cause { IsCaused result.journal 0 (H.heard hand.old) (H.faults hand.old) (H.faults hand.new) }
     ensures heard { HearsMore (H.heard hand.old) (H.heard hand.new) }
     ensures heard_each { HearsEach (H.log hand.old) (H.heard hand.old) → HearsEach (H.log hand.new) (H.heard hand.new) }
     ensures counted { H.faults hand.old ≤ H.faults hand.new }
@@ -82,11 +83,11 @@ fn run<H: Hand>(
     requires unconditional { WaitsForNone declared.now }
     requires empty { journal.items ≡ [] }
     requires room { 2 ≤ journal.spare }
-    ensures leaves { Leaves (task_of declared.now (aim_of aim)) result.journal
+    ensures leaves { Leaves (task_of declared.now (aim_of aim) one_worker) result.journal
         (telling (H.log hand.old) (H.heard hand.old) (H.faults hand.old) (H.clock hand.old) (H.engine hand.old))
         (telling (H.log hand.new) (H.heard hand.new) (H.faults hand.new) (H.clock hand.new) (H.engine hand.new)) }
-    ensures fault { IsFault (run_fault (task_of declared.now (aim_of aim)) result.journal) result.fault }
-    ensures report { IsReport (run_report (task_of declared.now (aim_of aim)) result.journal) result.fault result.report }
+    ensures fault { IsFault (run_fault (task_of declared.now (aim_of aim) one_worker) result.journal) result.fault }
+    ensures report { IsReport (run_report (task_of declared.now (aim_of aim) one_worker) result.journal) result.fault result.report }
 {
     match open(alloc, hand, declared, aim, &mut journal) {
         Opening::Planned { seen, plan } => {

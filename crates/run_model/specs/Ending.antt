@@ -46,6 +46,10 @@ pub record IsRunOver (setup : Setup) (past : List Entry) : Type 0 where
       ⊎ ((list_all (is_over setup past) (places setup.actions) ≡ true)
       × (list_all (is_goal_over setup past) (places setup.declared.slots) ≡ true))
 
+-- every worker of the run has left
+abbrev pub EveryWorkerLeft : Setup → List Entry → Type 0
+EveryWorkerLeft setup past = (w : ℕ) → w < setup.limits.workers → has_left past w ≡ true
+
 -- a final journal: its observation ended badly, or its run came to its end
 abbrev pub IsFinal : Setup → List Entry → Type 0
 IsFinal setup past = (is_seen_bad past ≡ true) ⊎ IsRunOver setup past

@@ -334,12 +334,37 @@ Tells (Some old) request Outcome.NotSent new = new ≡ Some old
 Tells (Some old) request _ new =
     (new ≡ Some old) ⊎ IsSomeAnd new (λ engine. (reply : Reply) × Answers old request reply engine)
 
--- the Engine that a hand tells went through these exchanges, in order: an answer is one step of the Engine with that reply
-abbrev pub ToldBy : List Exchange → Option Engine → Option Engine → Type 0
-ToldBy [] old new = new ≡ old
-ToldBy (exchange ∷ rest) old new = (mid : Option Engine) × Tells old exchange.request exchange.outcome mid × ToldBy rest mid new
-
 -- how a pause changes the Engine that a hand tells: by own changes alone
 abbrev pub DriftsTold : Option Engine → Option Engine → Type 0
 DriftsTold None new = new ≡ None
 DriftsTold (Some old) new = IsSomeAnd new (λ engine. Drifts old engine)
+
+-- a step of a hand: it made an exchange, or paused for so many milliseconds
+pub data Step : Type 0 where
+  Made : Exchange → Step
+  Paused : ℕ → Step
+
+-- the exchanges among these steps, in order
+abbrev pub exchanges_in : List Step → List Exchange
+exchanges_in [] = []
+exchanges_in (Made exchange ∷ rest) = exchange ∷ exchanges_in rest
+exchanges_in (Paused milliseconds ∷ rest) = exchanges_in rest
+
+-- how a step changes the Engine that a hand tells
+abbrev pub TellsStep : Step → Option Engine → Option Engine → Type 0
+TellsStep (Made exchange) old new = Tells old exchange.request exchange.outcome new
+TellsStep (Paused milliseconds) old new = DriftsTold old new
+
+-- the Engine that a hand tells went through these steps, in order
+abbrev pub TellsSteps : List Step → Option Engine → Option Engine → Type 0
+TellsSteps [] old new = new ≡ old
+TellsSteps (step ∷ rest) old new = (mid : Option Engine) × TellsStep step old mid × TellsSteps rest mid new
+
+-- these exchanges as steps, with no pause
+abbrev pub unpaused : List Exchange → List Step
+unpaused [] = []
+unpaused (exchange ∷ rest) = Made exchange ∷ unpaused rest
+
+-- the Engine that a hand tells went through these exchanges, in order, with no pause
+abbrev pub ToldBy : List Exchange → Option Engine → Option Engine → Type 0
+ToldBy exchanges old new = TellsSteps (unpaused exchanges) old new

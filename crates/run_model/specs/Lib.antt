@@ -24,4 +24,5 @@ pub mod Updates
 pub mod Laws
 pub mod FourServices
 pub mod OtherRuns
+pub mod TwoWorkers
 pub mod TwoWorlds

@@ -1,5 +1,5 @@
 -- Whole runs, by their journals as they are written: oldest entry first.
-use Rattle.std.specs.Prelude.{ℕ, List, [], reverse, unwrap_or, Option}
+use Rattle.std.specs.Prelude.{◌≡◌, ℕ, Bool, false, ◌&&◌, List, [], reverse, unwrap_or, Option, option_map}
 use Rattle.engine_types.specs.declared.Declared.{Declared}
 use Rattle.engine_types.specs.declared.Engine.{Engine}
 use Rattle.engine_types.specs.declared.Entry.{Entry}
@@ -7,14 +7,32 @@ use Rattle.engine_types.specs.declared.Exchange.{Exchange}
 use Rattle.engine_types.specs.declared.RunFault.{RunFault}
 use Rattle.engine_types.specs.declared.RunLimits.{RunLimits}
 use Rattle.engine_types.specs.declared.Seen.{Seen}
-use Rattle.run_model.specs.Ending.{IsFinal, first_fault, status_of}
+use Rattle.run_model.specs.Ending.{EveryWorkerLeft, IsFinal, first_fault, is_seen_bad, status_of}
 use Rattle.run_model.specs.Journals.{Setup, seen_in}
 use Rattle.run_model.specs.Legal.{IsLegal}
 use Rattle.run_model.specs.Lines.{report_text}
-use Rattle.run_model.specs.Logs.{exchanges_of}
+use Rattle.run_model.specs.Logs.{deadline_after, exchanges_of}
+use Rattle.run_model.specs.Observation.{is_up}
 use Rattle.run_model.specs.Plans.{Aim}
 use Rattle.run_model.specs.Rolling.{run_actions}
 use Rattle.run_model.specs.Worlds.{IsWorldOf, Move}
+
+-- what the options of a run bound: how many workers there are, whether the run waits for goals, after how many seconds it is late,
+-- and how many seconds a stop waits in place of what each slot says
+pub record RunOptions : Type 0 where
+  pub workers : ℕ
+  pub wait : Bool
+  pub wait_seconds : Option ℕ
+  pub stop_seconds : Option ℕ
+
+-- the limits of a run with these options; the deadline is counted from the first reading of hand 0's clock
+abbrev pub limits_of : RunOptions → ℕ → RunLimits
+limits_of options first = record {
+  workers = options.workers;
+  deadline = option_map (deadline_after first) options.wait_seconds;
+  wait = options.wait;
+  stop_seconds = options.stop_seconds;
+}
 
 -- what a run is asked to do: for which declared set, with which aim, and within which limits
 pub record Task : Type 0 where
@@ -30,19 +48,23 @@ unseen = record { containers = []; networks = []; volumes = []; images = [] }
 abbrev pub run_seen : List Entry → Seen
 run_seen journal = unwrap_or (seen_in (reverse journal)) unseen
 
--- what a run is of: its actions are planned from what its observation saw
+-- what a run is of: its actions are planned from what its observation saw, and it waits for goals only where it brings a project up
 abbrev pub run_setup : Task → List Entry → Setup
 run_setup task journal = record {
   declared = task.declared;
   seen = run_seen journal;
   actions = run_actions (record { declared = task.declared; seen = run_seen journal; aim = task.aim });
-  limits = task.limits;
+  limits = record task.limits { wait = task.limits.wait && is_up task.aim.purpose };
 }
 
 -- a whole run of the task: its journal is legal and final
 pub record IsRun (task : Task) (journal : List Entry) : Type 0 where
   pub legal : IsLegal task.aim (run_setup task journal) (reverse journal)
   pub over : IsFinal (run_setup task journal) (reverse journal)
+
+-- where the observation ended well, every worker of the run has left
+abbrev pub IsLeftByAll : Task → List Entry → Type 0
+IsLeftByAll task journal = is_seen_bad (reverse journal) ≡ false → EveryWorkerLeft (run_setup task journal) (reverse journal)
 
 -- what the run is refused with
 abbrev pub run_fault : Task → List Entry → Option RunFault

@@ -21,5 +21,5 @@ pub use worked::{
     lost_create_is_made_once, missing_image_is_refused, name_in_use_is_refused,
     needed_service_is_updated, observations_of_two_networks, one_service_comes_up,
     one_service_is_exact, plans_of_two_networks, plans_of_updates, runs_end_early,
-    second_run_and_down, workers_find_other_work,
+    second_run_and_down, two_workers_take_turns, workers_find_other_work,
 };

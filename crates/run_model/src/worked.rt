@@ -10,13 +10,14 @@ ghost use Rattle.engine_types.specs.declared.SeenFault.{SeenFault};
 ghost use Rattle.run_model.specs.Labels.{agrees};
 ghost use Rattle.run_model.specs.Legal.{Look, Pause, decision};
 ghost use Rattle.run_model.specs.Lines.{fault_text};
-ghost use Rattle.run_model.specs.OneService.{comes_up, creates_still, labels_of, name_in_use, nginx, no_image, shop, upping, upping_by_two, web};
+ghost use Rattle.run_model.specs.OneService.{comes_up, creates_still, labels_of, name_in_use, nginx, no_image, seen_fresh, shop, upping, upping_by_two, web};
 ghost use Rattle.run_model.specs.Told.{answered};
 ghost use Rattle.run_model.specs.OneWorld.{fresh, moves, up};
 ghost use Rattle.run_model.specs.FourServices as four;
 ghost use Rattle.run_model.specs.OtherRuns.{checked, comes_again, downing, goes_down, is_stopped, runs_late, runs_short, waiting};
 ghost use Rattle.run_model.specs.ThreeServices as three;
 ghost use Rattle.run_model.specs.TwoNetworks as two;
+ghost use Rattle.run_model.specs.TwoWorkers.{take_turns};
 ghost use Rattle.run_model.specs.Updates as updates;
 ghost use Rattle.run_model.specs.TwoWorlds as worlds;
 ghost use Rattle.run_model.specs.Observation.{Asks, Ends, Strays, observed};
@@ -24,7 +25,7 @@ ghost use Rattle.run_model.specs.Plans.{down_basis, planned, up_basis};
 ghost use Rattle.run_model.specs.Exact.{IsExact};
 ghost use Rattle.run_model.specs.Rolling.{run_actions};
 ghost use Rattle.run_model.specs.Cuts.{Runs, creates, creates_over};
-ghost use Rattle.run_model.specs.Runs.{IsRun, IsWorldOfRun, run_fault, run_report, run_setup, run_status};
+ghost use Rattle.run_model.specs.Runs.{IsLeftByAll, IsRun, IsWorldOfRun, limits_of, run_exchanges, run_fault, run_report, run_setup, run_status};
 
 /// One service comes up on a fresh Engine: its container is created and started.
 pub fn one_service_comes_up()
@@ -116,6 +117,16 @@ pub fn workers_find_other_work()
     ensures pause { decision (run_setup (upping_by_two shop) creates_still) (reverse creates_still) 1 ≡ Pause }
 {}
 
+/// Two workers bring one service up: the exchanges of each are its own, with the observation's for worker 0, and both leave.
+pub fn two_workers_take_turns()
+    ensures run { IsRun (upping_by_two shop) take_turns }
+    ensures left { IsLeftByAll (upping_by_two shop) take_turns }
+    ensures status { run_status (upping_by_two shop) take_turns ≡ 0 }
+    ensures report { run_report (upping_by_two shop) take_turns ≡ codes "container shop-web-1 created\ncontainer shop-web-1 started\n" }
+    ensures first { run_exchanges (upping_by_two shop) take_turns 0 ≡ seen_fresh.exchanges ++ answered (Request.Create web.name web.spec) (Reply.Made (codes "c1")) ∷ [] }
+    ensures second { run_exchanges (upping_by_two shop) take_turns 1 ≡ answered (Request.Start (codes "c1")) Reply.Done ∷ [] }
+{}
+
 /// Four services with a network, a volume and conditions come up on a fresh Engine, with ten actions and two polls.
 pub fn four_services_come_up()
     ensures plan { (run_setup (upping four.shop) four.comes_up).actions ≡ four.fresh_plan }
@@ -134,8 +145,10 @@ pub fn second_run_and_down()
     ensures down_report { run_report (downing shop) goes_down ≡ codes "container shop-web-1 stopped\ncontainer shop-web-1 removed\n" }
 {}
 
-/// Runs that end early: at the deadline, when asked to stop, and for want of memory.
+/// Runs that end early: at the deadline, which is a second after the first reading, when asked to stop, and for want of
+/// memory.
 pub fn runs_end_early()
+    ensures limits { (waiting checked).limits ≡ limits_of (record { workers = 1; wait = true; wait_seconds = Some 1; stop_seconds = None }) 0 }
     ensures late { IsRun (waiting checked) runs_late }
     ensures late_status { run_status (waiting checked) runs_late ≡ 6 }
     ensures late_fault { option_map fault_text (run_fault (waiting checked) runs_late) ≡ Some (codes "compose: late\n") }

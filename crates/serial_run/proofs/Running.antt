@@ -80,7 +80,7 @@ pub record IsEnd (aim : Aim) (setup : Setup) (old new : List Entry) (before now 
   pub more : GoesOn old new
   pub grown : GrowsBy (exchanges_since setup old new) before.log now.log
   pub told : ToldBy (exchanges_since setup old new) before.engine now.engine
-  pub caused : AllCaused new before.heard before.faults now.faults
+  pub caused : AllCaused new 0 before.heard before.faults now.faults
 
 module _ (declared : Declared) (seen : Seen) (actions : List Action) (aim : Aim) (plain : WaitsForNone declared) where
   abbrev setup : Setup
@@ -143,7 +143,7 @@ module _ (declared : Declared) (seen : Seen) (actions : List Action) (aim : Aim)
       since_next : exchanges_since setup old (new ++ added) ≡ exchanges_since setup old new ++ exchange ∷ []
       since_next = since_is setup old (new ++ added) (exchanges_since setup old new ++ exchange ∷ []) since
 
-      caused : AllCaused (new ++ added) before.heard before.faults later.faults
+      caused : AllCaused (new ++ added) 0 before.heard before.faults later.faults
       caused outcome m = at (from_append new added (Entry.Ended 0 outcome) m)
         where
           at : Among new (Entry.Ended 0 outcome) ⊎ Among added (Entry.Ended 0 outcome) → HasCause before.heard before.faults later.faults outcome

@@ -72,10 +72,10 @@ GoesOn old new = (added : List Entry) × (new ≡ old ++ added)
 abbrev pub exchanges_since : Setup → List Entry → List Entry → List Exchange
 exchanges_since setup old new = drop (length (exchanges_of setup (reverse old) 0)) (exchanges_of setup (reverse new) 0)
 
--- each end of the only worker's that tells of a fault has its cause: the count of faults rose, or, where the hand tells what
--- it heard, the response may be broken
-abbrev pub AllCaused : List Entry → Option (List Heard) → ℕ → ℕ → Type 0
-AllCaused journal heard old new = (outcome : Outcome) → Among journal (Entry.Ended 0 outcome) → HasCause heard old new outcome
+-- each end of a worker's that tells of a fault has its cause: the count of faults rose, or, where the hand tells what it
+-- heard, the response may be broken
+abbrev pub AllCaused : List Entry → ℕ → Option (List Heard) → ℕ → ℕ → Type 0
+AllCaused journal w heard old new = (outcome : Outcome) → Among journal (Entry.Ended w outcome) → HasCause heard old new outcome
 
 -- what a hand tells
 pub record Telling : Type 0 where
@@ -146,7 +146,7 @@ pub record IsOnItsWay (aim : Aim) (setup : Setup) (old new : List Entry) (before
   pub hears : HearsMore before.heard now.heard
   pub hears_each : HearsEach before.log before.heard → HearsEach now.log now.heard
   pub counted : before.faults ≤ now.faults
-  pub caused : AllCaused new before.heard before.faults now.faults
+  pub caused : AllCaused new 0 before.heard before.faults now.faults
   pub timed : now.clock ≡ before.clock
 
 -- nothing is left to do for the only worker, and once it has left, every action and every goal is over

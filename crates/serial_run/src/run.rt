@@ -44,7 +44,7 @@ pub fn run_plan<H: Hand>(
     ensures heard { HearsMore (H.heard hand.old) (H.heard hand.new) }
     ensures heard_each { HearsEach (H.log hand.old) (H.heard hand.old) → HearsEach (H.log hand.new) (H.heard hand.new) }
     ensures counted { H.faults hand.old ≤ H.faults hand.new }
-    ensures cause { AllCaused journal.new.items (H.heard hand.old) (H.faults hand.old) (H.faults hand.new) }
+    ensures cause { AllCaused journal.new.items 0 (H.heard hand.old) (H.faults hand.old) (H.faults hand.new) }
     ensures clock { H.clock hand.new ≡ H.clock hand.old }
 {
     let through = make_all(alloc, hand, declared, seen, plan, aim, journal);

@@ -17,6 +17,7 @@ pub mod Holding
 pub mod Joining
 pub mod Keeping
 pub mod Kept
+pub mod Leaving
 pub mod Looks
 pub mod Observing
 pub mod OneDown

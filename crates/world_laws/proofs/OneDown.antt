@@ -1,18 +1,18 @@
 -- The world of the run that takes one service down.
-use Rattle.std.proofs.Common.{◌≡◌, ℕ, List, [], ◌∷◌, Option, Some, None, Bool, true, false, refl, drop, inl, inr}
+use Rattle.std.proofs.Common.{◌≡◌, ℕ, zero, suc, List, [], ◌∷◌, Option, Some, None, Bool, true, false, refl, drop, inl, inr}
 use Rattle.std.specs.Fmt.{digits}
 use Rattle.std.specs.List.{IsDistinct}
 use Rattle.std.specs.Prelude.{codes, if◌then◌else◌, not}
 use Rattle.std.specs.Str.{bytes_eq}
 use Rattle.engine_types.specs.declared.ContainerRow.{ContainerRow}
 use Rattle.engine_types.specs.declared.Listed.{Listed}
-use Rattle.run_model.specs.EngineRules.{Among, ListsContainers, Shows, Updates, container_at, is_live, is_of_project, stopped_row}
+use Rattle.run_model.specs.EngineRules.{Among, ChangesItself, ListsContainers, Shows, TellsSteps, Updates, container_at, is_live, is_of_project, stopped_row}
 use Rattle.run_model.specs.Journals.{Setup}
 use Rattle.run_model.specs.OneService.{shop}
 use Rattle.run_model.specs.OtherRuns.{downing, goes_down, running}
 use Rattle.run_model.specs.Runs.{IsWorldOfRun, run_setup}
 use Rattle.run_model.specs.Worlds.{World}
-use Rattle.world_laws.specs.OneDown.{after, before, between, moves, runs}
+use Rattle.world_laws.specs.OneDown.{after, before, between, moves, restarting, restarts, runs, steps}
 
 -- the container that is there is the one that runs
 only_one : (id : List ℕ) (row : ContainerRow) → container_at before id ≡ Some row → row ≡ runs
@@ -108,3 +108,35 @@ left = (after, remove_told, (tt, refl))
 pub world : IsWorldOfRun (downing shop) goes_down before moves after
 unfolding digits
 world = record { journal = refl; world = left }
+
+-- the container is restarted by itself
+turned : ChangesItself before restarts
+turned = record {
+  id = codes "c1";
+  row = runs;
+  report = restarting.report;
+  was = refl;
+  turns = inl (refl, refl, λ e. cc e);
+  changes = record { containers = λ i. at (bytes_eq (codes "c1") i); networks = λ i. refl; volumes = λ n. refl; images = λ n. refl };
+}
+  where
+    at : (t : Bool) → (if t then Some restarting else None) ≡ (if t then Some restarting else (if t then Some runs else None))
+    at true = refl
+    at false = refl
+
+-- and then stopped
+stopped_then : Updates restarts between (codes "c1") is_live (λ row. Some (stopped_row row))
+stopped_then = record {
+  row = restarting;
+  was = refl;
+  could = refl;
+  changes = record { containers = λ i. at (bytes_eq (codes "c1") i); networks = λ i. refl; volumes = λ n. refl; images = λ n. refl };
+}
+  where
+    at : (t : Bool) → (if t then Some (stopped_row runs) else None) ≡ (if t then Some (stopped_row runs) else (if t then Some restarting else None))
+    at true = refl
+    at false = refl
+
+-- the hand's Engine went through its steps
+pub told : TellsSteps steps (Some before) (Some after)
+told = (Some before, (lists, refl), (Some restarts, (suc zero, (before, refl, turned)), (Some between, stopped_then, (Some after, gone, refl))))

@@ -1,9 +1,9 @@
--- A run of one worker whose hand tells how the Engine went through its exchanges has a world.
-use Rattle.std.proofs.Common.{◌≡◌, ◌⊎◌, ℕ, ◌≤◌, Bool, true, false, List, [], ◌∷◌, ◌++◌, length, reverse, Option, Some, None, refl, sym, ap, ◌∙◌, subst, inl, inr, arith}
+-- A run of one worker whose hand tells how the Engine went through its exchanges and pauses has a world.
+use Rattle.std.proofs.Common.{◌≡◌, ◌⊎◌, ℕ, zero, suc, ◌≤◌, Bool, true, false, List, [], ◌∷◌, ◌++◌, length, reverse, Option, Some, None, refl, sym, ap, ◌∙◌, subst, inl, inr, arith}
 use Rattle.std.proofs.lemmas.Bool.{eq-eqb, ne_eqb}
 use Rattle.std.proofs.lemmas.List.{append-nil, append_assoc, reverse-append}
 use Rattle.std.specs.Option.{IsSomeAnd}
-use Rattle.std.specs.Prelude.{if◌then◌else◌, option_and_then}
+use Rattle.std.specs.Prelude.{if◌then◌else◌, ◌&&◌, option_and_then}
 use Rattle.engine_types.specs.declared.Engine.{Engine}
 use Rattle.engine_types.specs.declared.Entry.{Entry}
 use Rattle.engine_types.specs.declared.Exchange.{Exchange}
@@ -11,7 +11,7 @@ use Rattle.engine_types.specs.declared.Observed.{Observed}
 use Rattle.engine_types.specs.declared.Outcome.{Outcome}
 use Rattle.engine_types.specs.declared.Reply.{Reply}
 use Rattle.engine_types.specs.declared.Request.{Request}
-use Rattle.run_model.specs.EngineRules.{Answers, Tells, ToldBy}
+use Rattle.run_model.specs.EngineRules.{Answers, ChangesItselfTimes, Drifts, DriftsTold, Made, Paused, Step, Tells, TellsSteps, exchanges_in, unpaused}
 use Rattle.run_model.specs.Journals.{Holding, Nothing, Setup, Watch, Work, holding, is_open}
 use Rattle.run_model.specs.Legal.{IsLegal}
 use Rattle.run_model.specs.Logs.{exchanges_of}
@@ -19,7 +19,7 @@ use Rattle.run_model.specs.Observation.{is_up}
 use Rattle.run_model.specs.Plans.{Aim, HasPlan, IsWhole}
 use Rattle.run_model.specs.Requests.{OfAction, OfPoll, OfSeen, Source, asked, poll_place, request_out, source_of}
 use Rattle.run_model.specs.Runs.{run_setup}
-use Rattle.run_model.specs.Worlds.{Did, Effect, Fits, FitsLast, FitsOutcome, FitsSeen, IsLeft, IsWorldOf, MayAct, Move, Took, World, effect_of, entries_of, is_source, is_unsure, outcome_of, seen_effects}
+use Rattle.run_model.specs.Worlds.{Did, Effect, Fits, FitsLast, FitsOutcome, FitsSeen, IsLeft, IsWorldOf, Changed, MayAct, Move, Took, World, effect_of, entries_of, is_source, is_unsure, outcome_of, seen_effects}
 use Rattle.world_laws.specs.Laws.{ToldRunsHaveWorlds}
 use Rattle.run_model.proofs.RollLaws.{has_plan}
 use Rattle.world_laws.proofs.Asked.{out_asked}
@@ -118,21 +118,42 @@ module _ (setup : Setup) (first : Engine) where
       taken done (record { request = request; outcome = Outcome.Memory }) answers.0 mid last o answers.1 (inr (refl, o.fits))
   observing request Outcome.Memory done mid None o (inr answers) = absurd answers
 
-  -- all exchanges of an observation
-  observed_all : (xs done : List Exchange) (mid : Engine) (new : Option Engine) → Observing setup first done mid → ToldBy xs (Some mid) new
-      → IsSomeAnd new (λ last. Observing setup first (reverse xs ++ done) last)
-  observed_all [] done mid new o told = subst (λ (e : Option Engine). IsSomeAnd e (λ last. Observing setup first done last)) (sym told) o
-  observed_all (x ∷ xs) done mid new o told =
-      at told.0 (observing x.request x.outcome done mid told.0 o told.1) told.2 (λ engine n t. observed_all xs (x ∷ done) engine new n t)
-    where
-      turned : reverse (x ∷ xs) ++ done ≡ reverse xs ++ (x ∷ done)
-      turned = ap (λ (l : List Exchange). l ++ done) (reverse-append (x ∷ []) xs) ∙ append_assoc (reverse xs) (x ∷ []) done
+  -- own changes
+  observing_drifts : (n : ℕ) (done : List Exchange) (mid last : Engine) → Observing setup first done mid → ChangesItselfTimes n mid last → Observing setup first done last
+  observing_drifts zero done mid last o same = subst (λ (e : Engine). Observing setup first done e) (sym same) o
+  observing_drifts (suc n) done mid last o drifts =
+      let before = observing_drifts n done mid drifts.0 o drifts.1 in record {
+        moves = Changed ∷ before.moves;
+        bare = before.bare;
+        world = (drifts.0, before.world, drifts.2);
+        fits = before.fits;
+        fresh = before.fresh;
+        others = before.others;
+      }
 
-      at : (e : Option Engine) → IsSomeAnd e (λ last. Observing setup first (x ∷ done) last) → ToldBy xs e new
-          → ((engine : Engine) → Observing setup first (x ∷ done) engine → ToldBy xs (Some engine) new → IsSomeAnd new (λ last. Observing setup first (reverse xs ++ (x ∷ done)) last))
-          → IsSomeAnd new (λ last. Observing setup first (reverse (x ∷ xs) ++ done) last)
+  -- all steps of an observation
+  observed_all : (steps : List Step) (done : List Exchange) (mid : Engine) (new : Option Engine) → Observing setup first done mid → TellsSteps steps (Some mid) new
+      → IsSomeAnd new (λ last. Observing setup first (reverse (exchanges_in steps) ++ done) last)
+  observed_all [] done mid new o told = subst (λ (e : Option Engine). IsSomeAnd e (λ last. Observing setup first done last)) (sym told) o
+  observed_all (Made x ∷ steps) done mid new o told =
+      at told.0 (observing x.request x.outcome done mid told.0 o told.1) told.2 (λ engine n t. observed_all steps (x ∷ done) engine new n t)
+    where
+      turned : reverse (x ∷ exchanges_in steps) ++ done ≡ reverse (exchanges_in steps) ++ (x ∷ done)
+      turned = ap (λ (l : List Exchange). l ++ done) (reverse-append (x ∷ []) (exchanges_in steps)) ∙ append_assoc (reverse (exchanges_in steps)) (x ∷ []) done
+
+      at : (e : Option Engine) → IsSomeAnd e (λ last. Observing setup first (x ∷ done) last) → TellsSteps steps e new
+          → ((engine : Engine) → Observing setup first (x ∷ done) engine → TellsSteps steps (Some engine) new
+          → IsSomeAnd new (λ last. Observing setup first (reverse (exchanges_in steps) ++ (x ∷ done)) last))
+          → IsSomeAnd new (λ last. Observing setup first (reverse (x ∷ exchanges_in steps) ++ done) last)
       at None n t rest = absurd n
       at (Some engine) n t rest = subst (λ (l : List Exchange). IsSomeAnd new (λ last. Observing setup first l last)) (sym turned) (rest engine n t)
+  observed_all (Paused milliseconds ∷ steps) done mid new o told = at told.0 told.1 told.2 (λ engine drifts t. observed_all steps done engine new (observing_drifts drifts.0 done mid engine o drifts.1) t)
+    where
+      at : (e : Option Engine) → DriftsTold (Some mid) e → TellsSteps steps e new
+          → ((engine : Engine) → Drifts mid engine → TellsSteps steps (Some engine) new → IsSomeAnd new (λ last. Observing setup first (reverse (exchanges_in steps) ++ done) last))
+          → IsSomeAnd new (λ last. Observing setup first (reverse (exchanges_in steps) ++ done) last)
+      at None d t rest = absurd d
+      at (Some engine) d t rest = rest engine d t
 
   nothing_observed : Observing setup first [] first
   nothing_observed = record { moves = []; bare = refl; world = refl; fits = refl; fresh = λ i h. refl; others = λ source e. refl }
@@ -157,6 +178,61 @@ record IsOut (setup : Setup) (past : List Entry) (w : ℕ) : Type 0 where
   later : is_of_seen source ≡ false
   unended : outcome_of past source ≡ None
   asks : asked setup past source ≡ Some (request_out setup past w)
+
+-- steps up to the last exchange, that exchange, and the pauses behind it
+record Split (xs : List Exchange) (x : Exchange) (old new : Option Engine) : Type 0 where
+  before : List Step
+  are : exchanges_in before ≡ xs
+  mid : Option Engine
+  led : TellsSteps before old mid
+  after : Option Engine
+  made : Tells mid x.request x.outcome after
+  pauses : List Step
+  none : exchanges_in pauses ≡ []
+  rests : TellsSteps pauses after new
+
+split : (steps : List Step) (xs : List Exchange) (x : Exchange) (old new : Option Engine) → exchanges_in steps ≡ xs ++ x ∷ [] → TellsSteps steps old new → Split xs x old new
+split [] [] x old new are told = absurd (cc are)
+split [] (y ∷ xs) x old new are told = absurd (cc are)
+split (Paused milliseconds ∷ steps) xs x old new are told =
+    let rest = split steps xs x told.0 new are told.2 in record {
+      before = Paused milliseconds ∷ rest.before;
+      are = rest.are;
+      mid = rest.mid;
+      led = (told.0, told.1, rest.led);
+      after = rest.after;
+      made = rest.made;
+      pauses = rest.pauses;
+      none = rest.none;
+      rests = rest.rests;
+    }
+split (Made y ∷ steps) [] x old new are told =
+    let same : y ≡ x = cc are in
+    let none : exchanges_in steps ≡ [] = cc are in record {
+      before = [];
+      are = refl;
+      mid = old;
+      led = refl;
+      after = told.0;
+      made = subst (λ (e : Exchange). Tells old e.request e.outcome told.0) same told.1;
+      pauses = steps;
+      none = none;
+      rests = told.2;
+    }
+split (Made y ∷ steps) (z ∷ xs) x old new are told =
+    let same : y ≡ z = cc are in
+    let more : exchanges_in steps ≡ xs ++ x ∷ [] = cc are in
+    let rest = split steps xs x told.0 new more told.2 in record {
+      before = Made y ∷ rest.before;
+      are = ap (λ (e : Exchange). e ∷ exchanges_in rest.before) same ∙ ap (λ (l : List Exchange). z ∷ l) rest.are;
+      mid = rest.mid;
+      led = (told.0, told.1, rest.led);
+      after = rest.after;
+      made = rest.made;
+      pauses = rest.pauses;
+      none = rest.none;
+      rests = rest.rests;
+    }
 
 module _ (aim : Aim) (setup : Setup) (plan : HasPlan (basis_of aim setup) setup.actions) (whole : IsWhole setup.declared) (one : setup.limits.workers ≡ 1)
     (waits : (is_up aim.purpose ≡ true) ⊎ (setup.limits.wait ≡ false)) where
@@ -256,10 +332,39 @@ module _ (aim : Aim) (setup : Setup) (plan : HasPlan (basis_of aim setup) setup.
     ended past w Outcome.Memory mid (Some last) out t (inr answers) = ended_with past w Outcome.Memory mid out t answers.0 last answers.1 tt
     ended past w Outcome.Memory mid None out t (inr answers) = absurd answers
 
+    -- own changes
+    drifted : (past : List Entry) (n : ℕ) (mid last : Engine) → Tidy setup past first mid → ChangesItselfTimes n mid last → Tidy setup past first last
+    drifted past zero mid last t same = subst (λ (e : Engine). Tidy setup past first e) (sym same) t
+    drifted past (suc n) mid last t drifts =
+        let before = drifted past n mid drifts.0 t drifts.1 in record {
+          moves = Changed ∷ before.moves;
+          is = record { journal = before.is.journal; world = (drifts.0, before.is.world, drifts.2) };
+          clean = before.clean;
+        }
+
+    -- pauses alone
+    rested : (past : List Entry) (steps : List Step) (mid : Engine) (new : Option Engine) → exchanges_in steps ≡ [] → Tidy setup past first mid → TellsSteps steps (Some mid) new
+        → IsSomeAnd new (λ last. Tidy setup past first last)
+    rested past [] mid new none t told = subst (λ (e : Option Engine). IsSomeAnd e (λ last. Tidy setup past first last)) (sym told) t
+    rested past (Made x ∷ steps) mid new none t told = absurd (cc none)
+    rested past (Paused milliseconds ∷ steps) mid new none t told = at told.0 told.1 told.2 (λ engine drifts more. rested past steps engine new none (drifted past drifts.0 mid engine t drifts.1) more)
+      where
+        at : (e : Option Engine) → DriftsTold (Some mid) e → TellsSteps steps e new
+            → ((engine : Engine) → Drifts mid engine → TellsSteps steps (Some engine) new → IsSomeAnd new (λ last. Tidy setup past first last))
+            → IsSomeAnd new (λ last. Tidy setup past first last)
+        at None d more rest = absurd d
+        at (Some engine) d more rest = rest engine d more
+
+    rested_if : (past : List Entry) (steps : List Step) (mid new : Option Engine) → exchanges_in steps ≡ [] → IsSomeAnd mid (λ last. Tidy setup past first last) → TellsSteps steps mid new
+        → IsSomeAnd new (λ last. Tidy setup past first last)
+    rested_if past steps None new none t told = absurd t
+    rested_if past steps (Some mid) new none t told = rested past steps mid new none t told
+
     -- the observation
-    seen : (observation : Observed) (new : Option Engine) → ToldBy observation.exchanges (Some first) new
+    seen : (observation : Observed) (steps : List Step) (new : Option Engine) → exchanges_in steps ≡ observation.exchanges → TellsSteps steps (Some first) new
         → IsSomeAnd new (λ last. Tidy setup (Entry.Seen observation ∷ []) first last)
-    seen observation new told = at new (observed_all setup first observation.exchanges [] first new (nothing_observed setup first) told)
+    seen observation steps new are told = at new
+        (subst (λ (l : List Exchange). IsSomeAnd new (λ last. Observing setup first (reverse l ++ []) last)) are (observed_all setup first steps [] first new (nothing_observed setup first) told))
       where
         at : (e : Option Engine) → IsSomeAnd e (λ last. Observing setup first (reverse observation.exchanges ++ []) last) → IsSomeAnd e (λ last. Tidy setup (Entry.Seen observation ∷ []) first last)
         at None n = n
@@ -272,22 +377,18 @@ module _ (aim : Aim) (setup : Setup) (plan : HasPlan (basis_of aim setup) setup.
           clean = λ source e none. o.others source e;
         }
 
-    -- the last of the exchanges
-    split : (xs : List Exchange) (x : Exchange) (old new : Option Engine) → ToldBy (xs ++ x ∷ []) old new → (mid : Option Engine) × ToldBy xs old mid × Tells mid x.request x.outcome new
-    split [] x old new told = (old, refl, subst (λ (e : Option Engine). Tells old x.request x.outcome e) (sym told.2) told.1)
-    split (y ∷ xs) x old new told = let r = split xs x told.0 new told.2 in (r.0, (told.0, told.1, r.1), r.2)
-
     mapped : (P Q : Engine → Type 0) (new : Option Engine) → ((last : Engine) → P last → Q last) → IsSomeAnd new P → IsSomeAnd new Q
     mapped P Q None f n = n
     mapped P Q (Some last) f p = f last p
 
-    runs : (past : List Entry) (new : Option Engine) → IsLegal aim setup past → ToldBy (exchanges_of setup past 0) (Some first) new → IsSomeAnd new (λ last. Tidy setup past first last)
-    runs [] new legal told = subst (λ (e : Option Engine). IsSomeAnd e (λ last. Tidy setup [] first last)) (sym told)
-        (record { moves = []; is = record { journal = refl; world = refl }; clean = λ source e none. refl })
-    runs (Entry.Seen observation ∷ past) new legal told =
-        subst (λ (l : List Entry). ToldBy (exchanges_of setup (Entry.Seen observation ∷ l) 0) (Some first) new → IsSomeAnd new (λ last. Tidy setup (Entry.Seen observation ∷ l) first last))
-        (sym legal.1.0) (seen observation new) told
-    runs (Entry.Ended w outcome ∷ past) new legal told = at here.0 (runs past here.0 legal.0 here.1) here.2
+    runs : (past : List Entry) (steps : List Step) (new : Option Engine) → IsLegal aim setup past → exchanges_in steps ≡ exchanges_of setup past 0 → TellsSteps steps (Some first) new
+        → IsSomeAnd new (λ last. Tidy setup past first last)
+    runs [] steps new legal are told = rested [] steps first new are (record { moves = []; is = record { journal = refl; world = refl }; clean = λ source e none. refl }) told
+    runs (Entry.Seen observation ∷ past) steps new legal are told =
+        subst (λ (l : List Entry). exchanges_in steps ≡ exchanges_of setup (Entry.Seen observation ∷ l) 0 → IsSomeAnd new (λ last. Tidy setup (Entry.Seen observation ∷ l) first last))
+        (sym legal.1.0) (λ same. seen observation steps new same told) are
+    runs (Entry.Ended w outcome ∷ past) steps new legal are told =
+        rested_if (Entry.Ended w outcome ∷ past) here.pauses here.after new here.none (at here.mid (runs past here.before here.mid legal.0 here.are here.led) here.made) here.rests
       where
         none : w ≡ 0
         none = only_holder aim setup one past w legal.0 legal.1
@@ -295,24 +396,35 @@ module _ (aim : Aim) (setup : Setup) (plan : HasPlan (basis_of aim setup) setup.
         x : Exchange
         x = record { request = request_out setup past w; outcome = outcome }
 
-        here : (mid : Option Engine) × ToldBy (exchanges_of setup past 0) (Some first) mid × Tells mid (request_out setup past w) outcome new
-        here = split (exchanges_of setup past 0) x (Some first) new (rw (eq-eqb w 0 none) at told)
+        here : Split (exchanges_of setup past 0) x (Some first) new
+        here = split steps (exchanges_of setup past 0) x (Some first) new (rw (eq-eqb w 0 none) at are) told
 
-        at : (mid : Option Engine) → IsSomeAnd mid (λ last. Tidy setup past first last) → Tells mid (request_out setup past w) outcome new
-            → IsSomeAnd new (λ last. Tidy setup (Entry.Ended w outcome ∷ past) first last)
+        at : (mid : Option Engine) → IsSomeAnd mid (λ last. Tidy setup past first last) → Tells mid (request_out setup past w) outcome here.after
+            → IsSomeAnd here.after (λ last. Tidy setup (Entry.Ended w outcome ∷ past) first last)
         at None n t = absurd n
-        at (Some mid) n t = ended past w outcome mid new (is_out past w legal.0 legal.1) n t
-    runs (Entry.Claim w a ∷ past) new legal told = mapped _ _ new (λ last. noted past (Entry.Claim w a) last (λ moves. tt) (λ source e. refl)) (runs past new legal.0 told)
-    runs (Entry.Poll w s ∷ past) new legal told = mapped _ _ new (λ last. noted past (Entry.Poll w s) last (λ moves. tt) (λ source e. refl)) (runs past new legal.0 told)
-    runs (Entry.Idle w ∷ past) new legal told = mapped _ _ new (λ last. noted past (Entry.Idle w) last (λ moves. tt) (λ source e. refl)) (runs past new legal.0 told)
-    runs (Entry.Leave w ∷ past) new legal told = mapped _ _ new (λ last. noted past (Entry.Leave w) last (λ moves. tt) (λ source e. refl)) (runs past new legal.0 told)
-    runs (Entry.Stop w ∷ past) new legal told = mapped _ _ new (λ last. noted past (Entry.Stop w) last (λ moves. tt) (λ source e. refl)) (runs past new legal.0 told)
-    runs (Entry.Late w why ∷ past) new legal told = mapped _ _ new (λ last. noted past (Entry.Late w why) last (λ moves. tt) (λ source e. refl)) (runs past new legal.0 told)
-    runs (Entry.Short w ∷ past) new legal told = mapped _ _ new (λ last. noted past (Entry.Short w) last (λ moves. tt) (λ source e. refl)) (runs past new legal.0 told)
+        at (Some mid) n t = ended past w outcome mid here.after (is_out past w legal.0 legal.1) n t
+    runs (Entry.Claim w a ∷ past) steps new legal are told = mapped _ _ new (λ last. noted past (Entry.Claim w a) last (λ moves. tt) (λ source e. refl)) (runs past steps new legal.0 are told)
+    runs (Entry.Poll w s ∷ past) steps new legal are told = mapped _ _ new (λ last. noted past (Entry.Poll w s) last (λ moves. tt) (λ source e. refl)) (runs past steps new legal.0 are told)
+    runs (Entry.Idle w ∷ past) steps new legal are told = mapped _ _ new (λ last. noted past (Entry.Idle w) last (λ moves. tt) (λ source e. refl)) (runs past steps new legal.0 are told)
+    runs (Entry.Leave w ∷ past) steps new legal are told = mapped _ _ new (λ last. noted past (Entry.Leave w) last (λ moves. tt) (λ source e. refl)) (runs past steps new legal.0 are told)
+    runs (Entry.Stop w ∷ past) steps new legal are told = mapped _ _ new (λ last. noted past (Entry.Stop w) last (λ moves. tt) (λ source e. refl)) (runs past steps new legal.0 are told)
+    runs (Entry.Late w why ∷ past) steps new legal are told = mapped _ _ new (λ last. noted past (Entry.Late w why) last (λ moves. tt) (λ source e. refl)) (runs past steps new legal.0 are told)
+    runs (Entry.Short w ∷ past) steps new legal are told = mapped _ _ new (λ last. noted past (Entry.Short w) last (λ moves. tt) (λ source e. refl)) (runs past steps new legal.0 are told)
+
+-- exchanges without a pause are those exchanges
+pub unpaused_are : (es : List Exchange) → exchanges_in (unpaused es) ≡ es
+unpaused_are [] = refl
+unpaused_are (x ∷ es) = ap (λ (l : List Exchange). x ∷ l) (unpaused_are es)
+
+-- a run that takes a project down waits for no goal
+goals_up : (up wait : Bool) → (up ≡ true) ⊎ ((wait && up) ≡ false)
+goals_up true wait = inl refl
+goals_up false true = inr refl
+goals_up false false = inr refl
 
 pub told_runs_have_worlds : ToldRunsHaveWorlds
-told_runs_have_worlds task journal first new one whole waits run told =
-    mapped aim setup plan whole one waits first _ _ new (λ last t. (t.moves, t.is)) (runs aim setup plan whole one waits first (reverse journal) new run.legal told)
+told_runs_have_worlds task journal steps first new one whole run are told =
+    mapped aim setup plan whole one waits first _ _ new (λ last t. (t.moves, t.is)) (runs aim setup plan whole one waits first (reverse journal) steps new run.legal are told)
   where
     aim : Aim
     aim = task.aim
@@ -322,3 +434,6 @@ told_runs_have_worlds task journal first new one whole waits run told =
 
     plan : HasPlan (basis_of aim setup) setup.actions
     plan = has_plan (basis_of aim setup)
+
+    waits : (is_up aim.purpose ≡ true) ⊎ (setup.limits.wait ≡ false)
+    waits = goals_up (is_up aim.purpose) task.limits.wait

@@ -1,5 +1,5 @@
 -- Laws of the worlds of a run.
-use Rattle.std.specs.Prelude.{◌≡◌, ◌⊎◌, ℕ, ◌<◌, List, [], ◌∷◌, Option, None, Some, IsSomeAnd, true, false, length}
+use Rattle.std.specs.Prelude.{◌≡◌, ℕ, ◌<◌, List, [], ◌∷◌, Option, None, Some, IsSomeAnd, true, false, length}
 use Rattle.engine_types.specs.declared.Engine.{Engine}
 use Rattle.engine_types.specs.declared.Entry.{Entry}
 use Rattle.engine_types.specs.declared.Observed.{Observed}
@@ -9,11 +9,11 @@ use Rattle.run_model.specs.Journals.{Setup, is_well, seen_in, standing}
 use Rattle.run_model.specs.Legal.{IsLegal}
 use Rattle.run_model.specs.Observation.{is_up}
 use Rattle.run_model.specs.Plans.{Aim, IsWhole}
-use Rattle.run_model.specs.Runs.{IsRun, IsWorldOfRun, Task, run_exchanges, run_fault}
+use Rattle.run_model.specs.Runs.{IsLeftByAll, IsRun, IsWorldOfRun, Task, run_exchanges, run_fault}
 use Rattle.run_model.specs.Worlds.{Did, Move, World, entries_of}
 use Rattle.world_laws.specs.OwnSpecs.{HasOwnSpecs}
 use Rattle.world_laws.specs.Sights.{IsSightOf}
-use Rattle.run_model.specs.EngineRules.{ToldBy}
+use Rattle.run_model.specs.EngineRules.{Step, TellsSteps, exchanges_in}
 
 -- in a legal, final journal without a failing entry every action ended well
 abbrev pub EveryActionEndedWell : Type 0
@@ -41,10 +41,14 @@ GoneInEachWorld = (task : Task) (journal : List Entry) (first last : Engine) (mo
     → IsRun task journal → run_fault task journal ≡ None → IsWorldOfRun task journal first moves last
     → IsGone task.declared last task.aim.orphans task.aim.volumes
 
--- where the hand of a run's only worker tells how the Engine went through the run's exchanges, the run has a world, which ends with the
--- Engine that the hand tells
+-- where the hand of a run's only worker tells how the Engine went through the hand's steps, of which the exchanges are the run's,
+-- the run has a world, which ends with the Engine that the hand tells
 abbrev pub ToldRunsHaveWorlds : Type 0
-ToldRunsHaveWorlds = (task : Task) (journal : List Entry) (first : Engine) (new : Option Engine)
-    → task.limits.workers ≡ 1 → IsWhole task.declared → (is_up task.aim.purpose ≡ true) ⊎ (task.limits.wait ≡ false)
-    → IsRun task journal → ToldBy (run_exchanges task journal 0) (Some first) new
+ToldRunsHaveWorlds = (task : Task) (journal : List Entry) (steps : List Step) (first : Engine) (new : Option Engine)
+    → task.limits.workers ≡ 1 → IsWhole task.declared → IsRun task journal
+    → exchanges_in steps ≡ run_exchanges task journal 0 → TellsSteps steps (Some first) new
     → IsSomeAnd new (λ last. (moves : List Move) × IsWorldOfRun task journal first moves last)
+
+-- every worker of a run that has one worker has left, unless its observation ended badly
+abbrev pub OneWorkerLeaves : Type 0
+OneWorkerLeaves = (task : Task) (journal : List Entry) → task.limits.workers ≡ 1 → IsRun task journal → IsLeftByAll task journal

@@ -1,6 +1,7 @@
 -- An Engine on which `web` runs, what it did while `web` was taken down, and what it held then.
 use Rattle.std.specs.Prelude.{List, [], ◌∷◌, codes}
 use Rattle.engine_types.specs.declared.ContainerRow.{ContainerRow}
+use Rattle.engine_types.specs.declared.ContainerState.{ContainerState}
 use Rattle.engine_types.specs.declared.Engine.{Engine}
 use Rattle.engine_types.specs.declared.Entry.{Entry}
 use Rattle.engine_types.specs.declared.NetRow.{NetRow}
@@ -9,7 +10,7 @@ use Rattle.engine_types.specs.declared.Outcome.{Outcome}
 use Rattle.engine_types.specs.declared.Reply.{Reply}
 use Rattle.engine_types.specs.declared.Request.{Request}
 use Rattle.engine_types.specs.declared.SeenEnd.{SeenEnd}
-use Rattle.run_model.specs.EngineRules.{created_row, started_row, stopped_row}
+use Rattle.run_model.specs.EngineRules.{Made, Paused, Step, created_row, started_row, stopped_row}
 use Rattle.run_model.specs.OneService.{web}
 use Rattle.run_model.specs.OneWorld.{pulled}
 use Rattle.run_model.specs.OtherRuns.{running}
@@ -41,6 +42,14 @@ between = engine_with (stopped_row runs ∷ [])
 abbrev pub after : Engine
 after = engine_with []
 
+-- the container while it is restarted
+abbrev pub restarting : ContainerRow
+restarting = record runs { report = record runs.report { state = ContainerState.Restarting } }
+
+-- the Engine while the container is restarted
+abbrev pub restarts : Engine
+restarts = engine_with (restarting ∷ [])
+
 -- the observation: the container runs
 abbrev pub sees : Observed
 sees = record {
@@ -56,3 +65,9 @@ moves =
     ∷ Did (Entry.Ended 0 (Outcome.Answered Reply.Done)) ∷ Took (OfAction 0) (Request.Stop (codes "c1") 10) Reply.Done ∷ Did (Entry.Claim 0 0)
     ∷ Did (Entry.Seen sees)
     ∷ Took (OfSeen 0) (Request.ListContainers (codes "shop")) (Reply.Containers (running ∷ [])) ∷ []
+
+-- what the hand did, where it paused before the stop
+abbrev pub steps : List Step
+steps =
+    Made (answered (Request.ListContainers (codes "shop")) (Reply.Containers (running ∷ []))) ∷ Paused 500
+    ∷ Made (answered (Request.Stop (codes "c1") 10) Reply.Done) ∷ Made (answered (Request.Remove (codes "c1")) Reply.Done) ∷ []

@@ -1,4 +1,4 @@
-ghost use Rattle.world_laws.specs.Laws.{EveryActionEndedWell, ExactInEachWorld, GoneInEachWorld, SeenIsThere, ToldRunsHaveWorlds};
+ghost use Rattle.world_laws.specs.Laws.{EveryActionEndedWell, ExactInEachWorld, GoneInEachWorld, OneWorkerLeaves, SeenIsThere, ToldRunsHaveWorlds};
 
 /// In a final journal without a failing entry every action of the plan ended well.
 pub fn every_action_ended_well()
@@ -22,8 +22,13 @@ pub fn gone_in_each_world()
     ensures { GoneInEachWorld }
 {}
 
-/// A run of one worker whose hand tells how the Engine went through the run's exchanges has a world, and it ends with the
-/// Engine that the hand tells: so what holds in every world of the run holds of that Engine.
+/// A run of one worker whose hand tells how the Engine went through the hand's exchanges and pauses has a world, and it
+/// ends with the Engine that the hand tells: so what holds in every world of the run holds of that Engine.
 pub fn told_runs_have_worlds()
     ensures { ToldRunsHaveWorlds }
+{}
+
+/// Every worker of a run of one worker has left, unless its observation ended badly.
+pub fn one_worker_leaves()
+    ensures { OneWorkerLeaves }
 {}

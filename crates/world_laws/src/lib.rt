@@ -12,7 +12,10 @@ mod worked;
 
 pub use exactness::exact;
 pub use laws::{
-    every_action_ended_well, exact_in_each_world, gone_in_each_world, seen_is_there,
-    told_runs_have_worlds,
+    every_action_ended_well, exact_in_each_world, gone_in_each_world, one_worker_leaves,
+    seen_is_there, told_runs_have_worlds,
 };
-pub use worked::{one_service_is_gone, one_service_is_held_exactly, two_networks_are_held_exactly};
+pub use worked::{
+    one_service_is_gone, one_service_is_held_exactly, paused_run_has_a_world,
+    two_networks_are_held_exactly,
+};

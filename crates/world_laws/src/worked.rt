@@ -1,13 +1,15 @@
-ghost use Rattle.std.specs.Prelude.{◌≡◌, None};
+ghost use Rattle.std.specs.Prelude.{◌≡◌, List, None, Some};
 ghost use Rattle.engine_types.specs.declared.Engine.{Engine};
+ghost use Rattle.run_model.specs.EngineRules.{TellsSteps, exchanges_in};
 ghost use Rattle.run_model.specs.Exact.{IsExact, IsGone};
 ghost use Rattle.run_model.specs.OneService.{comes_up, shop, upping};
 ghost use Rattle.run_model.specs.OneWorld.{fresh, moves, up};
 ghost use Rattle.run_model.specs.OtherRuns.{downing, goes_down};
 ghost use Rattle.run_model.specs.Plans.{IsWhole};
-ghost use Rattle.run_model.specs.Runs.{IsRun, IsWorldOfRun, run_fault};
+ghost use Rattle.run_model.specs.Runs.{IsRun, IsWorldOfRun, run_exchanges, run_fault};
 ghost use Rattle.run_model.specs.TwoNetworks as two;
 ghost use Rattle.run_model.specs.TwoWorlds as worlds;
+ghost use Rattle.run_model.specs.Worlds.{Move};
 ghost use Rattle.world_laws.specs.OneDown as down;
 ghost use Rattle.world_laws.specs.OwnSpecs.{HasOwnSpecs};
 
@@ -51,6 +53,17 @@ pub fn one_service_is_gone()
     ensures sound { run_fault (downing shop) goes_down ≡ None }
     ensures world { IsWorldOfRun (downing shop) goes_down down.before down.moves down.after }
     ensures gone { IsGone shop down.after (downing shop).aim.orphans (downing shop).aim.volumes }
+{
+    second_run_and_down();
+}
+
+/// The hand of that run pauses before the stop, and meanwhile the container is restarted by itself. The law on what a
+/// hand tells gives a world of the run that ends with the hand's Engine.
+pub fn paused_run_has_a_world()
+    ensures run { IsRun (downing shop) goes_down }
+    ensures exchanges { exchanges_in down.steps ≡ run_exchanges (downing shop) goes_down 0 }
+    ensures told { TellsSteps down.steps (Some down.before) (Some down.after) }
+    ensures world { (moves : List Move) × IsWorldOfRun (downing shop) goes_down down.before moves down.after }
 {
     second_run_and_down();
 }

@@ -1,18 +1,18 @@
-use Rattle.std.proofs.Common.{◌≡◌, ◌∙◌, List, [], ◌∷◌, ◌++◌, true, false, ap}
+use Rattle.std.proofs.Common.{◌≡◌, ◌∙◌, List, [], ◌∷◌, ◌++◌, true, false, refl, ap}
 use Rattle.std.specs.Prelude.{is_ok}
 use Rattle.compose_cli.proofs.Ran.{exact_by, gone_by, runs_task, through_by, unwritten, went_well}
 use Rattle.project_run.specs.Whole.{task_of}
-use Rattle.serial_run.specs.Serial.{aim_of}
+use Rattle.serial_run.specs.Serial.{aim_of, one_worker}
 use Rattle.compose_cli.proofs.run.run_with.Goals as goal
 
 pub returns-clause-ran : goal.returns-clause-ran
 returns-clause-ran g c =
     let ok : is_ok c.push.result ≡ true = c.push.ensures.succeeds c.requires.room in
     let grown : c.push.new.self.items ≡ c.args.hands.items ++ c.run_project-journal.new.hand ∷ [] = rw ok at c.push.ensures.items in
-    runs_task (λ h. g.H.Hand.log h) (λ h. g.H.Hand.heard h) (λ h. g.H.Hand.faults h) (task_of c.args.declared.now (aim_of c.args.aim)) c.run_project-journal.result.journal c.from_vec.result c.status_of.result
+    runs_task (λ h. g.H.Hand.log h) (λ h. g.H.Hand.heard h) (λ h. g.H.Hand.faults h) (task_of c.args.declared.now (aim_of c.args.aim) one_worker) c.run_project-journal.result.journal c.from_vec.result c.status_of.result
     c.run_project-journal.result.report c.run_project-journal.result.fault c.write_report.result c.say_if_any-refusal.result c.args.hand c.run_project-journal.new.hand
     (g.O.Sink.written c.args.out.now) (g.O.Sink.written c.write_report.new.out) (g.O.Sink.faults c.args.out.now) (g.O.Sink.faults c.write_report.new.out)
-    c.run_project-journal.ensures.run c.run_project-journal.ensures.log c.run_project-journal.ensures.fault c.run_project-journal.ensures.report c.run_project-journal.ensures.cause c.run_project-journal.ensures.heard
+    refl c.run_project-journal.ensures.run c.run_project-journal.ensures.left c.run_project-journal.ensures.log c.run_project-journal.ensures.fault c.run_project-journal.ensures.report c.run_project-journal.ensures.cause c.run_project-journal.ensures.heard
     c.run_project-journal.ensures.kept (λ well up. c.run_project-journal.ensures.exact well up c.requires.own) c.run_project-journal.ensures.gone
     c.requires.unused c.requires.faultless (c.from_vec.ensures ∙ grown ∙ ap (λ (hands : List _). hands ++ c.run_project-journal.new.hand ∷ []) c.requires.empty)
     c.write_report.ensures.refused c.write_report.ensures.written c.say_if_any-refusal.ensures.refusal
@@ -21,14 +21,14 @@ pub returns-clause-through : goal.returns-clause-through
 returns-clause-through g c =
     let ok : is_ok c.push.result ≡ true = c.push.ensures.succeeds c.requires.room in
     let grown : c.push.new.self.items ≡ c.args.hands.items ++ c.run_project-journal.new.hand ∷ [] = rw ok at c.push.ensures.items in
-    through_by (λ h. g.H.Hand.engine h) (task_of c.args.declared.now (aim_of c.args.aim)) c.run_project-journal.result.journal c.from_vec.result (g.H.Hand.engine c.args.hand) c.run_project-journal.new.hand
+    through_by (λ h. g.H.Hand.engine h) (task_of c.args.declared.now (aim_of c.args.aim) one_worker) c.run_project-journal.result.journal c.from_vec.result (g.H.Hand.engine c.args.hand) c.run_project-journal.new.hand
     c.run_project-journal.ensures.world (c.from_vec.ensures ∙ grown ∙ ap (λ (hands : List _). hands ++ c.run_project-journal.new.hand ∷ []) c.requires.empty)
 
 pub returns-clause-exact : goal.returns-clause-exact
 returns-clause-exact g c =
     let ok : is_ok c.push.result ≡ true = c.push.ensures.succeeds c.requires.room in
     let grown : c.push.new.self.items ≡ c.args.hands.items ++ c.run_project-journal.new.hand ∷ [] = rw ok at c.push.ensures.items in
-    λ e up. exact_by (λ h. g.H.Hand.engine h) (task_of c.args.declared.now (aim_of c.args.aim)) c.run_project-journal.result.journal c.from_vec.result (g.H.Hand.engine c.args.hand) c.run_project-journal.new.hand c.run_project-journal.result.fault
+    λ e up. exact_by (λ h. g.H.Hand.engine h) (task_of c.args.declared.now (aim_of c.args.aim) one_worker) c.run_project-journal.result.journal c.from_vec.result (g.H.Hand.engine c.args.hand) c.run_project-journal.new.hand c.run_project-journal.result.fault
     (λ n. (c.run_project-journal.ensures.empty n).0) c.run_project-journal.ensures.world (λ well. c.run_project-journal.ensures.exact well up c.requires.own)
     (c.from_vec.ensures ∙ grown ∙ ap (λ (hands : List _). hands ++ c.run_project-journal.new.hand ∷ []) c.requires.empty)
     (went_well c.run_project-journal.result.fault (g.O.Sink.faults c.args.out.now) (g.O.Sink.faults c.write_report.new.out) c.write_report.result c.say_if_any-refusal.result c.write_report.ensures.refused c.say_if_any-refusal.ensures.refusal e)
@@ -37,12 +37,12 @@ pub returns-clause-gone : goal.returns-clause-gone
 returns-clause-gone g c =
     let ok : is_ok c.push.result ≡ true = c.push.ensures.succeeds c.requires.room in
     let grown : c.push.new.self.items ≡ c.args.hands.items ++ c.run_project-journal.new.hand ∷ [] = rw ok at c.push.ensures.items in
-    λ e down. gone_by (λ h. g.H.Hand.engine h) (task_of c.args.declared.now (aim_of c.args.aim)) c.run_project-journal.result.journal c.from_vec.result (g.H.Hand.engine c.args.hand) c.run_project-journal.new.hand c.run_project-journal.result.fault
+    λ e down. gone_by (λ h. g.H.Hand.engine h) (task_of c.args.declared.now (aim_of c.args.aim) one_worker) c.run_project-journal.result.journal c.from_vec.result (g.H.Hand.engine c.args.hand) c.run_project-journal.new.hand c.run_project-journal.result.fault
     (λ n. (c.run_project-journal.ensures.empty n).0) c.run_project-journal.ensures.world (λ well. c.run_project-journal.ensures.gone well down)
     (c.from_vec.ensures ∙ grown ∙ ap (λ (hands : List _). hands ++ c.run_project-journal.new.hand ∷ []) c.requires.empty)
     (went_well c.run_project-journal.result.fault (g.O.Sink.faults c.args.out.now) (g.O.Sink.faults c.write_report.new.out) c.write_report.result c.say_if_any-refusal.result c.write_report.ensures.refused c.say_if_any-refusal.ensures.refusal e)
 
 pub returns-clause-quiet_unbegun : goal.returns-clause-quiet_unbegun
 returns-clause-quiet_unbegun g c =
-    unwritten (g.O.Sink.faults c.args.out.now) (g.O.Sink.faults c.write_report.new.out) (task_of c.args.declared.now (aim_of c.args.aim)) c.run_project-journal.result.journal c.run_project-journal.result.fault
+    unwritten (g.O.Sink.faults c.args.out.now) (g.O.Sink.faults c.write_report.new.out) (task_of c.args.declared.now (aim_of c.args.aim) one_worker) c.run_project-journal.result.journal c.run_project-journal.result.fault
     c.run_project-journal.result.report (g.O.Sink.written c.args.out.now) (g.O.Sink.written c.write_report.new.out) c.run_project-journal.ensures.report c.write_report.ensures.written

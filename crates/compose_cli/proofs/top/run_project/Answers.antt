@@ -3,7 +3,7 @@ use Rattle.engine_types.specs.declared.Declared.{Declared}
 use Rattle.compose_cli.specs.Runs.{MovesEngine, RunsTask}
 use Rattle.project_run.specs.Whole.{IfBegun, task_of}
 use Rattle.run_model.specs.Plans.{IsWhole}
-use Rattle.serial_run.specs.Serial.{WaitsForNone, aim_of}
+use Rattle.serial_run.specs.Serial.{WaitsForNone, aim_of, one_worker}
 use Rattle.world_laws.specs.OwnSpecs.{HasOwnSpecs}
 use Rattle.compose_cli.proofs.Declares.{declares_own, needs_no_slot}
 use Rattle.identity.proofs.Declares.{declares_whole}
@@ -20,10 +20,10 @@ run_declared-requires-clause-unconditional g c = subst WaitsForNone (sym c.in-Ok
 
 pub returns-in-Ok-clause-ran : goal.returns-in-Ok-clause-ran
 returns-in-Ok-clause-ran g c = subst (λ (declared : Declared). IfBegun c.run_declared.result.journal
-    (RunsTask (λ h. g.P.Hand.Hand.log h) (λ h. g.P.Hand.Hand.heard h) (λ h. g.P.Hand.Hand.faults h) (task_of declared (aim_of c.args.aim)) c.run_declared.result
+    (RunsTask (λ h. g.P.Hand.Hand.log h) (λ h. g.P.Hand.Hand.heard h) (λ h. g.P.Hand.Hand.faults h) (task_of declared (aim_of c.args.aim) one_worker) c.run_declared.result
     (g.O.Sink.written c.args.out.now) (g.O.Sink.written c.run_declared.new.out) (g.O.Sink.faults c.args.out.now) (g.O.Sink.faults c.run_declared.new.out)))
     c.in-Ok.ensures c.run_declared.ensures.ran
 
 pub returns-in-Ok-clause-engine : goal.returns-in-Ok-clause-engine
-returns-in-Ok-clause-engine g c = subst (λ (declared : Declared). MovesEngine (λ h. g.P.Hand.Hand.engine h) (task_of declared (aim_of c.args.aim)) c.run_declared.result (g.P.Plug.engine c.args.plug.now))
+returns-in-Ok-clause-engine g c = subst (λ (declared : Declared). MovesEngine (λ h. g.P.Hand.Hand.engine h) (task_of declared (aim_of c.args.aim) one_worker) c.run_declared.result (g.P.Plug.engine c.args.plug.now))
     c.in-Ok.ensures c.run_declared.ensures.engine

@@ -4,7 +4,7 @@ use Rattle.run_model.specs.Ending.{first_fault}
 use Rattle.run_model.specs.Journals.{Setup}
 use Rattle.run_model.specs.Lines.{report_text}
 use Rattle.run_model.specs.Runs.{run_fault, run_report}
-use Rattle.serial_run.specs.Serial.{aim_of, telling}
+use Rattle.serial_run.specs.Serial.{aim_of, one_worker, telling}
 use Rattle.project_run.proofs.Leaving.{leaves_well, same_setup, unrolled_actions}
 use Rattle.project_run.specs.Whole.{IsFault, IsReport, task_of}
 use Rattle.project_run.proofs.whole_run.run.Goals as goal
@@ -39,9 +39,9 @@ returns-in-Planned-clause-report g c = subst (λ (setup : Setup). IsReport (repo
     c.carry_out.ensures.report
 
 pub returns-in-Ended-clause-fault : goal.returns-in-Ended-clause-fault
-returns-in-Ended-clause-fault g c = subst (λ (journal : List Entry). IsFault (run_fault (task_of c.args.declared.now (aim_of c.args.aim)) journal) c.ended.result.fault)
-    (sym c.ended.ensures.journal) (c.ended.ensures.fault (task_of c.args.declared.now (aim_of c.args.aim)))
+returns-in-Ended-clause-fault g c = subst (λ (journal : List Entry). IsFault (run_fault (task_of c.args.declared.now (aim_of c.args.aim) one_worker) journal) c.ended.result.fault)
+    (sym c.ended.ensures.journal) (c.ended.ensures.fault (task_of c.args.declared.now (aim_of c.args.aim) one_worker))
 
 pub returns-in-Ended-clause-report : goal.returns-in-Ended-clause-report
-returns-in-Ended-clause-report g c = subst (λ (journal : List Entry). IsReport (run_report (task_of c.args.declared.now (aim_of c.args.aim)) journal) c.ended.result.fault c.ended.result.report)
-    (sym c.ended.ensures.journal) (c.ended.ensures.report (task_of c.args.declared.now (aim_of c.args.aim)))
+returns-in-Ended-clause-report g c = subst (λ (journal : List Entry). IsReport (run_report (task_of c.args.declared.now (aim_of c.args.aim) one_worker) journal) c.ended.result.fault c.ended.result.report)
+    (sym c.ended.ensures.journal) (c.ended.ensures.report (task_of c.args.declared.now (aim_of c.args.aim) one_worker))

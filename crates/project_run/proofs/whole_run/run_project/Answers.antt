@@ -1,11 +1,14 @@
 use Rattle.project_run.proofs.Exact.{ends_exact, ends_gone, goes_through, if_any}
 use Rattle.project_run.proofs.Sparing.{runs_spare_kept}
-use Rattle.serial_run.specs.Serial.{aim_of}
+use Rattle.serial_run.specs.Serial.{aim_of, one_worker}
 use Rattle.project_run.specs.Whole.{task_of}
 use Rattle.project_run.proofs.whole_run.run_project.Goals as goal
 
 pub returns-clause-kept : goal.returns-clause-kept
-returns-clause-kept g c = λ up. runs_spare_kept (task_of c.args.declared.now (aim_of c.args.aim)) c.run.result.journal up c.requires.whole.owners c.run.ensures.leaves.run
+returns-clause-kept g c = λ up. runs_spare_kept (task_of c.args.declared.now (aim_of c.args.aim) one_worker) c.run.result.journal up c.requires.whole.owners c.run.ensures.leaves.run
+
+pub returns-clause-left : goal.returns-clause-left
+returns-clause-left g c = if_any c.run.result.journal c.run.ensures.leaves.left
 
 pub returns-clause-world : goal.returns-clause-world
 returns-clause-world g c = if_any c.run.result.journal

@@ -52,6 +52,7 @@ short = record {
 pub returns : goal.returns
 unfolding digits
 returns c = record {
+  limits = refl;
   late = late;
   late_status = refl;
   late_fault = refl;
