@@ -6,6 +6,7 @@ use Rattle.std.specs.List.Sorted.{IsStrictlyIncreasing}
 use Rattle.std.specs.Option.{option_map_or}
 use Rattle.std.proofs.lemmas.Option.{slice_get_past}
 use Rattle.std.proofs.lemmas.Bool.{and_parts, eqb-true}
+use Rattle.std.proofs.lemmas.List.Elements.{filter_agree}
 use Rattle.std.proofs.lemmas.Slice.Eq.{bytes_eq-Decides}
 use Rattle.engine_types.specs.Labels.{service_label}
 use Rattle.engine_types.specs.declared.ActionKind.{ActionKind}
@@ -20,16 +21,18 @@ use Rattle.engine_types.specs.declared.VolumeSpec.{VolumeSpec}
 use Rattle.tree_base.specs.declared.place.Var.{Var}
 use Rattle.run_model.specs.EngineRules.{Among, label_in}
 use Rattle.run_model.specs.Labels.{names_service}
+use Rattle.run_model.specs.Numbers.{places}
 use Rattle.run_model.specs.Observation.{is_up}
 use Rattle.run_model.specs.Plans.{Basis, asks_restart, is_in_way, is_needed_by, needed_by, network_name, restarts_for, slot_at}
 use Rattle.run_model.proofs.DistinctLists.{among_filter, among_left, among_map, among_right, at_place}
 use Rattle.run_model.proofs.PlanLaws.{some_from}
 use Rattle.run_model.proofs.RequestLemmas.{same_text}
-use Rattle.plan_core.specs.Finding.{actions_under, asked_by_slot, asked_of, bind_sources, dependents_of, is_needed_at, needed_names, needs_removals, network_name_at, service_key_at, service_named, service_seen, slot_name_at, texts_of}
+use Rattle.plan_core.specs.Finding.{actions_under, asked_by_slot, asked_of, bind_sources, container_text, dependents_of, is_needed_at, is_removal, is_removal_at, needed_names, needs_removals, network_name_at, removals_in, service_key_at, service_named, service_seen, slot_name_at, slot_text, texts_of}
 use Rattle.plan_core.specs.Index.{numbers_under, places_under}
 use Rattle.plan_core.specs.Rows.{id_at}
 use Rattle.plan_core.proofs.OrderlyPlans.{any_among, service_is}
 use Rattle.plan_core.proofs.Rising.{all_that_pass, rises_from}
+use Rattle.plan_core.proofs.SlotTexts.{named_text}
 
 either : (x y : Bool) → (x || y) ≡ true → (x ≡ true) ⊎ (y ≡ true)
 either true y e = inl refl
@@ -90,14 +93,14 @@ module _ (basis : Basis) where
       let asked = asked_at s slot.0 slot.1 in
       ⊎_elim
       (λ named. record {
-        text = slot.0.service;
-        first = subst (λ (texts : List (List ℕ)). Among texts slot.0.service) (sym asked) (inl refl);
-        second = inl (sym (service_at c row.0 slot.0.service row.1 (and_parts (names_service slot.0.service row.0.labels) _ named).0));
+        text = slot_text slot.0;
+        first = subst (λ (texts : List (List ℕ)). Among texts (slot_text slot.0)) (sym asked) (inl refl);
+        second = inr (inl (sym (ap (λ (o : Option Listed). option_map_or container_text o []) row.1 ∙ named_text slot.0 row.0.labels named)));
       })
       (λ same. record {
         text = slot.0.name;
         first = subst (λ (texts : List (List ℕ)). Among texts slot.0.name) (sym asked) (inr (inl refl));
-        second = inr (inl (sym (ap (λ (o : Option Listed). option_map_or (λ (r : Listed). r.name) o []) row.1 ∙ (bytes_eq-Decides row.0.name slot.0.name).0 same)));
+        second = inr (inr (inl (sym (ap (λ (o : Option Listed). option_map_or (λ (r : Listed). r.name) o []) row.1 ∙ (bytes_eq-Decides row.0.name slot.0.name).0 same))));
       })
       (either _ (bytes_eq row.0.name slot.0.name) row.2)
 
@@ -212,3 +215,44 @@ module _ (basis : Basis) where
 
       past : (b : ℕ) → 0 + length kinds ≤ b → is_needed_at basis kinds kind b ≡ false
       past b k = ap (λ (o : Option ActionKind). option_map_or (is_needed_by basis kind) o false) (slice_get_past kinds b (omega (arith, k)))
+
+  -- what needs removals needs them all
+  pub all_removals : (kinds : List ActionKind) (kind : ActionKind) → needs_removals kind ≡ true → needed_by basis kinds kind ≡ removals_in kinds
+  all_removals kinds kind e = filter_agree (is_needed_at basis kinds kind) (is_removal_at kinds) (λ b. at kind e (slice_get kinds b)) (places kinds)
+    where
+      network : (n : ℕ) (other : ActionKind) → is_needed_by basis (RemoveNetwork n) other ≡ is_removal other
+      network n (MakeVolume v) = refl
+      network n (MakeNetwork m) = refl
+      network n (StopContainer c) = refl
+      network n (RemoveContainer c) = refl
+      network n (CreateSlot s) = refl
+      network n (ConnectSlot s k) = refl
+      network n (StopKept s) = refl
+      network n (StartSlot s) = refl
+      network n (RemoveNetwork m) = refl
+      network n (RemoveVolume v) = refl
+
+      volume : (w : ℕ) (other : ActionKind) → is_needed_by basis (RemoveVolume w) other ≡ is_removal other
+      volume w (MakeVolume v) = refl
+      volume w (MakeNetwork m) = refl
+      volume w (StopContainer c) = refl
+      volume w (RemoveContainer c) = refl
+      volume w (CreateSlot s) = refl
+      volume w (ConnectSlot s k) = refl
+      volume w (StopKept s) = refl
+      volume w (StartSlot s) = refl
+      volume w (RemoveNetwork m) = refl
+      volume w (RemoveVolume v) = refl
+
+      at : (k : ActionKind) → needs_removals k ≡ true → (o : Option ActionKind) → option_map_or (is_needed_by basis k) o false ≡ option_map_or is_removal o false
+      at k h None = refl
+      at (RemoveNetwork n) h (Some other) = network n other
+      at (RemoveVolume w) h (Some other) = volume w other
+      at (MakeVolume v) h (Some other) = absurd (cc h)
+      at (MakeNetwork m) h (Some other) = absurd (cc h)
+      at (StopContainer c) h (Some other) = absurd (cc h)
+      at (RemoveContainer c) h (Some other) = absurd (cc h)
+      at (CreateSlot s) h (Some other) = absurd (cc h)
+      at (ConnectSlot s i) h (Some other) = absurd (cc h)
+      at (StopKept s) h (Some other) = absurd (cc h)
+      at (StartSlot s) h (Some other) = absurd (cc h)

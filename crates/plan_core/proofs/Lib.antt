@@ -9,4 +9,5 @@ pub mod Ranks
 pub mod Orders
 pub mod OrderlyPlans
 pub mod Kept
+pub mod SlotTexts
 pub mod SlotRows

@@ -1,7 +1,7 @@
 -- One turn more of a loop over a list.
-use Rattle.std.proofs.Common.{◌≡◌, ℕ, zero, suc, ◌+◌, ◌<◌, Bool, false, cond, List, [], ◌∷◌, ◌++◌, map, slice_get, length, get_or, take, refl, sym, ap, ◌∙◌}
+use Rattle.std.proofs.Common.{◌≡◌, ℕ, zero, suc, ◌+◌, ◌<◌, Bool, false, cond, List, [], ◌∷◌, ◌++◌, map, Option, Some, None, slice_get, unwrap_or, length, get_or, take, refl, sym, ap, ◌∙◌}
 use Rattle.std.specs.Prelude.{filter}
-use Rattle.std.specs.Option.{option_map}
+use Rattle.std.specs.Option.{option_map, option_map_or}
 use Rattle.std.proofs.lemmas.List.{map-append, take_more}
 use Rattle.std.proofs.lemmas.List.Elements.{filter-append}
 use Rattle.std.proofs.lemmas.Option.{slice_get-get_or}
@@ -12,6 +12,14 @@ pub slice_get-map : {X Y : Type 0} (f : X → Y) (xs : List X) (i : ℕ) → sli
 slice_get-map f [] i = refl
 slice_get-map f (x ∷ xs) zero = refl
 slice_get-map f (x ∷ xs) (suc i) = slice_get-map f xs i
+
+-- a text that was made of an element is that of the element
+pub text_of : {X : Type 0} (f : X → List ℕ) (xs : List X) (i : ℕ) → unwrap_or (slice_get (map f xs) i) [] ≡ option_map_or f (slice_get xs i) []
+text_of {X} f xs i = ap (λ (o : Option (List ℕ)). unwrap_or o []) (slice_get-map f xs i) ∙ at (slice_get xs i)
+  where
+    at : (o : Option X) → unwrap_or (option_map f o) [] ≡ option_map_or f o []
+    at None = refl
+    at (Some x) = refl
 
 pub length-mapped : {X Y : Type 0} (f : X → Y) (xs : List X) → length (map f xs) ≡ length xs
 length-mapped f [] = refl

@@ -34,12 +34,12 @@ any_among p (x ∷ xs) e = by_cases (p x)
     (λ f. let rest : list_any p xs ≡ true = sym (ap (λ (b : Bool). b || list_any p xs) f) ∙ e in let r = any_among p xs rest in (r.0, inr r.1, r.2))
 
 -- a sum over a list
-abbrev total : (ℕ → ℕ) → List ℕ → ℕ
+abbrev pub total : (ℕ → ℕ) → List ℕ → ℕ
 total f [] = 0
 total f (n ∷ ns) = f n + total f ns
 
 -- each is at most the sum
-within_total : (f : ℕ → ℕ) (ns : List ℕ) (n : ℕ) → Among ns n → f n ≤ total f ns
+pub within_total : (f : ℕ → ℕ) (ns : List ℕ) (n : ℕ) → Among ns n → f n ≤ total f ns
 within_total f [] n m = absurd m
 within_total f (k ∷ ns) n (inl e) = let same : f n ≡ f k = ap f e in omega (arith, same)
 within_total f (k ∷ ns) n (inr m) = let h = within_total f ns n m in omega (arith, h)
@@ -92,7 +92,7 @@ module _ (declared : Declared) (seen : Seen) (orphans : Bool) (cycle : HasNoCycl
   up_needs _ _ e = absurd (cc e)
 
   pub orderly_up : IsOrderly declared (planned up)
-  orderly_up = orderly up rank_up (record { needs = up_needs; starts = starts })
+  orderly_up = orderly up (is_needed_by up) rank_up (record { needs = λ kind other w v e. up_needs kind other e; starts = starts })
     where
       starts : (s : ℕ) (need : Need) → is_wanted up (StartSlot s) ≡ true → Among (slot_needs declared (Some (StartSlot s))) need
           → rank_up (StartSlot need.slot) < rank_up (StartSlot s)
@@ -120,7 +120,7 @@ module _ (declared : Declared) (seen : Seen) (orphans volumes : Bool) (cycle : H
   abbrev depth_at : ℕ → ℕ
   depth_at c = top - height_at c
 
-  abbrev rank_down : ActionKind → ℕ
+  abbrev pub rank_down : ActionKind → ℕ
   rank_down (MakeVolume v) = 0
   rank_down (MakeNetwork n) = 0
   rank_down (StopContainer c) = 2 * depth_at c
@@ -159,7 +159,7 @@ module _ (declared : Declared) (seen : Seen) (orphans volumes : Bool) (cycle : H
       let high = below_top d q.0 q.1 in
       omega (arith, at_c, at_d, h, high)
 
-  down_needs : (kind other : ActionKind) → is_needed_by down kind other ≡ true → rank_down other < rank_down kind
+  pub down_needs : (kind other : ActionKind) → is_needed_by down kind other ≡ true → rank_down other < rank_down kind
   down_needs (StopContainer c) (RemoveContainer d) e = let h = stops c d e in omega (arith, h)
   down_needs (RemoveContainer c) (StopContainer d) e = let same : c ≡ d = eqb-true c d e in let h = ap depth_at same in omega (arith, h)
   down_needs (CreateSlot s) (RemoveContainer c) e = let h = low c in omega (arith, h)
@@ -176,7 +176,7 @@ module _ (declared : Declared) (seen : Seen) (orphans volumes : Bool) (cycle : H
   down_needs _ _ e = absurd (cc e)
 
   pub orderly_down : IsOrderly declared (planned down)
-  orderly_down = orderly down rank_down (record { needs = down_needs; starts = λ s need wanted m. absurd (cc wanted) })
+  orderly_down = orderly down (is_needed_by down) rank_down (record { needs = λ kind other w v e. down_needs kind other e; starts = λ s need wanted m. absurd (cc wanted) })
 
 pub plans_are_orderly : PlansAreOrderly
 plans_are_orderly declared seen orphans volumes cycle = (orderly_up declared seen orphans cycle, orderly_down declared seen orphans volumes cycle)

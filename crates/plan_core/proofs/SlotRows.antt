@@ -1,9 +1,9 @@
--- A slot's container is found among those of its service.
+-- A slot's container is found among those with its text.
 use Rattle.std.proofs.Common.{◌≡◌, ℕ, suc, ◌+◌, ◌-◌, ◌<◌, ◌≤◌, Bool, true, false, cond, not, ◌&&◌, ◌||◌, List, [], ◌∷◌, ◌++◌, length, map, drop, get_or, Option, Some, None, Result, Ok, Err, IfOk, slice_get, bytes_eq, refl, sym, ap, ◌∙◌, subst, arith}
 use Rattle.std.proofs.lemmas.List.{drop_more}
 use Rattle.std.specs.List.{list_any}
 use Rattle.std.specs.Option.{option_and_then, option_map_or}
-use Rattle.std.specs.Prelude.{filter, if◌then◌else◌, is_some}
+use Rattle.std.specs.Prelude.{filter, if◌then◌else◌}
 use Rattle.std.proofs.lemmas.Slice.Eq.{bytes_eq-Decides}
 use Rattle.engine_types.specs.Labels.{service_label}
 use Rattle.engine_types.specs.declared.Declared.{Declared}
@@ -13,19 +13,20 @@ use Rattle.engine_types.specs.declared.Seen.{Seen}
 use Rattle.engine_types.specs.declared.Slot.{Slot}
 use Rattle.tree_base.specs.ByteOrder.{is_before, least_by}
 use Rattle.tree_base.specs.declared.place.Var.{Var}
-use Rattle.run_model.specs.EngineRules.{Among, label_in}
-use Rattle.run_model.specs.Labels.{has_declared_service, is_of_slot, names_service}
+use Rattle.run_model.specs.EngineRules.{Among, is_of_project, label_in}
+use Rattle.run_model.specs.Labels.{has_declared_service, is_of_slot, names_service, names_slot}
 use Rattle.run_model.specs.Numbers.{numbers_from}
-use Rattle.run_model.specs.Plans.{AreKeptPlaces, agrees_seen, has_container, is_kept, is_updated, kept_of}
+use Rattle.run_model.specs.Plans.{AreKeptPlaces, agrees_seen, depends_on, has_container, is_kept, kept_of}
 use Rattle.run_model.proofs.DistinctLists.{from_filter}
-use Rattle.run_model.proofs.KeptLaws.{agrees_names, from_least}
+use Rattle.run_model.proofs.KeptLaws.{from_least}
 use Rattle.run_model.proofs.PlanLaws.{both, some_from}
-use Rattle.plan_core.specs.Finding.{service_named}
+use Rattle.plan_core.specs.Finding.{container_text, service_named, slot_text}
 use Rattle.plan_core.specs.Index.{is_under, numbers_under, places_under, under_each}
-use Rattle.plan_core.specs.Keeping.{agrees_at, containers_under, id_in, is_slots_at, its_service, kept_under, services_under}
+use Rattle.plan_core.specs.Keeping.{agrees_at, containers_under, depends_by, depends_by_at, id_in, is_slots_at, kept_under, services_under}
 use Rattle.plan_core.specs.Rows.{id_at}
 use Rattle.plan_core.proofs.Kept.{any_same}
 use Rattle.plan_core.proofs.OrderlyPlans.{service_is}
+use Rattle.plan_core.proofs.SlotTexts.{agrees_slot, named_text, under_mapped}
 use Rattle.plan_core.proofs.Splits.{by_cases, filter-no, filter-yes}
 
 -- the places that stand under a text, in place of all, where only elements under it pass
@@ -139,7 +140,7 @@ module _ (declared : Declared) (seen : Seen) (slot : Slot) where
   rows = seen.containers
 
   abbrev found : List ℕ
-  found = numbers_under (containers_under seen) slot.service
+  found = numbers_under (containers_under seen) (slot_text slot)
 
   -- a container at a place
   same_row : (k : ℕ) (row other : Listed) → slice_get rows k ≡ Some row → slice_get rows (0 + k) ≡ Some other → other ≡ row
@@ -147,33 +148,35 @@ module _ (declared : Declared) (seen : Seen) (slot : Slot) where
       let there : 0 + k ≡ k = omega arith in
       let same : Some other ≡ Some row = sym f ∙ ap (slice_get rows) there ∙ e in cc same
 
-  agreeing : (k : ℕ) (row : Listed) → slice_get rows k ≡ Some row → agrees_at declared seen slot (0 + k) ≡ true → service_named row.labels ≡ slot.service
+  agreeing : (k : ℕ) (row : Listed) → slice_get rows k ≡ Some row → agrees_at declared seen slot (0 + k) ≡ true → container_text row ≡ slot_text slot
   agreeing k row e t =
       let other = some_from (agrees_seen declared seen slot) (slice_get rows (0 + k)) t in
       let same = same_row k row other.0 e other.1 in
-      service_is slot.service row.labels (agrees_names declared seen slot row (subst (λ (r : Listed). agrees_seen declared seen slot r ≡ true) same other.2))
+      named_text slot row.labels (agrees_slot declared seen slot row (subst (λ (r : Listed). agrees_seen declared seen slot r ≡ true) same other.2))
 
-  slots : (k : ℕ) (row : Listed) → slice_get rows k ≡ Some row → is_slots_at declared seen slot (0 + k) ≡ true → service_named row.labels ≡ slot.service
+  slots : (k : ℕ) (row : Listed) → slice_get rows k ≡ Some row → is_slots_at declared seen slot (0 + k) ≡ true → container_text row ≡ slot_text slot
   slots k row e t =
       let other = some_from (λ (r : Listed). is_of_slot declared.project slot r.labels) (slice_get rows (0 + k)) t in
       let same = same_row k row other.0 e other.1 in
-      let named = (both (names_service slot.service other.0.labels) _ (both _ _ other.2).1).0 in
-      service_is slot.service row.labels (subst (λ (r : Listed). names_service slot.service r.labels ≡ true) same named)
+      named_text slot row.labels (subst (λ (r : Listed). names_slot slot r.labels ≡ true) same (both (is_of_project declared.project other.0.labels) _ other.2).1)
 
   holds : (k : ℕ) → slice_get rows (0 + k) ≡ slice_get rows k
   holds k = let there : 0 + k ≡ k = omega arith in ap (slice_get rows) there
 
-  -- the container that a slot keeps is found under the slot's service
+  mapped : found ≡ numbers_under (places_under (λ (row : Listed). container_text row ∷ []) 0 rows) (slot_text slot)
+  mapped = ap (λ (entries : List (List ℕ × ℕ)). numbers_under entries (slot_text slot)) (under_mapped container_text 0 rows)
+
+  -- the container that a slot keeps is found under the slot's text
   pub kept_found : option_and_then (slice_get rows) (least_by (id_at rows) (filter (agrees_at declared seen slot) found)) ≡ kept_of declared seen slot
   kept_found =
       ap (λ (ns : List ℕ). option_and_then (slice_get rows) (least_by (id_at rows) ns))
-      (filtered (λ (row : Listed). service_named row.labels) slot.service (agrees_at declared seen slot) 0 rows agreeing)
+      (ap (filter (agrees_at declared seen slot)) mapped ∙ filtered container_text (slot_text slot) (agrees_at declared seen slot) 0 rows agreeing)
       ∙ least_rows (λ (row : Listed). row.id) (agrees_seen declared seen slot) (slice_get rows) 0 rows holds
 
   -- and so is each container of the slot
   pub container_found : list_any (is_slots_at declared seen slot) found ≡ has_container declared seen slot
   container_found =
-      any_under (λ (row : Listed). service_named row.labels) slot.service (is_slots_at declared seen slot) 0 rows slots
+      ap (list_any (is_slots_at declared seen slot)) mapped ∙ any_under container_text (slot_text slot) (is_slots_at declared seen slot) 0 rows slots
       ∙ any_rows (λ (row : Listed). row.id) (λ (row : Listed). is_of_slot declared.project slot row.labels) (slice_get rows) 0 rows holds
 
   -- and so the look-ups tell it
@@ -184,12 +187,30 @@ module _ (declared : Declared) (seen : Seen) (slot : Slot) where
       ap (option_and_then (slice_get rows)) (e ∙ ap (λ (ns : List ℕ). least_by (id_at rows) (filter (agrees_at declared seen slot) ns)) is) ∙ kept_found
   kept_by (Err x) places is e = tt
 
-  pub updated_by : {E : Type 0} (result : Result Bool E) (places : List ℕ) → places ≡ found → kept_of declared seen slot ≡ None
-      → IfOk result (λ has. has ≡ list_any (is_slots_at declared seen slot) places) → IfOk result (λ updated. updated ≡ is_updated declared seen slot)
-  updated_by (Ok has) places is none e =
-      e ∙ ap (list_any (is_slots_at declared seen slot)) is ∙ container_found
-      ∙ sym (ap (λ (o : Option Listed). not (is_some o) && has_container declared seen slot) none)
-  updated_by (Err x) places is none e = tt
+  pub has_by : {E : Type 0} (result : Result Bool E) (places : List ℕ) → places ≡ found
+      → IfOk result (λ has. has ≡ list_any (is_slots_at declared seen slot) places) → IfOk result (λ has. has ≡ has_container declared seen slot)
+  has_by (Ok has) places is e = e ∙ ap (list_any (is_slots_at declared seen slot)) is ∙ container_found
+  has_by (Err x) places is e = tt
+
+-- a container's service is found under its key
+module _ (declared : Declared) (row other : Listed) where
+  abbrev all : List DeclaredService
+  all = declared.services
+
+  keyed : (k : ℕ) (service : DeclaredService) → slice_get all k ≡ Some service → depends_by_at declared row other (0 + k) ≡ true → service.key ≡ service_named row.labels
+  keyed k service e t =
+      let there : 0 + k ≡ k = omega arith in
+      let found = some_from (depends_by row other) (slice_get all (0 + k)) t in
+      let same : Some found.0 ≡ Some service = sym found.1 ∙ ap (slice_get all) there ∙ e in
+      let is : found.0 ≡ service = cc same in
+      let named = (both (names_service found.0.key row.labels) _ found.2).0 in
+      sym (service_is service.key row.labels (subst (λ (s : DeclaredService). names_service s.key row.labels ≡ true) is named))
+
+  pub dependence_found : list_any (depends_by_at declared row other) (numbers_under (services_under declared) (service_named row.labels)) ≡ depends_on declared row other
+  dependence_found =
+      any_under (λ (service : DeclaredService). service.key) (service_named row.labels) (depends_by_at declared row other) 0 all keyed
+      ∙ any_rows (λ (service : DeclaredService). service.key) (depends_by row other) (slice_get all) 0 all
+      (λ k. let there : 0 + k ≡ k = omega arith in ap (slice_get all) there)
 
 -- a place more is looked at, from the last one on
 least_more : (key : ℕ → List ℕ) (xs : List ℕ) (x y : ℕ) → least_by key xs ≡ Some y → least_by key (x ∷ xs) ≡ (if is_before (key y) (key x) then Some y else Some x)

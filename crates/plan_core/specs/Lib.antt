@@ -1,5 +1,7 @@
 pub mod Rows
+pub mod Table
 pub mod Order
 pub mod Index
 pub mod Finding
 pub mod Keeping
+pub mod Planning

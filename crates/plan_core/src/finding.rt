@@ -4,7 +4,7 @@ ghost use Rattle.std.specs.Prelude.{◌≡◌, ◌++◌, ◌∷◌, ◌==◌, �
 ghost use Rattle.std.specs.List.{before_first};
 ghost use Rattle.std.specs.Option.{option_map_or};
 ghost use Rattle.engine_types.specs.declared.ActionKind.TheVariants.{StopContainer};
-ghost use Rattle.plan_core.specs.Finding.{actions_under, asked_by_slot, asked_of, bind_sources, dependents_of, joined_name, name_seen, needed_names, network_name_at, service_key_at, service_named, service_seen, slot_name_at, texts_of, volume_name_at};
+ghost use Rattle.plan_core.specs.Finding.{actions_under, asked_by_slot, asked_of, bind_sources, dependents_of, joined_name, name_seen, needed_names, network_name_at, service_key_at, service_seen, slot_name_at, texts_of, volume_name_at};
 ghost use Rattle.plan_core.specs.Keeping.{services_under};
 ghost use Rattle.plan_core.specs.Index.{seen_entries, seen_texts, under_each};
 ghost use Rattle.run_model.specs.Plans.{network_name, slot_at};
@@ -12,8 +12,9 @@ ghost use Rattle.run_model.specs.Plans.{network_name, slot_at};
 use crate::kinds::id_at;
 use crate::needed::source_of;
 use crate::planner::Planner;
+use crate::slot_texts::service_named;
 use crate::text_index::TextIndex;
-use engine_types::{ActionKind, Attach, Declared, Need, Pairs, Seen, Slot, label, labels};
+use engine_types::{ActionKind, Attach, Declared, Need, Seen, Slot};
 use std::alloc::Global;
 use tree_base::{Memory, Text, item_at};
 
@@ -71,6 +72,7 @@ impl<'a> Planner<'a> {
             }
             ActionKind::RemoveContainer { container } => {
                 entries.push((service_seen(self.seen, container), at))?;
+                entries.push((self.slot_seen(container), at))?;
                 entries.push((name_seen(self.seen, container), at))?;
             }
             ActionKind::CreateSlot { slot }
@@ -104,7 +106,7 @@ impl<'a> Planner<'a> {
             ActionKind::RemoveContainer { container } => {
                 texts.push(id_at(self.seen.containers.as_slice(), container))?;
             }
-            ActionKind::CreateSlot { slot } => push_asked_by_slot(texts, self.declared, slot)?,
+            ActionKind::CreateSlot { slot } => self.push_asked_by_slot(texts, slot)?,
             ActionKind::ConnectSlot { slot, attach } => {
                 texts.push(slot_name_at(self.declared, slot))?;
                 texts.push(joined_name(self.declared, slot, attach))?;
@@ -129,6 +131,20 @@ impl<'a> Planner<'a> {
         }
         let services = self.dependents.find(service_seen(self.seen, container));
         push_services(texts, self.declared, services)
+    }
+
+    /// Puts the texts last under which the create of a slot's container finds what it needs.
+    fn push_asked_by_slot(&self, texts: &mut Vec<&'a str>, slot: u32) -> Result<(), Memory>
+        ensures { OnOk result (seen_texts texts.new.items ≡ seen_texts texts.old.items
+            ++ option_map_or (asked_by_slot self.now.declared) (slot_at self.now.declared slot) []) }
+    {
+        let Some(row) = self.declared.slots.get(slot as usize) else {
+            return Ok(());
+        };
+        texts.push(self.slot_text(slot))?;
+        texts.push(row.name.as_str())?;
+        push_network_names(texts, self.declared, row.attach.as_slice())?;
+        push_bind_sources(texts, row)
     }
 }
 
@@ -245,24 +261,6 @@ fn push_needed<'a>(
     Ok(())
 }
 
-/// Puts the texts last under which the create of a slot's container finds what it needs.
-fn push_asked_by_slot<'a>(
-    texts: &mut Vec<&'a str>,
-    declared: &'a Declared,
-    slot: u32,
-) -> Result<(), Memory>
-    ensures { OnOk result (seen_texts texts.new.items ≡ seen_texts texts.old.items
-        ++ option_map_or (asked_by_slot declared.now) (slot_at declared.now slot) []) }
-{
-    let Some(slot) = declared.slots.get(slot as usize) else {
-        return Ok(());
-    };
-    texts.push(slot.service.as_str())?;
-    texts.push(slot.name.as_str())?;
-    push_network_names(texts, declared, slot.attach.as_slice())?;
-    push_bind_sources(texts, slot)
-}
-
 /// Puts the names of the networks last that are joined.
 fn push_network_names<'a>(
     texts: &mut Vec<&'a str>,
@@ -308,16 +306,6 @@ fn joined_name(declared: &Declared, slot: u32, attach: u32) -> &str
     };
     match slot.attach.get(attach as usize) {
         Some(attach) => network_name_at(declared, attach.network),
-        None => "",
-    }
-}
-
-/// The service that labels name, and the empty text where they name none. No memory.
-pub(crate) fn service_named(pairs: &Pairs) -> &str
-    ensures { result.now ≡ service_named pairs.now }
-{
-    match label(pairs, labels::SERVICE) {
-        Some(service) => service.as_str(),
         None => "",
     }
 }

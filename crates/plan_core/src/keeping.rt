@@ -1,45 +1,44 @@
-//! Which containers the slots keep, and which slots are updated. Each slot is compared with the containers of its own
-//! service alone.
+//! Which containers the slots keep, and which slots are updated. Each slot is compared with its own containers alone.
 
-ghost use Rattle.std.specs.Prelude.{◌≡◌, ◌++◌, [], filter, if◌then◌else◌, map, option_and_then, slice_get, IfOk, OnOk};
+ghost use Rattle.std.specs.Prelude.{◌≡◌, ◌++◌, ◌∷◌, [], filter, if◌then◌else◌, map, option_and_then, slice_get, IfOk, OnOk};
 ghost use Rattle.std.specs.List.{list_any};
 ghost use Rattle.std.specs.Option.{option_copied, option_map_or};
 ghost use Rattle.tree_base.specs.ByteOrder.{is_before, least_by};
 ghost use Rattle.plan_core.specs.Index.{seen_entries, under_each};
-ghost use Rattle.plan_core.specs.Keeping.{agrees_at, containers_under, id_in, is_slots_at, its_service, kept_under};
+ghost use Rattle.plan_core.specs.Keeping.{agrees_at, containers_under, id_in, is_slots_at, kept_under, texts_under};
 ghost use Rattle.plan_core.specs.Rows.{id_at};
-ghost use Rattle.run_model.specs.Plans.{AreKeptPlaces, is_updated, kept_of};
+ghost use Rattle.run_model.specs.Plans.{AreKeptPlaces, has_container, is_updated, kept_of};
 
-use crate::finding::service_named;
 use crate::kinds::id_at;
+use crate::slot_texts::slot_text;
 use crate::text_index::TextIndex;
 use engine_types::{Declared, Listed, Seen, Slot};
 use run_lookups::{agrees_seen, is_of_slot};
 use std::alloc::Global;
-use tree_base::{Memory, item_at};
+use tree_base::{Memory, Text, item_at};
 
-/// The places of the containers that were seen, under the services that their labels name.
-pub(crate) fn containers_under<'a>(alloc: Global, seen: &'a Seen) -> Result<TextIndex<'a>, Memory>
-    ensures { IfOk result (λ index. index ≡ containers_under seen.now) }
+/// The places of texts under these: where they are the texts of the containers that were seen, the places of these.
+pub(crate) fn texts_under<'a>(alloc: Global, texts: &'a [Text]) -> Result<TextIndex<'a>, Memory>
+    ensures { IfOk result (λ index. index ≡ texts_under texts.now) }
 {
     let mut entries = Vec::new(alloc);
-    for at in 0..seen.containers.len() {
-        push_container(&mut entries, seen, at)?;
+    for at in 0..texts.len() {
+        push_text(&mut entries, texts, at)?;
     }
     TextIndex::new(alloc, entries)
 }
 
-/// Puts the place of a container last, under the service that its labels name.
-fn push_container<'a>(
+/// Puts a place last, under the text that stands there.
+fn push_text<'a>(
     entries: &mut Vec<(&'a str, u64)>,
-    seen: &'a Seen,
+    texts: &'a [Text],
     at: usize,
 ) -> Result<(), Memory>
     ensures { OnOk result (seen_entries entries.new.items ≡ seen_entries entries.old.items
-        ++ under_each (option_map_or its_service (slice_get seen.now.containers at) []) at) }
+        ++ under_each (option_map_or (λ text. text ∷ []) (slice_get texts.now at) []) at) }
 {
-    if let Some(row) = seen.containers.get(at) {
-        entries.push((service_named(&row.labels), at as u64))?;
+    if let Some(text) = item_at(texts, at) {
+        entries.push((text.as_str(), at as u64))?;
     }
     Ok(())
 }
@@ -72,13 +71,8 @@ fn kept_place(
     requires { rows.now ≡ containers_under seen.now }
     ensures { IfOk result (λ place. option_and_then (slice_get seen.now.containers) place ≡ kept_of declared.now seen.now slot.now) }
 {
-    kept_among(
-        alloc,
-        declared,
-        seen,
-        slot,
-        rows.find(slot.service.as_str()),
-    )
+    let text = slot_text(alloc, slot)?;
+    kept_among(alloc, declared, seen, slot, rows.find(text.as_str()))
 }
 
 /// Of some places of containers that of the one which agrees with a slot and has the least id.
@@ -203,18 +197,27 @@ fn is_updated(
     let kept = kept_place(alloc, declared, seen, rows, slot)?;
     match row_at(seen, kept) {
         Some(_) => Ok(false),
-        None => has_container(
-            alloc,
-            declared,
-            seen,
-            slot,
-            rows.find(slot.service.as_str()),
-        ),
+        None => has_container(alloc, declared, seen, rows, slot),
     }
 }
 
-/// Whether one of the containers at some places is a slot's.
+/// Whether a container of a slot was seen.
 fn has_container(
+    alloc: Global,
+    declared: &Declared,
+    seen: &Seen,
+    rows: &TextIndex<'_>,
+    slot: &Slot,
+) -> Result<bool, Memory>
+    requires { rows.now ≡ containers_under seen.now }
+    ensures { IfOk result (λ has. has ≡ has_container declared.now seen.now slot.now) }
+{
+    let text = slot_text(alloc, slot)?;
+    any_is_slots(alloc, declared, seen, slot, rows.find(text.as_str()))
+}
+
+/// Whether one of the containers at some places is a slot's.
+fn any_is_slots(
     alloc: Global,
     declared: &Declared,
     seen: &Seen,

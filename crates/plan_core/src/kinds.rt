@@ -1,10 +1,10 @@
 //! The actions of a plan, in the order of their numbers.
 
-ghost use Rattle.std.specs.Prelude.{◌≡◌, ◌++◌, ◌∷◌, [], IfOk, OnOk, filter, flat_map, length, map};
+ghost use Rattle.std.specs.Prelude.{◌≡◌, ◌++◌, ◌∷◌, [], IfOk, OnOk, filter, flat_map, length};
 ghost use Rattle.std.specs.Cmp.Lexicographic.{slice_cmp};
 ghost use Rattle.std.specs.Ordering.{nat_cmp};
-ghost use Rattle.engine_types.specs.declared.ActionKind.TheVariants.{MakeVolume, MakeNetwork, StopContainer, RemoveContainer, CreateSlot, ConnectSlot, StopKept, StartSlot, RemoveNetwork, RemoveVolume};
 ghost use Rattle.plan_core.specs.Rows.{attaches_of, connects_of, ends_of, id_at};
+ghost use Rattle.plan_core.specs.Table.{action_of, count_of, row_actions};
 ghost use Rattle.run_model.specs.Plans.{is_wanted, places_by_id, planned_kinds};
 ghost use Rattle.run_model.specs.Numbers.{numbers_from, places};
 
@@ -14,21 +14,48 @@ use std::alloc::Global;
 use std::cmp::Ordering;
 use tree_base::{List, Memory, item_at};
 
+/// A row of the table of actions that could have one for each volume, network or slot.
+#[derive(Clone, Copy)]
+enum Row {
+    NewVolumes,
+    NewNetworks,
+    Creates,
+    Restarts,
+    Starts,
+    OldNetworks,
+    OldVolumes,
+}
+
+/// The action of a row for the volume, network or slot with a number. No memory.
+fn action_of(row: Row, number: u32) -> ActionKind
+    ensures { result ≡ action_of row number }
+{
+    match row {
+        Row::NewVolumes => ActionKind::MakeVolume { volume: number },
+        Row::NewNetworks => ActionKind::MakeNetwork { network: number },
+        Row::Creates => ActionKind::CreateSlot { slot: number },
+        Row::Restarts => ActionKind::StopKept { slot: number },
+        Row::Starts => ActionKind::StartSlot { slot: number },
+        Row::OldNetworks => ActionKind::RemoveNetwork { network: number },
+        Row::OldVolumes => ActionKind::RemoveVolume { volume: number },
+    }
+}
+
 impl Planner<'_> {
     /// The actions of the plan.
     pub(crate) fn planned_kinds(&self, alloc: Global) -> Result<List<ActionKind>, Memory>
         ensures { IfOk result (λ kinds. kinds ≡ planned_kinds self.now) }
     {
         let mut kinds = List::new(alloc);
-        self.push_new_volumes(&mut kinds)?;
-        self.push_new_networks(&mut kinds)?;
+        self.push_row(&mut kinds, Row::NewVolumes)?;
+        self.push_row(&mut kinds, Row::NewNetworks)?;
         self.push_ends_by_id(alloc, &mut kinds)?;
-        self.push_creates(&mut kinds)?;
+        self.push_row(&mut kinds, Row::Creates)?;
         self.push_connects(&mut kinds)?;
-        self.push_restarts(&mut kinds)?;
-        self.push_starts(&mut kinds)?;
-        self.push_old_networks(&mut kinds)?;
-        self.push_old_volumes(&mut kinds)?;
+        self.push_row(&mut kinds, Row::Restarts)?;
+        self.push_row(&mut kinds, Row::Starts)?;
+        self.push_row(&mut kinds, Row::OldNetworks)?;
+        self.push_row(&mut kinds, Row::OldVolumes)?;
         Ok(kinds)
     }
 
@@ -42,26 +69,26 @@ impl Planner<'_> {
         Ok(())
     }
 
-    fn push_new_volumes(&self, kinds: &mut List<ActionKind>) -> Result<(), Memory>
-        ensures { OnOk result (kinds.new ≡ kinds.old
-            ++ filter (is_wanted self.now) (map (λ v. MakeVolume v) (places self.now.declared.volumes))) }
+    /// Puts the actions of a row last that the plan has.
+    fn push_row(&self, kinds: &mut List<ActionKind>, row: Row) -> Result<(), Memory>
+        ensures { OnOk result (kinds.new ≡ kinds.old ++ filter (is_wanted self.now) (row_actions self.now row)) }
     {
-        for at in 0..self.declared.volumes.len() {
-            let volume = number_of(at)?;
-            self.push_wanted(kinds, ActionKind::MakeVolume { volume })?;
+        for at in 0..self.count(row) {
+            let number = number_of(at)?;
+            self.push_wanted(kinds, action_of(row, number))?;
         }
         Ok(())
     }
 
-    fn push_new_networks(&self, kinds: &mut List<ActionKind>) -> Result<(), Memory>
-        ensures { OnOk result (kinds.new ≡ kinds.old
-            ++ filter (is_wanted self.now) (map (λ n. MakeNetwork n) (places self.now.declared.networks))) }
+    /// How many actions a row could have. No memory.
+    fn count(&self, row: Row) -> usize
+        ensures { result ≡ count_of self.now row }
     {
-        for at in 0..self.declared.networks.len() {
-            let network = number_of(at)?;
-            self.push_wanted(kinds, ActionKind::MakeNetwork { network })?;
+        match row {
+            Row::NewVolumes | Row::OldVolumes => self.declared.volumes.len(),
+            Row::NewNetworks | Row::OldNetworks => self.declared.networks.len(),
+            Row::Creates | Row::Restarts | Row::Starts => self.declared.slots.len(),
         }
-        Ok(())
     }
 
     /// The stop and the removal of each container that goes, in byte order of the ids.
@@ -91,17 +118,6 @@ impl Planner<'_> {
     {
         self.push_wanted(kinds, ActionKind::StopContainer { container })?;
         self.push_wanted(kinds, ActionKind::RemoveContainer { container })?;
-        Ok(())
-    }
-
-    fn push_creates(&self, kinds: &mut List<ActionKind>) -> Result<(), Memory>
-        ensures { OnOk result (kinds.new ≡ kinds.old
-            ++ filter (is_wanted self.now) (map (λ s. CreateSlot s) (places self.now.declared.slots))) }
-    {
-        for at in 0..self.declared.slots.len() {
-            let slot = number_of(at)?;
-            self.push_wanted(kinds, ActionKind::CreateSlot { slot })?;
-        }
         Ok(())
     }
 
@@ -136,50 +152,6 @@ impl Planner<'_> {
             None => 0,
         }
     }
-
-    fn push_restarts(&self, kinds: &mut List<ActionKind>) -> Result<(), Memory>
-        ensures { OnOk result (kinds.new ≡ kinds.old
-            ++ filter (is_wanted self.now) (map (λ s. StopKept s) (places self.now.declared.slots))) }
-    {
-        for at in 0..self.declared.slots.len() {
-            let slot = number_of(at)?;
-            self.push_wanted(kinds, ActionKind::StopKept { slot })?;
-        }
-        Ok(())
-    }
-
-    fn push_starts(&self, kinds: &mut List<ActionKind>) -> Result<(), Memory>
-        ensures { OnOk result (kinds.new ≡ kinds.old
-            ++ filter (is_wanted self.now) (map (λ s. StartSlot s) (places self.now.declared.slots))) }
-    {
-        for at in 0..self.declared.slots.len() {
-            let slot = number_of(at)?;
-            self.push_wanted(kinds, ActionKind::StartSlot { slot })?;
-        }
-        Ok(())
-    }
-
-    fn push_old_networks(&self, kinds: &mut List<ActionKind>) -> Result<(), Memory>
-        ensures { OnOk result (kinds.new ≡ kinds.old
-            ++ filter (is_wanted self.now) (map (λ n. RemoveNetwork n) (places self.now.declared.networks))) }
-    {
-        for at in 0..self.declared.networks.len() {
-            let network = number_of(at)?;
-            self.push_wanted(kinds, ActionKind::RemoveNetwork { network })?;
-        }
-        Ok(())
-    }
-
-    fn push_old_volumes(&self, kinds: &mut List<ActionKind>) -> Result<(), Memory>
-        ensures { OnOk result (kinds.new ≡ kinds.old
-            ++ filter (is_wanted self.now) (map (λ v. RemoveVolume v) (places self.now.declared.volumes))) }
-    {
-        for at in 0..self.declared.volumes.len() {
-            let volume = number_of(at)?;
-            self.push_wanted(kinds, ActionKind::RemoveVolume { volume })?;
-        }
-        Ok(())
-    }
 }
 
 /// A place as a number of 32 bits. No memory holds a list with a place past them.
@@ -199,7 +171,7 @@ fn places_by_id(alloc: Global, rows: &[Listed]) -> Result<Vec<u64>, Memory>
 }
 
 /// The places of a list with so many items.
-pub(crate) fn all_places(alloc: Global, count: usize) -> Result<Vec<u64>, Memory>
+fn all_places(alloc: Global, count: usize) -> Result<Vec<u64>, Memory>
     ensures { IfOk result (λ all. all.items ≡ numbers_from 0 count) }
 {
     let mut all = Vec::new(alloc);

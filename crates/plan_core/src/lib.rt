@@ -13,6 +13,7 @@ mod needed;
 mod planner;
 mod plans;
 mod refusal;
+mod slot_texts;
 mod text_index;
 mod wanted;
 

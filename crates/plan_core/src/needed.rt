@@ -1,56 +1,77 @@
 //! Which actions an action needs to have ended well.
 
-ghost use Rattle.std.specs.Prelude.{◌≡◌, ◌==◌, ◌&&◌, ◌++◌, ◌∷◌, ℕ, [], false, filter, slice_get, if◌then◌else◌, IfOk, OnOk};
+ghost use Rattle.std.specs.Prelude.{◌≡◌, ◌==◌, ◌&&◌, ◌++◌, ◌∷◌, ℕ, [], false, true, filter, slice_get, if◌then◌else◌, IfOk, OnOk};
 ghost use Rattle.std.specs.List.{before_first, list_any};
 ghost use Rattle.std.specs.Option.{option_map_or};
 ghost use Rattle.engine_types.specs.declared.ActionKind.TheVariants.{StopContainer, CreateSlot, ConnectSlot, StopKept, StartSlot};
-ghost use Rattle.plan_core.specs.Finding.{actions_under, is_needed_at, needs_removals};
+ghost use Rattle.plan_core.specs.Finding.{actions_under, is_needed_at, is_removal_at, needs_removals, removals_in};
+ghost use Rattle.plan_core.specs.Keeping.{depends_by, depends_by_at};
 ghost use Rattle.run_model.specs.Labels.{names_service};
 ghost use Rattle.run_model.specs.Plans.{Basis, asks_restart, attaches_to, depends_on, is_bound_by, is_in_way, is_needed_by, needed_by, slot_at};
 
-use crate::kinds::{all_places, number_of};
+use crate::kinds::number_of;
 use crate::planner::Planner;
+use crate::slot_texts::service_named;
 use crate::text_index::{TextIndex, places_found};
-use engine_types::{ActionKind, ContainerSpec, Declared, Listed, Need, Pairs, Slot};
+use engine_types::{
+    ActionKind, ContainerSpec, Declared, DeclaredService, Listed, Need, Pairs, Slot,
+};
 use run_lookups::{names_service, names_slot};
 use std::alloc::Global;
 use tree_base::{List, Memory, Text, item_at};
 
 impl Planner<'_> {
-    /// The numbers of the actions that an action needs, of actions that are numbered by their places.
+    /// The numbers of the actions that an action needs, of actions that are numbered by their places. `removals` are those of
+    /// all removals, which are listed once for all that need them.
     pub(crate) fn needed_by(
+        &self,
+        alloc: Global,
+        kinds: &[ActionKind],
+        index: &TextIndex<'_>,
+        removals: &[u32],
+        kind: ActionKind,
+    ) -> Result<List<u32>, Memory>
+        requires indexed { index.now ≡ actions_under self.now kinds.now }
+        requires listed { removals.now ≡ removals_in kinds.now }
+        ensures { IfOk result (λ needs. needs ≡ needed_by self.now kinds.now kind) }
+    {
+        if needs_removals(kind) {
+            self.needed_always(alloc, kinds, removals, kind)
+        } else {
+            self.needed_where_asked(alloc, kinds, index, kind)
+        }
+    }
+
+    /// The numbers of all removals.
+    fn needed_always(
+        &self,
+        alloc: Global,
+        kinds: &[ActionKind],
+        removals: &[u32],
+        kind: ActionKind,
+    ) -> Result<List<u32>, Memory>
+        requires listed { removals.now ≡ removals_in kinds.now }
+        requires all { needs_removals kind ≡ true }
+        ensures { IfOk result (λ needs. needs ≡ needed_by self.now kinds.now kind) }
+    {
+        copied(alloc, removals)
+    }
+
+    /// The numbers of the actions that an action needs, of those that are found under the texts that it asks for.
+    fn needed_where_asked(
         &self,
         alloc: Global,
         kinds: &[ActionKind],
         index: &TextIndex<'_>,
         kind: ActionKind,
     ) -> Result<List<u32>, Memory>
-        requires { index.now ≡ actions_under self.now kinds.now }
+        requires indexed { index.now ≡ actions_under self.now kinds.now }
+        requires few { needs_removals kind ≡ false }
         ensures { IfOk result (λ needs. needs ≡ needed_by self.now kinds.now kind) }
     {
-        let places = self.places_asked(alloc, kinds, index, kind)?;
-        self.needed_among(alloc, kinds, places.as_slice(), kind)
-    }
-
-    /// Places, in order, that hold those of all actions that an action needs.
-    fn places_asked(
-        &self,
-        alloc: Global,
-        kinds: &[ActionKind],
-        index: &TextIndex<'_>,
-        kind: ActionKind,
-    ) -> Result<Vec<u64>, Memory>
-        requires { index.now ≡ actions_under self.now kinds.now }
-        ensures { IfOk result (λ places. filter (is_needed_at self.now kinds.now kind) places.items
-            ≡ needed_by self.now kinds.now kind) }
-    {
-        if needs_removals(kind) {
-            let places = all_places(alloc, kinds.len())?;
-            return Ok(places);
-        }
         let texts = self.asked_of(alloc, kind)?;
-        let found = places_found(alloc, index, texts.as_slice())?;
-        Ok(found)
+        let places = places_found(alloc, index, texts.as_slice())?;
+        self.needed_among(alloc, kinds, places.as_slice(), kind)
     }
 
     /// Those of some places whose actions an action needs.
@@ -127,7 +148,15 @@ impl Planner<'_> {
         let Some(dependent) = self.seen.containers.get(removed as usize) else {
             return false;
         };
-        !self.is_up() && depends_on(self.declared, dependent, row)
+        !self.is_up() && self.depends_on(dependent, row)
+    }
+
+    /// Whether a container's service depends on another container's. No memory.
+    fn depends_on(&self, row: &Listed, other: &Listed) -> bool
+        ensures { result ≡ depends_on self.now.declared row.now other.now }
+    {
+        let services = self.services.find(service_named(&row.labels));
+        any_depends(self.declared, row, other, services)
     }
 
     /// The create of a slot's container needs the removals of the containers that are in its way, and the networks
@@ -210,6 +239,37 @@ fn needs_removals(kind: ActionKind) -> bool
     )
 }
 
+/// The places of the actions that are removals.
+pub(crate) fn removals_in(alloc: Global, kinds: &[ActionKind]) -> Result<List<u32>, Memory>
+    ensures { IfOk result (λ removals. removals ≡ removals_in kinds.now) }
+{
+    let mut removals = List::new(alloc);
+    for at in 0..kinds.len() {
+        let is_removal = is_removal_at(kinds, at);
+        push_if(&mut removals, at, is_removal)?;
+    }
+    Ok(removals)
+}
+
+/// Whether the action at a place is the removal of a container. No memory.
+fn is_removal_at(kinds: &[ActionKind], at: usize) -> bool
+    ensures { result ≡ is_removal_at kinds.now at }
+{
+    match item_at(kinds, at) {
+        Some(kind) => matches!(kind, ActionKind::RemoveContainer { .. }),
+        None => false,
+    }
+}
+
+/// A list of these numbers.
+fn copied(alloc: Global, numbers: &[u32]) -> Result<List<u32>, Memory>
+    ensures { IfOk result (λ list. list ≡ numbers.now) }
+{
+    let mut list = List::new(alloc);
+    list.extend_from_slice(numbers)?;
+    Ok(list)
+}
+
 /// Puts a place last where it is asked for.
 fn push_if(numbers: &mut List<u32>, at: usize, is_asked: bool) -> Result<(), Memory>
     ensures { OnOk result (numbers.new ≡ numbers.old ++ (if is_asked then at ∷ [] else [])) }
@@ -265,14 +325,29 @@ fn attaches_to(slot: &Slot, network: u32) -> bool
         .any(|attach| attach.network == network)
 }
 
-/// Whether a container's service depends on another container's.
-fn depends_on(declared: &Declared, row: &Listed, other: &Listed) -> bool
-    ensures { result ≡ depends_on declared.now row.now other.now }
+/// Whether one of these services is a container's, and depends on another container's. No memory.
+fn any_depends(declared: &Declared, row: &Listed, other: &Listed, services: &[u64]) -> bool
+    ensures { result ≡ list_any (depends_by_at declared.now row.now other.now) services.now }
 {
-    declared.services.as_slice().iter().any(|service| {
-        names_service(&service.key, &row.labels)
-            && names_one(service.depends_on.as_slice(), &other.labels)
-    })
+    services
+        .iter()
+        .any(|service| depends_by_at(declared, row, other, *service))
+}
+
+fn depends_by_at(declared: &Declared, row: &Listed, other: &Listed, service: u64) -> bool
+    ensures { result ≡ depends_by_at declared.now row.now other.now service }
+{
+    match declared.services.get(service as usize) {
+        Some(service) => depends_by(service, row, other),
+        None => false,
+    }
+}
+
+fn depends_by(service: &DeclaredService, row: &Listed, other: &Listed) -> bool
+    ensures { result ≡ depends_by row.now other.now service.now }
+{
+    names_service(&service.key, &row.labels)
+        && names_one(service.depends_on.as_slice(), &other.labels)
 }
 
 /// Whether labels name one of these services.

@@ -1,9 +1,11 @@
-ghost use Rattle.std.specs.Prelude.{◌≡◌, IfOk, slice_get};
+ghost use Rattle.std.specs.Prelude.{◌≡◌, IfOk, map, slice_get};
 ghost use Rattle.std.specs.Option.{option_and_then, option_copied};
+ghost use Rattle.plan_core.specs.Finding.{container_text, slot_seen, slot_text, slot_text_at};
 ghost use Rattle.run_model.specs.Plans.{AreKeptPlaces, kept};
 
 use crate::finding::{dependents_of, services_under};
-use crate::keeping::{all_kept, all_updated, containers_under, kept_under, row_at};
+use crate::keeping::{all_kept, all_updated, kept_under, row_at, texts_under};
+use crate::slot_texts::{SlotTexts, text_at};
 use crate::text_index::TextIndex;
 use engine_types::{Declared, Listed, Purpose, Seen};
 use std::alloc::Global;
@@ -29,11 +31,13 @@ pub(crate) struct Planner<'a> {
     pub(crate) services: TextIndex<'a>,
     /// The numbers of the services, under the keys of those that they depend on.
     pub(crate) dependents: TextIndex<'a>,
+    /// The texts under which the containers of slots are found.
+    pub(crate) texts: &'a SlotTexts,
 }
 
 impl<'a> Model for Planner<'a> {
     ghost use Rattle.std.specs.Prelude.{◌≡◌, map};
-    ghost use Rattle.plan_core.specs.Finding.{dependents_of};
+    ghost use Rattle.plan_core.specs.Finding.{container_text, dependents_of, slot_text};
     ghost use Rattle.plan_core.specs.Keeping.{kept_under, services_under};
     ghost use Rattle.run_model.specs.Plans.{AreKeptPlaces, Basis, is_updated};
 
@@ -50,7 +54,9 @@ impl<'a> Model for Planner<'a> {
         × (p.kept_ids ≡ kept_under p.seen.now p.kept.items)
         × (p.updated.items ≡ map (is_updated p.declared.now p.seen.now) p.declared.now.slots)
         × (p.services ≡ services_under p.declared.now)
-        × (p.dependents ≡ dependents_of p.declared.now) };
+        × (p.dependents ≡ dependents_of p.declared.now)
+        × (p.texts.now.slots ≡ map slot_text p.declared.now.slots)
+        × (p.texts.now.containers ≡ map container_text p.seen.now.containers) };
 }
 
 impl<'a> Planner<'a> {
@@ -59,17 +65,20 @@ impl<'a> Planner<'a> {
         alloc: Global,
         declared: &'a Declared,
         seen: &'a Seen,
+        texts: &'a SlotTexts,
         purpose: Purpose,
         orphans: bool,
         volumes: bool,
     ) -> Result<Planner<'a>, Memory>
+        requires slots { texts.now.slots ≡ map slot_text declared.now.slots }
+        requires containers { texts.now.containers ≡ map container_text seen.now.containers }
         ensures { IfOk result (λ planner. planner ≡ record {
           declared = declared.now;
           seen = seen.now;
           aim = record { purpose = purpose; orphans = orphans; volumes = volumes };
         }) }
     {
-        let rows = containers_under(alloc, seen)?;
+        let rows = texts_under(alloc, texts.containers.as_slice())?;
         let kept = all_kept(alloc, declared, seen, &rows)?;
         let updated = all_updated(alloc, declared, seen, &rows)?;
         let kept_ids = kept_under(alloc, seen, kept.as_slice())?;
@@ -86,6 +95,7 @@ impl<'a> Planner<'a> {
             updated,
             services,
             dependents,
+            texts,
         })
     }
 
@@ -94,6 +104,20 @@ impl<'a> Planner<'a> {
         ensures { option_copied result ≡ kept self.now.declared self.now.seen slot }
     {
         kept_at(self.seen, self.kept.as_slice(), slot)
+    }
+
+    /// The text of the slot with a number, and the empty text past the last. No memory.
+    pub(crate) fn slot_text(&self, slot: u32) -> &'a str
+        ensures { result.now ≡ slot_text_at self.now.declared slot }
+    {
+        text_at(self.texts.slots.as_slice(), slot as usize)
+    }
+
+    /// The text of the slot that the labels of the container at a place name, and the empty text past the last. No memory.
+    pub(crate) fn slot_seen(&self, container: u64) -> &'a str
+        ensures { result.now ≡ slot_seen self.now.seen container }
+    {
+        text_at(self.texts.containers.as_slice(), container as usize)
     }
 
     /// The places of the containers that the slots keep.

@@ -1,9 +1,12 @@
 ghost use Rattle.std.specs.Prelude.{◌≡◌, ℕ, IfOk, Err, map, false, true};
 ghost use Rattle.engine_types.specs.declared.Action.{Action};
+ghost use Rattle.plan_core.specs.Planning.{basis_of};
 ghost use Rattle.run_model.specs.Plans.{AreKeptPlaces, action_count, down_basis, is_too_long, needed_by, planned, up_basis};
 
+use crate::needed::removals_in;
 use crate::planner::Planner;
 use crate::refusal::PlanRefusal;
+use crate::slot_texts::SlotTexts;
 use engine_types::{Action, ActionKind, Declared, Plan, Purpose, Seen};
 use std::alloc::Global;
 use tree_base::{List, Memory};
@@ -28,8 +31,7 @@ pub fn plan_up(
         → (is_too_long (up_basis declared.now seen.now orphans) ≡ true)
         × (count ≡ action_count (up_basis declared.now seen.now orphans)) }
 {
-    let planner = Planner::new(alloc, declared, seen, Purpose::Up, orphans, false)?;
-    planner.plan(alloc)
+    plan_for(alloc, declared, seen, Purpose::Up, orphans, false)
 }
 
 /// The plan that takes a project down: the containers of its services are stopped and removed, dependents
@@ -49,7 +51,27 @@ pub fn plan_down(
         → (is_too_long (down_basis declared.now seen.now orphans volumes) ≡ true)
         × (count ≡ action_count (down_basis declared.now seen.now orphans volumes)) }
 {
-    let planner = Planner::new(alloc, declared, seen, Purpose::Down, orphans, volumes)?;
+    plan_for(alloc, declared, seen, Purpose::Down, orphans, volumes)
+}
+
+/// The plan for a purpose.
+fn plan_for(
+    alloc: Global,
+    declared: &Declared,
+    seen: &Seen,
+    purpose: Purpose,
+    orphans: bool,
+    volumes: bool,
+) -> Result<Plan, PlanRefusal>
+    ensures planned { IfOk result (λ plan. plan.actions ≡ planned (basis_of declared.now seen.now purpose orphans volumes)) }
+    ensures kept { IfOk result (λ plan. AreKeptPlaces declared.now seen.now plan.kept) }
+    ensures fits { IfOk result (λ plan. is_too_long (basis_of declared.now seen.now purpose orphans volumes) ≡ false) }
+    ensures too_many { (count : ℕ) → result ≡ Err (PlanRefusal.TooManyActions count)
+        → (is_too_long (basis_of declared.now seen.now purpose orphans volumes) ≡ true)
+        × (count ≡ action_count (basis_of declared.now seen.now purpose orphans volumes)) }
+{
+    let texts = SlotTexts::new(alloc, declared, seen)?;
+    let planner = Planner::new(alloc, declared, seen, &texts, purpose, orphans, volumes)?;
     planner.plan(alloc)
 }
 
@@ -79,9 +101,10 @@ impl Planner<'_> {
             ≡ map (λ kind. record { kind = kind; needs = needed_by self.now kinds.now kind }) kinds.now) }
     {
         let index = self.actions_under(alloc, kinds)?;
+        let removals = removals_in(alloc, kinds)?;
         let mut actions = List::new(alloc);
         for kind in kinds {
-            let needs = self.needed_by(alloc, kinds, &index, *kind)?;
+            let needs = self.needed_by(alloc, kinds, &index, removals.as_slice(), *kind)?;
             actions.push(Action { kind: *kind, needs })?;
         }
         Ok(actions)

@@ -1,9 +1,0 @@
-use Rattle.std.proofs.Common.{◌≡◌, ℕ, ◌++◌, map}
-use Rattle.std.specs.Prelude.{filter}
-use Rattle.engine_types.specs.declared.ActionKind.TheVariants.{StartSlot}
-use Rattle.run_model.specs.Plans.{is_wanted}
-use Rattle.run_model.specs.Numbers.{numbers_from}
-use Rattle.plan_core.proofs.planner.Planner.push_starts.Given as goal
-
-abbrev pub invariant-loop-at : goal.invariant-loop-at
-invariant-loop-at l = l.kinds ≡ l.initial.kinds ++ filter (is_wanted l.self) (map (λ (s : ℕ). StartSlot s) (numbers_from 0 l.at))
