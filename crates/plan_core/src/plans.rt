@@ -1,5 +1,6 @@
 ghost use Rattle.std.specs.Prelude.{◌≡◌, ℕ, IfOk, Err, map, false, true};
 ghost use Rattle.engine_types.specs.declared.Action.{Action};
+ghost use Rattle.plan_core.specs.Finding.{actions_under, removals_in};
 ghost use Rattle.plan_core.specs.Planning.{basis_of};
 ghost use Rattle.run_model.specs.Plans.{AreKeptPlaces, action_count, down_basis, is_too_long, needed_by, planned, up_basis};
 
@@ -7,6 +8,7 @@ use crate::needed::removals_in;
 use crate::planner::Planner;
 use crate::refusal::PlanRefusal;
 use crate::slot_texts::SlotTexts;
+use crate::text_index::TextIndex;
 use engine_types::{Action, ActionKind, Declared, Plan, Purpose, Seen};
 use std::alloc::Global;
 use tree_base::{List, Memory};
@@ -102,9 +104,25 @@ impl Planner<'_> {
     {
         let index = self.actions_under(alloc, kinds)?;
         let removals = removals_in(alloc, kinds)?;
+        self.actions_by(alloc, kinds, &index, removals.as_slice())
+    }
+
+    /// The same, where the actions stand under their texts, and the removals are listed.
+    fn actions_by(
+        &self,
+        alloc: Global,
+        kinds: &[ActionKind],
+        index: &TextIndex<'_>,
+        removals: &[u32],
+    ) -> Result<List<Action>, Memory>
+        requires indexed { index.now ≡ actions_under self.now kinds.now }
+        requires listed { removals.now ≡ removals_in kinds.now }
+        ensures { IfOk result (λ actions. actions
+            ≡ map (λ kind. record { kind = kind; needs = needed_by self.now kinds.now kind }) kinds.now) }
+    {
         let mut actions = List::new(alloc);
         for kind in kinds {
-            let needs = self.needed_by(alloc, kinds, &index, removals.as_slice(), *kind)?;
+            let needs = self.needed_by(alloc, kinds, index, removals, *kind)?;
             actions.push(Action { kind: *kind, needs })?;
         }
         Ok(actions)

@@ -13,7 +13,7 @@ returns c =
     let fields = c.self.inside in
     let row = c.args.row.now in
     let other = c.args.other.now in
-    let found = c.find.ensures ∙ ap (numbers_under fields.services) c.service_named.ensures
+    let found = c.find-services.ensures ∙ ap (numbers_under fields.services) c.service_named.ensures
     ∙ ap (λ (entries : List (List ℕ × ℕ)). numbers_under entries (service_named row.labels)) c.self.invariant.3 in
     subst (λ (b : Basis). c.any_depends.result ≡ depends_on b.declared row other) c.self.view_is
     (c.any_depends.ensures ∙ ap (list_any (depends_by_at fields.declared.now row other)) found ∙ dependence_found fields.declared.now row other)
