@@ -1,7 +1,7 @@
 -- Steps over the tokens of a flow collection, and the cuts from a place on.
 use Rattle.std.proofs.Common.{◌≡◌, ◌∙◌, ℕ, zero, suc, ◌+◌, ◌-◌, ◌<◌, ◌≤◌, List, [], ◌∷◌, Bool, true, false, eqb, if◌then◌else◌, get_or, drop, length, refl, sym, ap, inl, inr, arith}
 use Rattle.std.proofs.lemmas.Bool.{cases_Bool}
-use Rattle.std.proofs.lemmas.List.{at_drop_all, at_drop_more, drop-drop, get_or-drop, length-drop}
+use Rattle.std.proofs.lemmas.List.{at_drop_all, drop-drop, get_or-drop, length-drop}
 use Rattle.yaml_groups.specs.Cuts.{cuts, cut_len, is_cut, is_space, open_behind, token_len}
 
 -- whether white space or a line's end stands before the place behind so many characters
@@ -81,13 +81,6 @@ cuts_are at n zero white (c ∷ cs) =
 -- without a next cut there is none
 pub no_cut : (at : ℕ) (cs : List ℕ) → cut_len 0 0 false cs ≡ length cs → cuts at 0 0 false cs ≡ []
 no_cut at cs e = cuts_are at 0 0 false cs ∙ rw e (at_drop_all (cuts_here (at + length cs)) cs (length cs) (omega arith))
-
--- the next cut, and those behind it where it is a comma
-pub next_cut : (at k c : ℕ) (cs : List ℕ) → k ≡ cut_len 0 0 false cs → k < length cs → c ≡ get_or cs k c
-    → cuts at 0 0 false cs ≡ (at + k) ∷ (if eqb c 44 then cuts (at + k + 1) 0 0 false (drop (k + 1) cs) else [])
-next_cut at k c cs e w f =
-    cuts_are at 0 0 false cs ∙ (λ i. cuts_here (at + sym e i) (drop (sym e i) cs)) ∙ at_drop_more (cuts_here (at + k)) cs k c w
-    ∙ ap (λ x. cuts_here (at + k) (x ∷ drop (k + 1) cs)) (sym f)
 
 -- at a cut stands a comma or a closing bracket
 pub cut_mark : (n skip : ℕ) (white : Bool) (cs : List ℕ) (d : ℕ) → cut_len n skip white cs < length cs → is_cut 0 (get_or cs (cut_len n skip white cs) d) ≡ true

@@ -1,8 +1,7 @@
 -- Steps over the rows of a text, and the characters of those that are left.
-use Rattle.std.proofs.Common.{◌≡◌, ◌∙◌, ℕ, zero, suc, ◌+◌, ◌-◌, ◌<◌, List, [], ◌∷◌, ◌++◌, true, false, Some, get_or, take, drop, length, refl, sym, ap, append_assoc, arith}
+use Rattle.std.proofs.Common.{◌≡◌, ◌∙◌, ℕ, zero, suc, ◌+◌, ◌-◌, ◌^◌, ◌<◌, ◌≤◌, List, [], ◌∷◌, ◌++◌, true, false, Some, take, drop, length, refl, sym, ap, append_assoc, arith}
 use Rattle.std.proofs.Math.ListN.{set}
-use Rattle.std.proofs.Math.Seq.{drop-append_seam}
-use Rattle.std.proofs.lemmas.List.{append-nil, at_drop_more, drop-drop, drop-set-lt, drop_more, length-append, take-append-drop}
+use Rattle.std.proofs.lemmas.List.{append-nil, drop-append-le, drop-drop, drop-set-lt, drop_more, length-append, length-drop}
 use Rattle.std.proofs.lemmas.Option.{get_or_from_slice_get}
 use Rattle.std.specs.List.{slice_get}
 use Rattle.yaml_lines.specs.Blanks.{is_blank}
@@ -10,10 +9,6 @@ use Rattle.yaml_lines.specs.declared.row.Row.{Row}
 use Rattle.yaml_groups.specs.Grouped.{begins_flow, belonging, flow_lines, grouped, head_of, joined_chars, with_lines}
 use Rattle.yaml_groups.specs.declared.line.LogicalLine.{LogicalLine}
 use Rattle.yaml_groups.specs.Parts.{led}
-
-led_append : (rows others : List Row) → led (rows ++ others) ≡ led rows ++ led others
-led_append [] others = refl
-led_append (row ∷ rows) others = ap (λ cs. 10 ∷ row.chars ++ cs) (led_append rows others) ∙ sym (append_assoc (10 ∷ row.chars) (led rows) (led others))
 
 -- joined characters are those of the row and of the rows that follow, each behind a line feed
 pub joined_led : (chars : List ℕ) (rows : List Row) → joined_chars chars rows ≡ chars ++ led rows
@@ -45,34 +40,42 @@ with_flow value row lines none chars flow e n =
     let joined = e ∙ sym (joined_led row.chars lines) in
     rw flow (λ i. record { row = record row { chars = joined i }; content = n i })
 
+flow_some : (cs : List ℕ) → begins_flow cs ≡ true → 1 ≤ length cs
+flow_some [] h = absurd (cc)
+flow_some (c ∷ cs) h = omega arith
+
 -- how many lines belong to a row in which a flow collection begins
-pub flow_belongs : (head : ℕ × ℕ) (row : Row) (rows : List Row) (text before inside : List ℕ) (n : ℕ) → begins_flow (drop head.1 row.chars) ≡ true → text ≡ joined_chars row.chars rows → before ≡ drop head.1 text
-    → inside ≡ drop 1 before → n ≡ flow_lines inside (length rows) → n ≡ belonging head row rows
-flow_belongs head row rows text before inside n flow e b i f =
-    let is = i ∙ ap (drop 1) b ∙ drop-drop 1 head.1 text ∙ ap (drop (head.1 + 1)) e in
+pub flow_belongs : (head : ℕ × ℕ) (row : Row) (rows : List Row) (inside : List ℕ) (n : ℕ) → begins_flow (drop head.1 row.chars) ≡ true → inside ≡ drop 1 (drop head.1 row.chars)
+    → n ≡ flow_lines (inside ++ led rows) (length rows) → n ≡ belonging head row rows
+flow_belongs head row rows inside n flow i f =
+    let some = flow_some (drop head.1 row.chars) flow in
+    let left = length-drop head.1 row.chars in
+    let split : drop (head.1 + 1) (joined_chars row.chars rows) ≡ drop (head.1 + 1) row.chars ++ led rows = ap (drop (head.1 + 1)) (joined_led row.chars rows) ∙ drop-append-le (head.1 + 1) row.chars (led rows) (omega arith) in
+    let is : inside ++ led rows ≡ drop (head.1 + 1) (joined_chars row.chars rows) = ap (λ cs. cs ++ led rows) (i ∙ drop-drop 1 head.1 row.chars) ∙ sym split in
     rw flow (f ∙ ap (λ cs. flow_lines cs (length rows)) is)
 
--- the characters behind one row more
-pub behind_row : (rows : List Row) (i n : ℕ) (row : Row) (rest total : List ℕ) → i < length rows → row ≡ get_or rows i row → n ≡ length row.chars → drop (length (led (drop i rows))) rest ≡ total
-    → drop (length (led (drop (i + 1) rows))) (drop n (drop 1 rest)) ≡ total
-behind_row rows i n row rest total w e l so_far =
-    let later = led (drop (i + 1) rows) in
-    let first : length (led (drop i rows)) ≡ length (10 ∷ row.chars ++ later) = at_drop_more (λ rs. length (led rs)) rows i row w ∙ ap (λ (r : Row). length (10 ∷ r.chars ++ later)) (sym e) in
-    let sum = length-append row.chars later in
-    let k : 1 + n + length later ≡ length (led (drop i rows)) = omega arith in
-    ap (drop (length later)) (drop-drop n 1 rest) ∙ drop-drop (length later) (1 + n) rest ∙ ap (λ m. drop m rest) k ∙ so_far
+-- what stands behind an opening bracket is no more than its row
+pub flow_fits : (at : ℕ) (row : Row) (rows : List Row) (value inside : List ℕ) → value ≡ drop at row.chars → inside ≡ drop 1 value → length row.chars + length (led rows) < 2 ^ 64 → length inside + length (led rows) < 2 ^ 64
+flow_fits at row rows value inside v i h =
+    let of_value = ap length v ∙ length-drop at row.chars in
+    let of_inside = ap length i ∙ length-drop 1 value in
+    omega arith
 
--- the characters of a row and of those that follow it
-pub row_text : (text joined : List ℕ) (row : Row) (rest rest' : List Row) → text ≡ led rest → rest ≡ row ∷ rest' → joined ≡ drop 1 text → joined ≡ row.chars ++ led rest'
-row_text text joined row rest rest' e n j = j ∙ ap (drop 1) (e ∙ ap led n)
+-- the characters of the rows that are left are no more than those before
+pub led_fewer : (rows : List Row) (n : ℕ) → length (led (drop n rows)) ≤ length (led rows)
+led_fewer rows zero = omega arith
+led_fewer [] (suc n) = omega arith
+led_fewer (row ∷ rows) (suc n) =
+    let rest = led_fewer rows n in
+    let sum = length-append row.chars (led rows) in
+    omega arith
 
-pub text_behind : (text joined : List ℕ) (row : Row) (rest : List Row) (n : ℕ) → joined ≡ row.chars ++ led rest → n ≡ length row.chars → text ≡ drop n joined → text ≡ led rest
-text_behind text joined row rest n j l t = t ∙ (λ i. drop (l i) (j i)) ∙ drop-append_seam row.chars (led rest)
-
-pub lines_behind : (text text' : List ℕ) (rest rest' lines : List Row) (n : ℕ) → text ≡ led rest → lines ≡ take n rest → rest' ≡ drop n rest → text' ≡ drop (length (led lines)) text → text' ≡ led rest'
-lines_behind text text' rest rest' lines n e l r t =
-    let parts = sym (led_append (take n rest) (drop n rest)) ∙ ap led (take-append-drop n rest) in
-    t ∙ (λ i. drop (length (led (l i))) (e i)) ∙ ap (drop (length (led (take n rest)))) (sym parts) ∙ drop-append_seam (led (take n rest)) (led (drop n rest)) ∙ ap led (sym r)
+-- the characters of a row and of those behind it
+pub led_first : (rest rest' : List Row) (row : Row) → rest ≡ row ∷ rest' → length (led rest) ≡ length row.chars + length (led rest') + 1
+led_first rest rest' row e =
+    let sum = length-append row.chars (led rest') in
+    let same : length (led rest) ≡ length (10 ∷ row.chars ++ led rest') = ap (λ rows. length (led rows)) e in
+    omega arith
 
 -- so many lines belong to one before
 skips : (owner n : ℕ) (rows : List Row) → grouped owner n rows ≡ grouped owner 0 (drop n rows)

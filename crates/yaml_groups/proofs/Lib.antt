@@ -1,4 +1,6 @@
 pub mod CutSteps
+pub mod LineEnds
+pub mod FlowEnds
+pub mod ScanSteps
 pub mod HeadSteps
-pub mod FlowSteps
 pub mod GroupSteps

@@ -10,15 +10,15 @@ fn is_opening(c: char) -> bool
     c == '[' || c == '{'
 }
 
-fn is_closing(c: char) -> bool
+pub fn is_closing(c: char) -> bool
     ensures { result ≡ is_closing c }
 {
     c == ']' || c == '}'
 }
 
 /// How many brackets are open behind a character, where so many were before it.
-fn open_behind(brackets: usize, c: char) -> usize
-    requires { brackets < 2 ^ 63 }
+pub fn open_behind(brackets: usize, c: char) -> usize
+    requires { brackets + 1 < 2 ^ 64 }
     ensures is { result ≡ open_behind brackets c }
     ensures few { result ≤ brackets + 1 }
 {
@@ -38,7 +38,7 @@ fn is_cut(brackets: usize, c: char) -> bool
     brackets == 0 && (is_closing(c) || c == ',')
 }
 
-fn is_space(c: char) -> bool
+pub fn is_space(c: char) -> bool
     ensures { result ≡ is_space c }
 {
     is_white(c) || c == '\n'

@@ -1,8 +1,9 @@
-ghost use Rattle.std.specs.Prelude.{◌≡◌, ◌≤◌, length, false, IfSome};
-ghost use Rattle.yaml_groups.specs.Cuts.{cuts};
-ghost use Rattle.yaml_groups.specs.Grouped.{begins_flow, line_ends_in, closing, flow_lines};
+ghost use Rattle.std.specs.Prelude.{◌≡◌, ◌<◌, ◌+◌, ◌++◌, ◌^◌, length};
+ghost use Rattle.yaml_groups.specs.Grouped.{begins_flow, flow_lines};
+ghost use Rattle.yaml_groups.specs.Parts.{led};
 
-use crate::cut::cut_len;
+use crate::scan::{Scan, scanned};
+use yaml_lines::Row;
 use yaml_nodes::starts;
 
 /// Whether a flow collection begins here.
@@ -12,45 +13,29 @@ pub fn begins_flow(chars: &[char]) -> bool
     starts(chars, '[') || starts(chars, '{')
 }
 
-/// How many line feeds stand in characters.
-fn line_ends_in(chars: &[char]) -> usize
-    ensures { result ≡ line_ends_in chars.now }
+/// How many of the rows that follow belong to a flow collection, of which the characters are given that stand behind
+/// its opening bracket on its first line: those up to the row in which it is closed, else all. No token goes over a
+/// line's end.
+pub fn flow_lines(first: &[char], rows: &[Row]) -> usize
+    requires { length first.now + length (led rows.now) < 2 ^ 64 }
+    ensures { result ≡ flow_lines (first.now ++ led rows.now) (length rows.now) }
 {
-    let mut count = 0;
-    for c in chars {
-        if *c == '\n' {
-            count += 1;
+    let begun = Scan {
+        ends: 0,
+        brackets: 0,
+        closed: false,
+    };
+    let mut scan = scanned(begun, false, first);
+    for row in rows {
+        if scan.closed {
+            return scan.ends;
         }
+        let next = Scan {
+            ends: scan.ends + 1,
+            brackets: scan.brackets,
+            closed: false,
+        };
+        scan = scanned(next, true, row.chars.as_slice());
     }
-    count
-}
-
-/// The place of the bracket that closes a flow collection, from behind its opening bracket on.
-fn closing(text: &[char]) -> Option<usize>
-    ensures is { result ≡ closing text.now (cuts 0 0 0 false text.now) }
-    ensures within { IfSome result (λ at. at ≤ length text.now) }
-{
-    let mut at = 0;
-    while at < text.len() {
-        at += cut_len(&text[at..]);
-        if at == text.len() {
-            return None;
-        }
-        if text[at] != ',' {
-            return Some(at);
-        }
-        at += 1;
-    }
-    None
-}
-
-/// How many of so many lines that follow belong to a flow collection, by all characters behind its opening bracket:
-/// those up to the line in which it is closed, else all.
-pub fn flow_lines(text: &[char], lines: usize) -> usize
-    ensures { result ≡ flow_lines text.now lines }
-{
-    match closing(text) {
-        Some(at) => line_ends_in(&text[..at]),
-        None => lines,
-    }
+    if scan.closed { scan.ends } else { rows.len() }
 }

@@ -1,5 +1,5 @@
-ghost use Rattle.std.specs.Prelude.{◌≡◌, ◌≤◌, ◌++◌, length, drop, take, IfOk, OnOk};
-ghost use Rattle.yaml_groups.specs.Grouped.{grouped, joined_chars, begins_block, belonging, with_lines};
+ghost use Rattle.std.specs.Prelude.{◌≡◌, ◌<◌, ◌+◌, ◌++◌, ◌^◌, length, drop, take, IfOk, OnOk};
+ghost use Rattle.yaml_groups.specs.Grouped.{grouped, begins_block, belonging, with_lines};
 ghost use Rattle.yaml_groups.specs.Parts.{led};
 
 use crate::flow::{begins_flow, flow_lines};
@@ -22,20 +22,23 @@ fn behind(chars: &[char], count: usize) -> &[char]
     }
 }
 
-/// How many characters rows have, with a line feed for each.
-fn room_of(rows: &[Row]) -> usize {
+/// How many characters rows have, with a line feed for each. Memory where they can't be in memory at once.
+fn room_of(rows: &[Row]) -> Result<usize, Memory>
+    ensures { IfOk result (λ room. room ≡ length (led rows.now)) }
+{
     let mut room = 0usize;
     for row in rows {
-        room = room.saturating_add(row.chars.len()).saturating_add(1);
+        let with_row = room.checked_add(row.chars.len()).ok_or(Memory)?;
+        room = with_row.checked_add(1).ok_or(Memory)?;
     }
-    room
+    Ok(room)
 }
 
 /// Puts the characters of rows last, each behind a line feed. Takes the room for all of them at once.
 fn push_lines(chars: &mut List<char>, rows: &[Row]) -> Result<(), Memory>
     ensures { OnOk result (chars.new ≡ chars.old ++ led rows.now) }
 {
-    chars.reserve(room_of(rows))?;
+    chars.reserve(room_of(rows)?)?;
     for row in rows {
         chars.push('\n')?;
         chars.extend_from_slice(row.chars.as_slice())?;
@@ -50,16 +53,15 @@ fn begins_block(chars: &[char]) -> bool
     starts(chars, '|') || starts(chars, '>')
 }
 
-/// How many of the rows that follow belong to a row, by its head. `text` has the characters of all of them.
-fn belonging(head: (usize, usize), row: &Row, rows: &[Row], text: &[char]) -> usize
-    requires { text.now ≡ joined_chars row.now.chars rows.now }
+/// How many of the rows that follow belong to a row, by its head.
+fn belonging(head: (usize, usize), row: &Row, rows: &[Row]) -> usize
+    requires { length row.now.chars + length (led rows.now) < 2 ^ 64 }
     ensures { result ≡ belonging head row.now rows.now }
 {
     let (column, at) = head;
     let value = text_at(row, at);
     if begins_flow(value) {
-        let inside = behind(behind(text, at), 1);
-        return flow_lines(inside, rows.len());
+        return flow_lines(behind(value, 1), rows);
     }
     if begins_block(value) {
         return block_len(rows, column);
@@ -90,37 +92,21 @@ fn with_lines(
     })
 }
 
-/// What stands behind the characters of rows, each of them behind a line feed.
-fn behind_rows<'a>(text: &'a [char], rows: &[Row]) -> &'a [char]
-    ensures { result.now ≡ drop (length (led rows.now)) text.now }
-{
-    let mut rest = text;
-    for row in rows {
-        rest = behind(behind(rest, 1), row.chars.len());
-    }
-    rest
-}
-
 /// The lines that are read of a file's rows.
 pub fn grouped(alloc: Global, rows: List<Row>) -> Result<List<LogicalLine>, Memory>
     ensures { IfOk result (λ lines. lines ≡ grouped 0 0 rows) }
 {
-    let mut chars = List::new(alloc);
-    push_lines(&mut chars, rows.as_slice())?;
-    let mut text = chars.as_slice();
+    room_of(rows.as_slice())?;
     let mut rest = Queue::new(rows);
     let mut lines = List::new(alloc);
     let mut owner = 0;
     while let Some(row) = rest.next(alloc) {
-        let joined = behind(text, 1);
-        text = behind(joined, row.chars.len());
         if is_blank(row.chars.as_slice()) {
             continue;
         }
         let (column, value) = head_of(row.chars.as_slice(), owner);
-        let count = belonging((column, value), &row, rest.rows(), joined);
+        let count = belonging((column, value), &row, rest.rows());
         let following = rest.take(alloc, count)?;
-        text = behind_rows(text, following.as_slice());
         lines.push(with_lines(alloc, value, row, following)?)?;
         owner = column;
     }

@@ -11,6 +11,7 @@ mod group;
 mod head;
 mod line;
 mod queue;
+mod scan;
 mod token;
 
 pub use cut::cut_len;

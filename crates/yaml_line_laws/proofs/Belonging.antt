@@ -2,112 +2,38 @@
 use Rattle.std.proofs.Common.{◌≡◌, ◌∙◌, ℕ, zero, suc, ◌+◌, ◌-◌, ◌<◌, ◌≤◌, ◌==◌, ◌||◌, ◌&&◌, List, [], ◌∷◌, ◌++◌, Bool, true, false, nat_le, nat_lt, Option, Some, None, take, drop, length, refl, sym, ap, subst, ◌⊎◌, inl, inr, arith, append_assoc, if◌then◌else◌}
 use Rattle.std.proofs.lemmas.Bool.{cases_Bool, cond_both, le-leb}
 use Rattle.std.proofs.lemmas.List.{append-nil, drop-append-le, length-append, length-drop, length-map, map-append, take-append-le}
-use Rattle.yaml_groups.specs.Cuts.{cuts, is_cut, is_space, open_behind, token_len}
+use Rattle.yaml_groups.specs.Cuts.{is_cut, is_space, open_behind, token_len}
 use Rattle.yaml_groups.specs.declared.line.LogicalLine.{LogicalLine}
-use Rattle.yaml_groups.specs.Grouped.{begins_block, begins_flow, belonging, closing, ends_before, flow_lines, grouped, head_of, joined_chars, line_ends_in, with_lines}
+use Rattle.yaml_groups.specs.Grouped.{begins_block, begins_flow, belonging, flow_lines, grouped, head_of, joined_chars, line_ends_in, with_lines}
 use Rattle.yaml_lines.specs.Blanks.{is_blank, spaces}
 use Rattle.yaml_lines.specs.Block.{block_of, block_with, content_indent, content_len, empty_len, is_all_spaces, lines_of_rows}
 use Rattle.yaml_lines.specs.declared.block_style.Chomp.TheVariants.{Clip}
 use Rattle.yaml_lines.specs.declared.row.Row.{Row}
-use Rattle.yaml_nodes.specs.Marks.{starts}
 use Rattle.yaml_line_laws.specs.BlankLines.{taken_behind}
-use Rattle.yaml_line_laws.proofs.LineEnds.{ended_by, token_end, token_within}
+use Rattle.yaml_groups.proofs.FlowEnds.{ends_to_close, flow_lines_are}
+use Rattle.yaml_groups.proofs.LineEnds.{ended_by, token_end, token_within}
+use Rattle.yaml_groups.specs.Parts.{ends_with}
 
--- so many line ends, and this character where it is one
-abbrev passed : ℕ → ℕ → ℕ
-passed count c = if c == 10 then count + 1 else count
-
--- how many line ends stand before the bracket that closes a collection, behind so many before, else all
-abbrev ends_to_close : ℕ → ℕ → ℕ → ℕ → Bool → List ℕ → ℕ
-ends_to_close all count n skip white [] = all
-ends_to_close all count n (suc skip) white (c ∷ cs) = ends_to_close all (passed count c) n skip (is_space c) cs
-ends_to_close all count n zero white (c ∷ cs) =
-    if is_cut n c then (if c == 44 then ends_to_close all (passed count c) 0 0 false cs else count)
-    else ends_to_close all (passed count c) (open_behind n c) (token_len white (c ∷ cs) - 1) (is_space c) cs
-
--- a text of which a part stands before a place, and so many line ends in it
-record IsAt (text : List ℕ) (at count : ℕ) (cs : List ℕ) : Type 0 where
-  before : List ℕ
-  whole : before ++ cs ≡ text
-  len : length before ≡ at
-  ends : line_ends_in before ≡ count
-
-ends_push : (cs : List ℕ) (c : ℕ) → line_ends_in (cs ++ c ∷ []) ≡ passed (line_ends_in cs) c
-ends_push [] c = refl
-ends_push (d ∷ cs) c = ap (λ n. if d == 10 then n + 1 else n) (ends_push cs c) ∙ both (d == 10) (c == 10) (line_ends_in cs)
-  where
-    both : (a b : Bool) (n : ℕ) → (if a then (if b then n + 1 else n) + 1 else (if b then n + 1 else n)) ≡ (if b then (if a then n + 1 else n) + 1 else (if a then n + 1 else n))
-    both true true n = refl
-    both true false n = refl
-    both false true n = refl
-    both false false n = refl
-
-one_on : (text : List ℕ) (at count c : ℕ) (cs : List ℕ) → IsAt text at count (c ∷ cs) → IsAt text (at + 1) (passed count c) cs
-one_on text at count c cs h =
-    let l = length-append h.before (c ∷ []) in
-    record { before = h.before ++ c ∷ []; whole = append_assoc h.before (c ∷ []) cs ∙ h.whole; len = omega (arith, h.len); ends = ends_push h.before c ∙ ap (λ n. passed n c) h.ends }
-
-drop_there : (xs ys : List ℕ) → drop (length xs) (xs ++ ys) ≡ ys
-drop_there [] ys = refl
-drop_there (x ∷ xs) ys = drop_there xs ys
-
-take_there : (xs ys : List ℕ) → take (length xs) (xs ++ ys) ≡ xs
-take_there [] ys = refl
-take_there (x ∷ xs) ys = ap (λ l. x ∷ l) (take_there xs ys)
-
-here : (text : List ℕ) (at count c : ℕ) (cs : List ℕ) → IsAt text at count (c ∷ cs) → starts 44 (drop at text) ≡ (c == 44)
-here text at count c cs h = ap (λ n. starts 44 (drop n text)) (sym h.len) ∙ ap (λ t. starts 44 (drop (length h.before) t)) (sym h.whole) ∙ ap (starts 44) (drop_there h.before (c ∷ cs))
-
-ends_here : (text : List ℕ) (at count c : ℕ) (cs : List ℕ) → IsAt text at count (c ∷ cs) → line_ends_in (take at text) ≡ count
-ends_here text at count c cs h =
-    ap (λ n. line_ends_in (take n text)) (sym h.len) ∙ ap (λ t. line_ends_in (take (length h.before) t)) (sym h.whole) ∙ ap line_ends_in (take_there h.before (c ∷ cs)) ∙ h.ends
-
--- a cut that is a comma or closes
-cut_there : (text : List ℕ) (all at count c : ℕ) (cs more : List ℕ) (total : ℕ) → IsAt text at count (c ∷ cs) → ends_before text all (closing text more) ≡ total
-    → ends_before text all (closing text (at ∷ (if c == 44 then more else []))) ≡ (if c == 44 then total else count)
-cut_there text all at count c cs more total h rest =
-    ap (λ b. ends_before text all (if b then closing text (if c == 44 then more else []) else Some at)) (here text at count c cs h) ∙ by (c == 44)
-  where
-    by : (comma : Bool) → ends_before text all (if comma then closing text (if comma then more else []) else Some at) ≡ (if comma then total else count)
-    by true = rest
-    by false = ends_here text at count c cs h
-
-ends_are : (text : List ℕ) (all at count n skip : ℕ) (white : Bool) (cs : List ℕ) → IsAt text at count cs → ends_before text all (closing text (cuts at n skip white cs)) ≡ ends_to_close all count n skip white cs
-ends_are text all at count n skip white [] h = refl
-ends_are text all at count n (suc skip) white (c ∷ cs) h = ends_are text all (at + 1) (passed count c) n skip (is_space c) cs (one_on text at count c cs h)
-ends_are text all at count n zero white (c ∷ cs) h =
-    let on = one_on text at count c cs h in
-    by (is_cut n c) (at ∷ (if c == 44 then cuts (at + 1) 0 0 false cs else [])) (cuts (at + 1) (open_behind n c) (token_len white (c ∷ cs) - 1) (is_space c) cs)
-    (cut_there text all at count c cs (cuts (at + 1) 0 0 false cs) _ h (ends_are text all (at + 1) (passed count c) 0 0 false cs on))
-    (ends_are text all (at + 1) (passed count c) (open_behind n c) (token_len white (c ∷ cs) - 1) (is_space c) cs on)
-  where
-    by : (cut : Bool) (xs ys : List ℕ) {a b : ℕ} → ends_before text all (closing text xs) ≡ a → ends_before text all (closing text ys) ≡ b → ends_before text all (closing text (if cut then xs else ys)) ≡ (if cut then a else b)
-    by true xs ys p q = p
-    by false xs ys p q = q
-
-flow_lines_are : (text : List ℕ) (all : ℕ) → flow_lines text all ≡ ends_to_close all 0 0 0 false text
-flow_lines_are text all = ends_are text all 0 0 0 0 false text (record { before = []; whole = refl; len = refl; ends = refl })
-
-passed_more : (count c : ℕ) → count ≤ passed count c
+passed_more : (count c : ℕ) → count ≤ ends_with count c
 passed_more count c = cond_both {A = ℕ} (c == 10) (count + 1) count (λ n. count ≤ n) (λ e. omega arith) (λ e. omega arith)
 
 -- either nothing closes, or a bracket behind the line ends before
 counted_on : (all count n skip : ℕ) (white : Bool) (cs : List ℕ) → ends_to_close all count n skip white cs < all → count ≤ ends_to_close all count n skip white cs
 counted_on all count n skip white [] h = absurd (omega arith)
-counted_on all count n (suc skip) white (c ∷ cs) h = let more = passed_more count c in let rest = counted_on all (passed count c) n skip (is_space c) cs h in omega arith
+counted_on all count n (suc skip) white (c ∷ cs) h = let more = passed_more count c in let rest = counted_on all (ends_with count c) n skip (is_space c) cs h in omega arith
 counted_on all count n zero white (c ∷ cs) h =
     let more = passed_more count c in
     let skip = token_len white (c ∷ cs) - 1 in
-    by (is_cut n c) (c == 44) (ends_to_close all (passed count c) 0 0 false cs) (ends_to_close all (passed count c) (open_behind n c) skip (is_space c) cs)
-    (λ h. let rest = counted_on all (passed count c) 0 0 false cs h in omega arith)
-    (λ h. let rest = counted_on all (passed count c) (open_behind n c) skip (is_space c) cs h in omega arith) h
+    by (is_cut n c) (c == 44) (ends_to_close all (ends_with count c) 0 0 false cs) (ends_to_close all (ends_with count c) (open_behind n c) skip (is_space c) cs)
+    (λ h. let rest = counted_on all (ends_with count c) 0 0 false cs h in omega arith)
+    (λ h. let rest = counted_on all (ends_with count c) (open_behind n c) skip (is_space c) cs h in omega arith) h
   where
     by : (cut comma : Bool) (a b : ℕ) → (a < all → count ≤ a) → (b < all → count ≤ b) → (if cut then (if comma then a else count) else b) < all → count ≤ (if cut then (if comma then a else count) else b)
     by true true a b p q h = p h
     by true false a b p q h = omega arith
     by false comma a b p q h = q h
 
-ends_within : (count c m : ℕ) (cs : List ℕ) → m ≤ count + line_ends_in (c ∷ cs) → m ≤ passed count c + line_ends_in cs
+ends_within : (count c m : ℕ) (cs : List ℕ) → m ≤ count + line_ends_in (c ∷ cs) → m ≤ ends_with count c + line_ends_in cs
 ends_within count c m cs h = by (c == 10) h
   where
     by : (b : Bool) → m ≤ count + (if b then line_ends_in cs + 1 else line_ends_in cs) → m ≤ (if b then count + 1 else count) + line_ends_in cs
@@ -129,19 +55,19 @@ closed_within all all' count n zero white [] more s h w =
     let pass : ends_to_close all count n 0 white (10 ∷ more) ≡ behind = ap (λ cut. if cut then count else behind) uncut in
     let on = counted_on all (count + 1) n 0 true more (omega arith) in
     absurd (omega arith)
-closed_within all all' count n (suc skip) white (c ∷ cs) more s h w = closed_within all all' (passed count c) n skip (is_space c) cs more (omega arith) h (ends_within count c _ cs w)
+closed_within all all' count n (suc skip) white (c ∷ cs) more s h w = closed_within all all' (ends_with count c) n skip (is_space c) cs more (omega arith) h (ends_within count c _ cs w)
 closed_within all all' count n zero white (c ∷ cs) more s h w =
     let skip = token_len white (c ∷ cs) - 1 in
     let same = token_end white c cs (Some more) in
     let inside = token_within white c cs in
     let text = cs ++ ended_by (Some more) in
-    let swap = ap (λ len. ends_to_close all (passed count c) (open_behind n c) (len - 1) (is_space c) text) same in
-    ap (λ len. if is_cut n c then (if c == 44 then ends_to_close all (passed count c) 0 0 false text else count) else ends_to_close all (passed count c) (open_behind n c) (len - 1) (is_space c) text) same
-    ∙ by (is_cut n c) (c == 44) (ends_to_close all (passed count c) 0 0 false text) (ends_to_close all (passed count c) (open_behind n c) skip (is_space c) text) _ _
-    (λ h w. closed_within all all' (passed count c) 0 0 false cs more (omega arith) h (ends_within count c _ cs w))
-    (λ h w. closed_within all all' (passed count c) (open_behind n c) skip (is_space c) cs more (omega arith) h (ends_within count c _ cs w))
-    (subst (λ m. (if is_cut n c then (if c == 44 then ends_to_close all (passed count c) 0 0 false text else count) else m) < all) swap h)
-    (subst (λ m. (if is_cut n c then (if c == 44 then ends_to_close all (passed count c) 0 0 false text else count) else m) ≤ count + line_ends_in (c ∷ cs)) swap w)
+    let swap = ap (λ len. ends_to_close all (ends_with count c) (open_behind n c) (len - 1) (is_space c) text) same in
+    ap (λ len. if is_cut n c then (if c == 44 then ends_to_close all (ends_with count c) 0 0 false text else count) else ends_to_close all (ends_with count c) (open_behind n c) (len - 1) (is_space c) text) same
+    ∙ by (is_cut n c) (c == 44) (ends_to_close all (ends_with count c) 0 0 false text) (ends_to_close all (ends_with count c) (open_behind n c) skip (is_space c) text) _ _
+    (λ h w. closed_within all all' (ends_with count c) 0 0 false cs more (omega arith) h (ends_within count c _ cs w))
+    (λ h w. closed_within all all' (ends_with count c) (open_behind n c) skip (is_space c) cs more (omega arith) h (ends_within count c _ cs w))
+    (subst (λ m. (if is_cut n c then (if c == 44 then ends_to_close all (ends_with count c) 0 0 false text else count) else m) < all) swap h)
+    (subst (λ m. (if is_cut n c then (if c == 44 then ends_to_close all (ends_with count c) 0 0 false text else count) else m) ≤ count + line_ends_in (c ∷ cs)) swap w)
   where
     by : (cut comma : Bool) (a b a' b' : ℕ) → (a < all → a ≤ count + line_ends_in (c ∷ cs) → a ≡ a') → (b < all → b ≤ count + line_ends_in (c ∷ cs) → b ≡ b')
         → (if cut then (if comma then a else count) else b) < all → (if cut then (if comma then a else count) else b) ≤ count + line_ends_in (c ∷ cs)

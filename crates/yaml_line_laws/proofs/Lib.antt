@@ -4,7 +4,6 @@ pub mod BlankLines
 pub mod Blocks
 pub mod Examples
 pub mod Flows
-pub mod LineEnds
 pub mod Lines
 pub mod Mappings
 pub mod Nodes
