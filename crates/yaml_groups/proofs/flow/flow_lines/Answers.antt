@@ -1,4 +1,4 @@
-use Rattle.std.proofs.Common.{◌≡◌, ◌∙◌, ◌++◌, ap, sym, length, false, arith}
+use Rattle.std.proofs.Common.{◌∙◌, ◌++◌, ap, sym, length, false, arith}
 use Rattle.yaml_groups.specs.Parts.{led}
 use Rattle.yaml_groups.proofs.ScanSteps.{behind, closed_lines, last_row, led_more, open_lines, row_step, rows_behind}
 use Rattle.yaml_groups.proofs.flow.flow_lines.Goals as goal
