@@ -134,7 +134,15 @@ fn created_spec(
     }
     let image = Some(reading.text(image));
     let labels = List::new(reading.alloc);
-    let spec = spec_with(labels, image, Some(endpoints), Some(binds), None, None);
+    let spec = spec_with(
+        reading.alloc,
+        labels,
+        image,
+        Some(endpoints),
+        Some(binds),
+        None,
+        None,
+    );
     boxed(reading, spec)
 }
 

@@ -1,6 +1,7 @@
 use crate::reading::Reading;
 use case_files::Fields;
 use engine_types::{ContainerSpec, Endpoint, Healthcheck, Pairs};
+use std::alloc::Global;
 use tree_base::{Boxed, List, Memory, Text};
 
 /// What the Engine is sent of a container with these labels, image and networks: the further members that cases use
@@ -16,10 +17,8 @@ pub fn spec_of(
     let binds = texts_where(reading, fields, "binds");
     let mode = text_where(reading, fields, "network_mode");
     let test = texts_where(reading, fields, "healthcheck");
-    boxed(
-        reading,
-        spec_with(labels, image, endpoints, binds, mode, test),
-    )
+    let spec = spec_with(reading.alloc, labels, image, endpoints, binds, mode, test);
+    boxed(reading, spec)
 }
 
 fn text_where(reading: &mut Reading, fields: &Fields, key: &str) -> Option<Text> {
@@ -62,6 +61,7 @@ pub(crate) fn boxed(reading: &mut Reading, spec: ContainerSpec) -> Option<Boxed<
 
 /// A spec of these members alone. No memory.
 pub(crate) fn spec_with(
+    alloc: Global,
     labels: Pairs,
     image: Option<Text>,
     endpoints_config: Option<List<Endpoint>>,
@@ -71,52 +71,11 @@ pub(crate) fn spec_with(
 ) -> ContainerSpec {
     ContainerSpec {
         labels,
-        platform: None,
         image,
-        cmd: None,
-        entrypoint: None,
-        env: None,
-        hostname: None,
-        domainname: None,
-        user: None,
-        working_dir: None,
-        stop_signal: None,
-        open_stdin: None,
-        tty: None,
-        privileged: None,
-        readonly_rootfs: None,
-        init: None,
-        cap_add: None,
-        cap_drop: None,
-        security_opt: None,
-        group_add: None,
-        dns: None,
-        dns_search: None,
-        dns_options: None,
-        extra_hosts: None,
-        sysctls: None,
-        ipc_mode: None,
-        pid_mode: None,
-        userns_mode: None,
-        cpuset_cpus: None,
-        shm_size: None,
-        memory: None,
-        memory_reservation: None,
-        nano_cpus: None,
-        cpu_shares: None,
-        pids_limit: None,
-        ulimits: None,
-        devices: None,
-        log_config: None,
-        restart_policy: None,
-        exposed_ports: None,
-        port_bindings: None,
         binds,
-        volumes: None,
-        tmpfs: None,
         network_mode,
         endpoints_config,
         healthcheck: healthcheck_of(test),
-        stop_timeout: None,
+        ..ContainerSpec::empty(alloc)
     }
 }

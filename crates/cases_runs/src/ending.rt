@@ -8,7 +8,8 @@ use cases_messages::request_line;
 use cases_values::{journal_of, plan_of};
 use engine_types::{Declared, Entry, RunFault, Seen};
 use refusals::{Refusal, refusal_line, refusal_of, refusal_status};
-use run_report::{Run, fault, report};
+use run_report::{fault, report};
+use run_requests::Run;
 use std::alloc::Global;
 
 /// What a journal of a plan for what is declared and seen ends with: its `status`, its `report`, the line of its `fault`
@@ -40,11 +41,7 @@ fn ending_with(
     answers: &mut Answers,
 ) -> Result<(), CaseFault> {
     let plan = plan_of(alloc, fields, "plan")?;
-    let run = Run {
-        declared,
-        seen,
-        plan: &plan,
-    };
+    let run = Run::of_one_worker(declared, seen, &plan);
     ending_by(alloc, fields, &run, answers)
 }
 

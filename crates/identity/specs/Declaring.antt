@@ -1,16 +1,17 @@
 -- What a project of services by their images declares: a slot for each, by the names and labels of Docker Compose.
-use Rattle.std.specs.Prelude.{ℕ, false, List, [], ◌∷◌, ◌++◌, None, map, codes}
+use Rattle.std.specs.Prelude.{ℕ, false, List, [], ◌∷◌, ◌++◌, Some, None, map, codes}
 use Rattle.sha2.specs.Sha256.{sha256}
 use Rattle.hex.specs.Hex.{encode_lower}
 use Rattle.json.specs.Print.{quoted}
 use Rattle.tree_base.specs.declared.Var.{Var}
 use Rattle.engine_types.specs.Labels.{hash_label, not_oneoff, number_label, oneoff_label, project_label, service_label}
+use Rattle.engine_types.specs.Specs.{empty_spec}
 use Rattle.engine_types.specs.declared.Condition.{Condition}
+use Rattle.engine_types.specs.declared.ContainerSpec.{ContainerSpec}
 use Rattle.engine_types.specs.declared.Declared.{Declared}
 use Rattle.engine_types.specs.declared.DeclaredService.{DeclaredService}
 use Rattle.engine_types.specs.declared.Policy.{Policy}
 use Rattle.engine_types.specs.declared.Slot.{Slot}
-use Rattle.run_model.specs.OneService.{plain_spec}
 use Rattle.service_attrs.specs.declared.Service.{Service}
 use Rattle.service_attrs.specs.declared.Project.{Project}
 
@@ -33,6 +34,10 @@ container_labels project service =
     ∷ record { name = oneoff_label; value = not_oneoff } ∷ record { name = project_label; value = project }
     ∷ record { name = service_label; value = service.key } ∷ []
 
+-- what the Engine is sent of a service with these labels and this image: no network is joined, and nothing else is said
+abbrev pub container_spec : List Var → List ℕ → ContainerSpec
+container_spec labels image = record empty_spec { labels = labels; image = Some image; network_mode = Some (codes "none") }
+
 -- a service's one slot: its image is pulled where it is missing, it needs nothing, it has one hash, and a stop waits for ten seconds
 abbrev pub slot_of : List ℕ → Service → Slot
 slot_of project service = record {
@@ -44,7 +49,7 @@ slot_of project service = record {
   has_build = false;
   hash = config_hash service.image;
   old_hash = config_hash service.image;
-  spec = plain_spec (container_labels project service) service.image;
+  spec = container_spec (container_labels project service) service.image;
   attach = [];
   needs = [];
   goal = Condition.Running;

@@ -63,10 +63,6 @@ module _ (setup : Setup) (w : ℕ) where
   goes_on (Entry.Late v why ∷ xs) ys = let is = goes_on xs ys in record { more = is.more; are = is.are }
   goes_on (Entry.Short v ∷ xs) ys = let is = goes_on xs ys in record { more = is.more; are = is.are }
 
-drop_all : {X : Type 0} (xs ys : List X) → drop (length xs) (xs ++ ys) ≡ ys
-drop_all [] ys = refl
-drop_all (x ∷ xs) ys = drop_all xs ys
-
 -- a journal's exchanges are those of the journal that it goes on from, and those since
 pub exchanges_joined : (setup : Setup) (old new : List Entry) → GoesOn old new
     → exchanges_of setup (reverse new) 0 ≡ exchanges_of setup (reverse old) 0 ++ exchanges_since setup old new
@@ -75,5 +71,5 @@ exchanges_joined setup old new more =
     let on = goes_on setup 0 (reverse more.0) (reverse old) in
     let all : exchanges_of setup (reverse new) 0 ≡ exchanges_of setup (reverse old) 0 ++ on.more = ap (λ (past : List Entry). exchanges_of setup past 0) back ∙ on.are in
     let since : exchanges_since setup old new ≡ on.more =
-    ap (drop (length (exchanges_of setup (reverse old) 0))) all ∙ drop_all (exchanges_of setup (reverse old) 0) on.more in
+    ap (drop (length (exchanges_of setup (reverse old) 0))) all ∙ drop-append_seam (exchanges_of setup (reverse old) 0) on.more in
     all ∙ ap (λ (l : List Exchange). exchanges_of setup (reverse old) 0 ++ l) (sym since)

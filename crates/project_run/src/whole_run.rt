@@ -18,7 +18,7 @@ use crate::opening::{Opening, open};
 use crate::ran::Ran;
 use engine_types::{Declared, Entry, Plan, RunFault, Seen};
 use outside_api::Hand;
-use run_report::Run;
+use run_requests::Run;
 use serial_run::{Aim, run_plan};
 use std::alloc::Global;
 use tree_base::{List, ReservedList, Text};
@@ -120,11 +120,7 @@ fn carry_out<H: Hand>(
     ensures report { IsReport (report_text (serial_setup declared.now seen.now plan.now.actions) (reverse result.journal)) result.fault result.report }
 {
     run_plan(alloc, hand, declared, seen, plan, aim, &mut journal);
-    let run = Run {
-        declared,
-        seen,
-        plan,
-    };
+    let run = Run::of_one_worker(declared, seen, plan);
     end(alloc, &run, journal.into_list())
 }
 
@@ -145,10 +141,6 @@ fn ended(alloc: Global, declared: &Declared, journal: List<Entry>) -> Ran
         actions: List::new(alloc),
         kept: List::new(alloc),
     };
-    let run = Run {
-        declared,
-        seen: &seen,
-        plan: &plan,
-    };
+    let run = Run::of_one_worker(declared, &seen, &plan);
     end(alloc, &run, journal)
 }

@@ -1,19 +1,7 @@
--- The runs of one worker, and what permits of theirs are for.
-use Rattle.std.specs.Prelude.{ℕ, Bool, true, false, ◌==◌, List, Option, Some, None}
-use Rattle.engine_types.specs.declared.Action.{Action}
-use Rattle.engine_types.specs.declared.Declared.{Declared}
+-- What permits of workers are for.
+use Rattle.std.specs.Prelude.{ℕ, Bool, true, false, ◌==◌, Option, Some, None}
 use Rattle.engine_types.specs.declared.Entry.{Entry}
-use Rattle.engine_types.specs.declared.Seen.{Seen}
-use Rattle.run_model.specs.Journals.{Holding, Nothing, Setup, Watch, Work}
-
--- the setup of a run of one worker that waits for no goal and has no deadline
-abbrev pub of_one_worker : Declared → Seen → List Action → Setup
-of_one_worker declared seen actions = record {
-  declared = declared;
-  seen = seen;
-  actions = actions;
-  limits = record { workers = 1; deadline = None; wait = false; stop_seconds = None };
-}
+use Rattle.run_model.specs.Journals.{Holding, Nothing, Watch, Work}
 
 -- the action that a permit is for
 abbrev pub action_of : Holding → Option ℕ

@@ -7,14 +7,15 @@ ghost use Rattle.run_model.specs.Ending.{ended_fault, exchange_fault, fault_of, 
 ghost use Rattle.run_model.specs.Journals.{ended_as, holding, is_well};
 ghost use Rattle.run_model.specs.Plans.{kind_of};
 ghost use Rattle.run_report.specs.Faults.{held_fault, request_held};
-ghost use Rattle.run_report.specs.Permits.{is_poll, of_one_worker};
+ghost use Rattle.run_report.specs.Permits.{is_poll};
+ghost use Rattle.run_requests.specs.Setups.{setup_of};
 
 use crate::actions::kind_of;
 use crate::asking::asked;
 use crate::held::{earlier, held};
-use crate::run::Run;
 use crate::well::is_well;
 use engine_types::{Entry, Outcome, Plan, Request, RunFault, SeenEnd, SeenFault};
+use run_requests::Run;
 use std::alloc::Global;
 use tree_base::{Memory, TryCopy};
 
@@ -22,7 +23,7 @@ use tree_base::{Memory, TryCopy};
 /// fails. A run that waits for no condition has no poll in its journal.
 pub fn fault(alloc: Global, run: &Run<'_>, journal: &[Entry]) -> Result<Option<RunFault>, Memory>
     requires { list_any is_poll journal.now ≡ false }
-    ensures { IfOk result (λ fault. fault ≡ first_fault (of_one_worker run.now.declared.now run.now.seen.now run.now.plan.now.actions) (reverse journal.now)) }
+    ensures { IfOk result (λ fault. fault ≡ first_fault (setup_of run.now) (reverse journal.now)) }
 {
     let mut first = None;
     for at in 0..journal.len() {
@@ -41,8 +42,8 @@ fn first_through(
 ) -> Result<Option<RunFault>, Memory>
     requires within { at < length journal.now }
     requires no_polls { list_any is_poll journal.now ≡ false }
-    ensures { IfOk result (λ fault. first ≡ first_fault (of_one_worker run.now.declared.now run.now.seen.now run.now.plan.now.actions) (reverse (take at journal.now))
-        → fault ≡ first_fault (of_one_worker run.now.declared.now run.now.seen.now run.now.plan.now.actions) (reverse (take (at + 1) journal.now))) }
+    ensures { IfOk result (λ fault. first ≡ first_fault (setup_of run.now) (reverse (take at journal.now))
+        → fault ≡ first_fault (setup_of run.now) (reverse (take (at + 1) journal.now))) }
 {
     first_of(alloc, first, run, earlier(journal, at), &journal[at])
 }
@@ -56,7 +57,7 @@ fn first_of(
     entry: &Entry,
 ) -> Result<Option<RunFault>, Memory>
     requires { list_any is_poll past.now ≡ false }
-    ensures { IfOk result (λ fault. fault ≡ option_or first (fault_of (of_one_worker run.now.declared.now run.now.seen.now run.now.plan.now.actions) (reverse past.now) entry.now)) }
+    ensures { IfOk result (λ fault. fault ≡ option_or first (fault_of (setup_of run.now) (reverse past.now) entry.now)) }
 {
     match first {
         Some(fault) => Ok(Some(fault)),
@@ -71,7 +72,7 @@ fn fault_of(
     entry: &Entry,
 ) -> Result<Option<RunFault>, Memory>
     requires { list_any is_poll past.now ≡ false }
-    ensures { IfOk result (λ fault. fault ≡ fault_of (of_one_worker run.now.declared.now run.now.seen.now run.now.plan.now.actions) (reverse past.now) entry.now) }
+    ensures { IfOk result (λ fault. fault ≡ fault_of (setup_of run.now) (reverse past.now) entry.now) }
 {
     match entry {
         Entry::Seen(observed) => seen_fault(alloc, &observed.end),
@@ -128,7 +129,7 @@ fn end_fault(
     outcome: &Outcome,
 ) -> Result<Option<RunFault>, Memory>
     requires { list_any is_poll past.now ≡ false }
-    ensures { IfOk result (λ fault. fault ≡ ended_fault (of_one_worker run.now.declared.now run.now.seen.now run.now.plan.now.actions) (reverse past.now) worker outcome.now (holding (reverse past.now) worker)) }
+    ensures { IfOk result (λ fault. fault ≡ ended_fault (setup_of run.now) (reverse past.now) worker outcome.now (holding (reverse past.now) worker)) }
 {
     match held(past, worker) {
         Some(action) => ended_fault(alloc, run, past, action, outcome),
@@ -144,7 +145,7 @@ fn ended_fault(
     action: u32,
     outcome: &Outcome,
 ) -> Result<Option<RunFault>, Memory>
-    ensures { IfOk result (λ fault. fault ≡ held_fault (of_one_worker run.now.declared.now run.now.seen.now run.now.plan.now.actions) (reverse past.now) action outcome.now) }
+    ensures { IfOk result (λ fault. fault ≡ held_fault (setup_of run.now) (reverse past.now) action outcome.now) }
 {
     if ended_well(run.plan, action, outcome) {
         return Ok(None);
@@ -170,7 +171,7 @@ fn exchange_fault(
     action: u32,
     outcome: &Outcome,
 ) -> Result<RunFault, Memory>
-    ensures { IfOk result (λ fault. fault ≡ exchange_fault (request_held (of_one_worker run.now.declared.now run.now.seen.now run.now.plan.now.actions) (reverse past.now) action) outcome.now) }
+    ensures { IfOk result (λ fault. fault ≡ exchange_fault (request_held (setup_of run.now) (reverse past.now) action) outcome.now) }
 {
     match outcome {
         Outcome::Memory => Ok(RunFault::Memory),
@@ -187,7 +188,7 @@ fn request_fault(
     action: u32,
     outcome: &Outcome,
 ) -> Result<RunFault, Memory>
-    ensures { IfOk result (λ fault. fault ≡ RunFault.Request (request_held (of_one_worker run.now.declared.now run.now.seen.now run.now.plan.now.actions) (reverse past.now) action) outcome.now) }
+    ensures { IfOk result (λ fault. fault ≡ RunFault.Request (request_held (setup_of run.now) (reverse past.now) action) outcome.now) }
 {
     let request = request_held(alloc, run, past, action)?;
     Ok(RunFault::Request {
@@ -203,7 +204,7 @@ fn request_held(
     past: &[Entry],
     action: u32,
 ) -> Result<Request, Memory>
-    ensures { IfOk result (λ request. request ≡ request_held (of_one_worker run.now.declared.now run.now.seen.now run.now.plan.now.actions) (reverse past.now) action) }
+    ensures { IfOk result (λ request. request ≡ request_held (setup_of run.now) (reverse past.now) action) }
 {
     match asked(alloc, run, past, action)? {
         Some(request) => Ok(request),

@@ -1,72 +1,47 @@
-//! The ids of containers and networks, as they were seen or told.
+//! The ids of containers and networks that entries told.
 
-ghost use Rattle.std.specs.Prelude.{◌≡◌, IfOk, Some, find, if◌then◌else◌, option_and_then, option_map, reverse};
+ghost use Rattle.std.specs.Prelude.{◌≡◌, Some, if◌then◌else◌, reverse};
 ghost use Rattle.std.specs.Option.{option_copied};
-ghost use Rattle.std.specs.Str.{bytes_eq};
 ghost use Rattle.run_model.specs.Journals.{Badly, Well, ended_as, holding, is_good, is_work_on, standing};
-ghost use Rattle.run_model.specs.Plans.{create_of, kind_of};
-ghost use Rattle.run_model.specs.Requests.{made_id, network_id, slot_id};
-ghost use Rattle.run_report.specs.Permits.{of_one_worker};
+ghost use Rattle.run_model.specs.Plans.{kind_of};
+ghost use Rattle.run_model.specs.Requests.{made_id};
 ghost use Rattle.run_report.specs.Telling.{decides, standing_by};
+ghost use Rattle.run_requests.specs.Asking.{ids_of};
+ghost use Rattle.run_requests.specs.Setups.{setup_of};
 
 use crate::actions::{create_of, kind_of, make_of};
 use crate::held::{earlier, held};
-use crate::run::Run;
-use engine_types::{ActionKind, Entry, Outcome, Plan, Reply, Seen};
-use run_lookups::{is_good, kept_of};
-use std::alloc::Global;
-use tree_base::{Memory, Text};
+use engine_types::{ActionKind, Entry, Outcome, Plan, Reply};
+use run_lookups::is_good;
+use run_requests::{Run, ToldIds};
+use tree_base::Text;
 
-/// The id of a slot's container after these entries: that of the kept one, else what its create was told.
-pub(crate) fn slot_id<'a>(
-    alloc: Global,
-    run: &Run<'a>,
-    past: &'a [Entry],
-    slot: u32,
-) -> Result<Option<&'a Text>, Memory>
-    ensures { IfOk result (λ id. option_copied id ≡ slot_id (of_one_worker run.now.declared.now run.now.seen.now run.now.plan.now.actions) (reverse past.now) slot) }
-{
-    let Some(row) = run.declared.slots.get(slot as usize) else {
-        return Ok(created_id(run, past, slot));
-    };
-    match kept_of(alloc, run.declared, run.seen, row)? {
-        Some(row) => Ok(Some(&row.id)),
-        None => Ok(created_id(run, past, slot)),
+/// What entries of a run's journal told.
+#[derive(Clone, Copy)]
+pub(crate) struct Past<'a> {
+    pub(crate) run: &'a Run<'a>,
+    pub(crate) entries: &'a [Entry],
+}
+
+impl ToldIds for Past<'_> {
+    ghost ids = { λ past. ids_of (setup_of past.run.now) (reverse past.entries.now) };
+
+    fn creator(&self, slot: u32) -> Option<usize> {
+        create_of(self.run.plan, slot)
     }
-}
 
-/// What the create of a slot's container was told.
-fn created_id<'a>(run: &Run<'_>, past: &'a [Entry], slot: u32) -> Option<&'a Text>
-    ensures { option_copied result ≡ option_and_then (λ a. made_id (standing (of_one_worker run.now.declared.now run.now.seen.now run.now.plan.now.actions) (reverse past.now) a)) (create_of run.now.plan.now.actions slot) }
-{
-    let create = create_of(run.plan, slot)?;
-    told_id(run, past, create)
-}
-
-/// The id of a declared network after these entries: what its make was told, else the one that was seen.
-pub(crate) fn network_id<'a>(run: &Run<'a>, past: &'a [Entry], network: u32) -> Option<&'a Text>
-    ensures { option_copied result ≡ network_id (of_one_worker run.now.declared.now run.now.seen.now run.now.plan.now.actions) (reverse past.now) network }
-{
-    match make_of(run.plan, network) {
-        Some(make) => told_id(run, past, make),
-        None => seen_network_id(run.seen, &run.declared.networks.get(network as usize)?.name),
+    fn maker(&self, network: u32) -> Option<usize> {
+        make_of(self.run.plan, network)
     }
-}
 
-fn seen_network_id<'a>(seen: &'a Seen, name: &Text) -> Option<&'a Text>
-    ensures { option_copied result ≡ option_map (λ row. row.id) (find (λ row. bytes_eq row.name name.now) seen.now.networks) }
-{
-    let row = seen
-        .networks
-        .as_slice()
-        .iter()
-        .find(|row| row.name == *name)?;
-    Some(&row.id)
+    fn told(&self, action: usize) -> Option<&Text> {
+        told_id(self.run, self.entries, action)
+    }
 }
 
 /// The id that an action was told: by the latest entry that says how it stands.
 fn told_id<'a>(run: &Run<'_>, past: &'a [Entry], action: usize) -> Option<&'a Text>
-    ensures { option_copied result ≡ made_id (standing (of_one_worker run.now.declared.now run.now.seen.now run.now.plan.now.actions) (reverse past.now) action) }
+    ensures { option_copied result ≡ made_id (standing (setup_of run.now) (reverse past.now) action) }
 {
     let mut at = past.len();
     while at > 0 {

@@ -1,5 +1,5 @@
-//! What a journal tells of the end of a run of one worker that waits for no goal: the report, and the fault of
-//! the first entry that fails.
+//! What a journal tells of the end of a run that waits for no goal: the report, and the fault of the first entry that
+//! fails.
 //!
 //! Contracts say each exactly, by the definitions of `run_model` on the journal.
 #![tactic(auto)]
@@ -11,10 +11,7 @@ mod held;
 mod ids;
 mod lines;
 mod reporting;
-mod run;
-mod stopping;
 mod well;
 
 pub use faults::fault;
 pub use reporting::report;
-pub use run::Run;

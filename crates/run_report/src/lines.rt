@@ -3,16 +3,16 @@ ghost use Rattle.engine_types.specs.declared.ActionKind.{ActionKind};
 ghost use Rattle.run_model.specs.Ending.{slot_name};
 ghost use Rattle.run_model.specs.Lines.{attached_network, container_name, declared_network, declared_volume, done_words, line};
 ghost use Rattle.run_model.specs.Plans.{network_name};
-ghost use Rattle.run_report.specs.Permits.{of_one_worker};
+ghost use Rattle.run_requests.specs.Setups.{setup_of};
 
-use crate::run::Run;
 use engine_types::{ActionKind, Attach, Declared};
+use run_requests::Run;
 use std::alloc::Global;
 use tree_base::{Memory, Text};
 
 /// The line of an action that ended well.
 pub(crate) fn done_line(alloc: Global, run: &Run<'_>, kind: ActionKind) -> Result<Text, Memory>
-    ensures { IfOk result (λ text. text ≡ line (done_words (of_one_worker run.now.declared.now run.now.seen.now run.now.plan.now.actions) kind)) }
+    ensures { IfOk result (λ text. text ≡ line (done_words (setup_of run.now) kind)) }
 {
     match kind {
         ActionKind::MakeVolume { volume } => volume_line(alloc, run, volume, " created"),
@@ -29,27 +29,27 @@ pub(crate) fn done_line(alloc: Global, run: &Run<'_>, kind: ActionKind) -> Resul
 }
 
 fn volume_line(alloc: Global, run: &Run<'_>, volume: u32, done: &str) -> Result<Text, Memory>
-    ensures { IfOk result (λ text. text ≡ line (codes "volume " ++ declared_volume (of_one_worker run.now.declared.now run.now.seen.now run.now.plan.now.actions) volume ++ done.now)) }
+    ensures { IfOk result (λ text. text ≡ line (codes "volume " ++ declared_volume (setup_of run.now) volume ++ done.now)) }
 {
     said(alloc, "volume ", volume_name(run, volume), done)
 }
 
 fn network_line(alloc: Global, run: &Run<'_>, network: u32, done: &str) -> Result<Text, Memory>
-    ensures { IfOk result (λ text. text ≡ line (codes "network " ++ declared_network (of_one_worker run.now.declared.now run.now.seen.now run.now.plan.now.actions) network ++ done.now)) }
+    ensures { IfOk result (λ text. text ≡ line (codes "network " ++ declared_network (setup_of run.now) network ++ done.now)) }
 {
     said(alloc, "network ", network_name(run, network), done)
 }
 
 /// The line of a container that was seen.
 fn seen_line(alloc: Global, run: &Run<'_>, container: u64, done: &str) -> Result<Text, Memory>
-    ensures { IfOk result (λ text. text ≡ line (codes "container " ++ container_name (of_one_worker run.now.declared.now run.now.seen.now run.now.plan.now.actions) container ++ done.now)) }
+    ensures { IfOk result (λ text. text ≡ line (codes "container " ++ container_name (setup_of run.now) container ++ done.now)) }
 {
     said(alloc, "container ", container_name(run, container), done)
 }
 
 /// The line of a slot's container.
 fn slot_line(alloc: Global, run: &Run<'_>, slot: u32, done: &str) -> Result<Text, Memory>
-    ensures { IfOk result (λ text. text ≡ line (codes "container " ++ slot_name (of_one_worker run.now.declared.now run.now.seen.now run.now.plan.now.actions) slot ++ done.now)) }
+    ensures { IfOk result (λ text. text ≡ line (codes "container " ++ slot_name (setup_of run.now) slot ++ done.now)) }
 {
     said(alloc, "container ", slot_name(run, slot), done)
 }
@@ -63,7 +63,7 @@ fn said(alloc: Global, thing: &str, name: &str, done: &str) -> Result<Text, Memo
 }
 
 fn connected(alloc: Global, run: &Run<'_>, slot: u32, attach: u32) -> Result<Text, Memory>
-    ensures { IfOk result (λ text. text ≡ line (done_words (of_one_worker run.now.declared.now run.now.seen.now run.now.plan.now.actions) (ActionKind.ConnectSlot slot attach))) }
+    ensures { IfOk result (λ text. text ≡ line (done_words (setup_of run.now) (ActionKind.ConnectSlot slot attach))) }
 {
     let container = slot_name(run, slot);
     let network = attached_network(run, slot, attach);
@@ -72,7 +72,7 @@ fn connected(alloc: Global, run: &Run<'_>, slot: u32, attach: u32) -> Result<Tex
 }
 
 fn container_name<'a>(run: &Run<'a>, container: u64) -> &'a str
-    ensures { result.now ≡ container_name (of_one_worker run.now.declared.now run.now.seen.now run.now.plan.now.actions) container }
+    ensures { result.now ≡ container_name (setup_of run.now) container }
 {
     match run.seen.containers.get(container as usize) {
         Some(row) => row.name.as_str(),
@@ -81,7 +81,7 @@ fn container_name<'a>(run: &Run<'a>, container: u64) -> &'a str
 }
 
 fn slot_name<'a>(run: &Run<'a>, slot: u32) -> &'a str
-    ensures { result.now ≡ slot_name (of_one_worker run.now.declared.now run.now.seen.now run.now.plan.now.actions) slot }
+    ensures { result.now ≡ slot_name (setup_of run.now) slot }
 {
     match run.declared.slots.get(slot as usize) {
         Some(slot) => slot.name.as_str(),
@@ -90,7 +90,7 @@ fn slot_name<'a>(run: &Run<'a>, slot: u32) -> &'a str
 }
 
 fn network_name<'a>(run: &Run<'a>, network: u32) -> &'a str
-    ensures { result.now ≡ declared_network (of_one_worker run.now.declared.now run.now.seen.now run.now.plan.now.actions) network }
+    ensures { result.now ≡ declared_network (setup_of run.now) network }
 {
     match run.declared.networks.get(network as usize) {
         Some(network) => network.name.as_str(),
@@ -99,7 +99,7 @@ fn network_name<'a>(run: &Run<'a>, network: u32) -> &'a str
 }
 
 fn volume_name<'a>(run: &Run<'a>, volume: u32) -> &'a str
-    ensures { result.now ≡ declared_volume (of_one_worker run.now.declared.now run.now.seen.now run.now.plan.now.actions) volume }
+    ensures { result.now ≡ declared_volume (setup_of run.now) volume }
 {
     match run.declared.volumes.get(volume as usize) {
         Some(volume) => volume.name.as_str(),
@@ -109,7 +109,7 @@ fn volume_name<'a>(run: &Run<'a>, volume: u32) -> &'a str
 
 /// The name of the network that a slot's attach joins.
 fn attached_network<'a>(run: &Run<'a>, slot: u32, attach: u32) -> &'a str
-    ensures { result.now ≡ attached_network (of_one_worker run.now.declared.now run.now.seen.now run.now.plan.now.actions) slot attach }
+    ensures { result.now ≡ attached_network (setup_of run.now) slot attach }
 {
     match run.declared.slots.get(slot as usize) {
         Some(slot) => match slot.attach.get(attach as usize) {

@@ -1,22 +1,22 @@
 ghost use Rattle.std.specs.Prelude.{◌≡◌, ◌+◌, ◌<◌, ◌++◌, [], Some, IfOk, OnOk, length, reverse, take, if◌then◌else◌};
 ghost use Rattle.run_model.specs.Journals.{Work, ended_as, holding, is_well};
 ghost use Rattle.run_model.specs.Lines.{done_words, ended_line, line, report_text};
-ghost use Rattle.run_report.specs.Permits.{of_one_worker};
+ghost use Rattle.run_requests.specs.Setups.{setup_of};
 ghost use Rattle.run_report.specs.Reports.{entry_line};
 
 use crate::actions::kind_of;
 use crate::held::{earlier, held};
 use crate::lines::done_line;
-use crate::run::Run;
 use crate::well::is_well;
 use engine_types::{ActionKind, Entry, Outcome};
+use run_requests::Run;
 use std::alloc::Global;
 use tree_base::{Memory, Text};
 
 /// A run's report, by its journal from the oldest entry on: a line for each action that ended well, in the order
 /// of their ends.
 pub fn report(alloc: Global, run: &Run<'_>, journal: &[Entry]) -> Result<Text, Memory>
-    ensures { IfOk result (λ text. text ≡ report_text (of_one_worker run.now.declared.now run.now.seen.now run.now.plan.now.actions) (reverse journal.now)) }
+    ensures { IfOk result (λ text. text ≡ report_text (setup_of run.now) (reverse journal.now)) }
 {
     let mut text = Text::new(alloc);
     for at in 0..journal.len() {
@@ -34,8 +34,8 @@ fn push_at(
     at: usize,
 ) -> Result<(), Memory>
     requires { at < length journal.now }
-    ensures { OnOk result (text.old ≡ report_text (of_one_worker run.now.declared.now run.now.seen.now run.now.plan.now.actions) (reverse (take at journal.now))
-        → text.new ≡ report_text (of_one_worker run.now.declared.now run.now.seen.now run.now.plan.now.actions) (reverse (take (at + 1) journal.now))) }
+    ensures { OnOk result (text.old ≡ report_text (setup_of run.now) (reverse (take at journal.now))
+        → text.new ≡ report_text (setup_of run.now) (reverse (take (at + 1) journal.now))) }
 {
     push_entry(alloc, text, run, earlier(journal, at), &journal[at])
 }
@@ -48,14 +48,14 @@ fn push_entry(
     past: &[Entry],
     entry: &Entry,
 ) -> Result<(), Memory>
-    ensures { OnOk result (text.new ≡ text.old ++ entry_line (of_one_worker run.now.declared.now run.now.seen.now run.now.plan.now.actions) (reverse past.now) entry.now) }
+    ensures { OnOk result (text.new ≡ text.old ++ entry_line (setup_of run.now) (reverse past.now) entry.now) }
 {
     let line = entry_line(alloc, run, past, entry)?;
     text.push_str(line.as_str())
 }
 
 fn entry_line(alloc: Global, run: &Run<'_>, past: &[Entry], entry: &Entry) -> Result<Text, Memory>
-    ensures { IfOk result (λ text. text ≡ entry_line (of_one_worker run.now.declared.now run.now.seen.now run.now.plan.now.actions) (reverse past.now) entry.now) }
+    ensures { IfOk result (λ text. text ≡ entry_line (setup_of run.now) (reverse past.now) entry.now) }
 {
     match entry {
         Entry::Ended { worker, outcome } => end_line(alloc, run, past, *worker, outcome),
@@ -78,7 +78,7 @@ fn end_line(
     worker: u32,
     outcome: &Outcome,
 ) -> Result<Text, Memory>
-    ensures { IfOk result (λ text. text ≡ ended_line (of_one_worker run.now.declared.now run.now.seen.now run.now.plan.now.actions) outcome.now (holding (reverse past.now) worker)) }
+    ensures { IfOk result (λ text. text ≡ ended_line (setup_of run.now) outcome.now (holding (reverse past.now) worker)) }
 {
     match held(past, worker) {
         Some(action) => ended_line(alloc, run, action, outcome),
@@ -88,7 +88,7 @@ fn end_line(
 
 /// The line of an action's end: there is one where it ended well.
 fn ended_line(alloc: Global, run: &Run<'_>, action: u32, outcome: &Outcome) -> Result<Text, Memory>
-    ensures { IfOk result (λ text. text ≡ ended_line (of_one_worker run.now.declared.now run.now.seen.now run.now.plan.now.actions) outcome.now (Work action)) }
+    ensures { IfOk result (λ text. text ≡ ended_line (setup_of run.now) outcome.now (Work action)) }
 {
     match kind_of(run.plan, action as usize) {
         Some(kind) => line_of(alloc, run, kind, outcome),
@@ -102,7 +102,7 @@ fn line_of(
     kind: ActionKind,
     outcome: &Outcome,
 ) -> Result<Text, Memory>
-    ensures { IfOk result (λ text. text ≡ (if is_well (ended_as (Some kind) outcome.now) then line (done_words (of_one_worker run.now.declared.now run.now.seen.now run.now.plan.now.actions) kind) else [])) }
+    ensures { IfOk result (λ text. text ≡ (if is_well (ended_as (Some kind) outcome.now) then line (done_words (setup_of run.now) kind) else [])) }
 {
     if is_well(kind, outcome) {
         done_line(alloc, run, kind)

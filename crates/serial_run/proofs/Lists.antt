@@ -60,14 +60,6 @@ find_number p i (suc n) k l m t each = on (cases_eq k i) (λ h. find_number p (i
     on (inl s) rec = let h : p i ≡ true = rw (← s) t in rw (h, s) refl
     on (inr d) rec = rw (each i (omega arith) (omega (arith, d))) (rec (omega (arith, d)))
 
-pub find_passes : {X : Type 0} (p : X → Bool) (xs : List X) (x : X) → find p xs ≡ Some x → (p x ≡ true) × Among xs x
-find_passes p [] x e = absurd (cc e)
-find_passes {X} p (y ∷ ys) x e = at (p y) refl e (find_passes p ys x)
-  where
-    at : (t : Bool) → p y ≡ t → cond t (Some y) (find p ys) ≡ Some x → (find p ys ≡ Some x → (p x ≡ true) × Among ys x) → (p x ≡ true) × Among (y ∷ ys) x
-    at true h f rest = let same : y ≡ x = cc f in (rw (← same) h, inl (sym same))
-    at false h f rest = let r = rest f in (r.0, inr r.1)
-
 -- what passes the first test passes the second: so the search needs only those that pass the second
 pub find_filter : {X : Type 0} (p q : X → Bool) (xs : List X) → ((x : X) → p x ≡ true → q x ≡ true) → find p (filter q xs) ≡ find p xs
 find_filter p q [] sub = refl
@@ -105,9 +97,3 @@ get_pushed (z ∷ zs) x (suc i) y e = at (get_pushed zs x i y e)
     at : (slice_get zs i ≡ Some y) ⊎ ((i ≡ length zs) × (y ≡ x)) → (slice_get zs i ≡ Some y) ⊎ ((suc i ≡ length (z ∷ zs)) × (y ≡ x))
     at (inl h) = inl h
     at (inr h) = inr (omega (arith, h.0), h.1)
-
--- there is an element at each place below the length
-pub some_below : {X : Type 0} (xs : List X) (i : ℕ) → i < length xs → (x : X) × (slice_get xs i ≡ Some x)
-some_below [] i l = absurd (omega arith)
-some_below (x ∷ xs) zero l = (x, refl)
-some_below (x ∷ xs) (suc i) l = some_below xs i (omega arith)

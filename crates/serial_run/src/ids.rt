@@ -1,85 +1,52 @@
-ghost use Rattle.std.specs.Prelude.{◌≡◌, IfOk, Some, find, option_and_then, option_map, slice_get};
+ghost use Rattle.std.specs.Prelude.{◌≡◌, Some, slice_get};
 ghost use Rattle.std.specs.Option.{option_copied};
-ghost use Rattle.std.specs.Str.{bytes_eq};
 ghost use Rattle.run_model.specs.Plans.{is_create_of, is_make_of, kind_of};
-ghost use Rattle.serial_run.specs.Asking.{course, create_in, id_in, id_of, make_in, network_id_by, slot_id_by, told_id};
+ghost use Rattle.serial_run.specs.Asking.{create_in, id_in, id_of, make_in, marked_ids, told_id};
 
 use crate::mark::Mark;
-use engine_types::{Action, ActionKind, Declared, Entry, Outcome, Plan, Reply, Seen};
-use run_lookups::kept_of;
-use std::alloc::Global;
-use tree_base::{Memory, Text};
+use engine_types::{Action, ActionKind, Entry, Outcome, Plan, Reply};
+use run_requests::ToldIds;
+use tree_base::Text;
 
-/// The id of a slot's container, for an action with these needs: that of the kept one, or what its create was told.
-pub(crate) fn slot_id<'a>(
-    alloc: Global,
-    declared: &Declared,
-    seen: &'a Seen,
-    plan: &Plan,
-    marks: &[Mark],
-    journal: &'a [Entry],
-    needs: &[u32],
-    slot: u32,
-) -> Result<Option<&'a Text>, Memory>
-    ensures { IfOk result (λ id. option_copied id ≡ slot_id_by (course declared.now seen.now plan.now.actions marks.now journal.now) needs.now slot) }
-{
-    let Some(row) = declared.slots.get(slot as usize) else {
-        return Ok(created_id(plan, marks, journal, needs, slot));
-    };
-    match kept_of(alloc, declared, seen, row)? {
-        Some(row) => Ok(Some(&row.id)),
-        None => Ok(created_id(plan, marks, journal, needs, slot)),
+/// What is told to an action: the creates and makes that it asks for are among those that it needs, and each of these was
+/// told by the entry of its mark.
+#[derive(Clone, Copy)]
+pub(crate) struct MarkedIds<'a> {
+    pub(crate) plan: &'a Plan,
+    pub(crate) action: &'a Action,
+    pub(crate) marks: &'a [Mark],
+    pub(crate) journal: &'a [Entry],
+}
+
+impl ToldIds for MarkedIds<'_> {
+    ghost ids = { λ told. marked_ids told.plan.now.actions told.action.now.needs told.marks.now told.journal.now };
+
+    fn creator(&self, slot: u32) -> Option<usize> {
+        create_in(
+            self.plan.actions.as_slice(),
+            self.action.needs.as_slice(),
+            slot,
+        )
     }
-}
 
-/// What the create of a slot was told.
-fn created_id<'a>(
-    plan: &Plan,
-    marks: &[Mark],
-    journal: &'a [Entry],
-    needs: &[u32],
-    slot: u32,
-) -> Option<&'a Text>
-    ensures { option_copied result ≡ option_and_then (λ b. told_id journal.now (slice_get marks.now b)) (create_in plan.now.actions needs.now slot) }
-{
-    let create = create_in(plan.actions.as_slice(), needs, slot)?;
-    told_id(marks, journal, create)
-}
-
-/// The id of a declared network, for an action with these needs: what its make was told, or the one that was seen.
-pub(crate) fn network_id<'a>(
-    declared: &Declared,
-    seen: &'a Seen,
-    plan: &Plan,
-    marks: &[Mark],
-    journal: &'a [Entry],
-    needs: &[u32],
-    network: u32,
-) -> Option<&'a Text>
-    ensures { option_copied result ≡ network_id_by (course declared.now seen.now plan.now.actions marks.now journal.now) needs.now network }
-{
-    match make_in(plan.actions.as_slice(), needs, network) {
-        Some(make) => told_id(marks, journal, make),
-        None => seen_network_id(seen, &declared.networks.get(network as usize)?.name),
+    fn maker(&self, network: u32) -> Option<usize> {
+        make_in(
+            self.plan.actions.as_slice(),
+            self.action.needs.as_slice(),
+            network,
+        )
     }
-}
 
-fn seen_network_id<'a>(seen: &'a Seen, name: &Text) -> Option<&'a Text>
-    ensures { option_copied result ≡ option_map (λ row. row.id) (find (λ row. bytes_eq row.name name.now) seen.now.networks) }
-{
-    let row = seen
-        .networks
-        .as_slice()
-        .iter()
-        .find(|row| row.name == *name)?;
-    Some(&row.id)
+    fn told(&self, action: usize) -> Option<&Text> {
+        told_id(self.marks, self.journal, action)
+    }
 }
 
 /// The id that an action was told, by the entry of its mark.
-fn told_id<'a>(marks: &[Mark], journal: &'a [Entry], action: u32) -> Option<&'a Text>
+fn told_id<'a>(marks: &[Mark], journal: &'a [Entry], action: usize) -> Option<&'a Text>
     ensures { option_copied result ≡ told_id journal.now (slice_get marks.now action) }
 {
-    match marks.get(action as usize) {
+    match marks.get(action) {
         Some(Mark::Well(at)) => match journal.get(*at) {
             Some(entry) => id_in(entry),
             None => None,
@@ -109,13 +76,14 @@ fn id_of(outcome: &Outcome) -> Option<&Text>
     }
 }
 
-fn create_in(actions: &[Action], needs: &[u32], slot: u32) -> Option<u32>
+fn create_in(actions: &[Action], needs: &[u32], slot: u32) -> Option<usize>
     ensures { result ≡ create_in actions.now needs.now slot }
 {
-    needs
+    let create = needs
         .iter()
         .copied()
-        .find(|need| is_create_of(actions, *need, slot))
+        .find(|need| is_create_of(actions, *need, slot))?;
+    Some(create as usize)
 }
 
 fn is_create_of(actions: &[Action], action: u32, slot: u32) -> bool
@@ -127,13 +95,14 @@ fn is_create_of(actions: &[Action], action: u32, slot: u32) -> bool
     }
 }
 
-fn make_in(actions: &[Action], needs: &[u32], network: u32) -> Option<u32>
+fn make_in(actions: &[Action], needs: &[u32], network: u32) -> Option<usize>
     ensures { result ≡ make_in actions.now needs.now network }
 {
-    needs
+    let make = needs
         .iter()
         .copied()
-        .find(|need| is_make_of(actions, *need, network))
+        .find(|need| is_make_of(actions, *need, network))?;
+    Some(make as usize)
 }
 
 fn is_make_of(actions: &[Action], action: u32, network: u32) -> bool

@@ -30,9 +30,9 @@ use Rattle.run_model.proofs.DistinctLists.{among_by_key, among_filter, at_place}
 use Rattle.run_model.proofs.KeptLaws.{any_of_list}
 use Rattle.run_model.proofs.LegalLaws.{found_passes}
 use Rattle.run_model.proofs.PlanLaws.{some_from}
+use Rattle.run_requests.proofs.Searches.{find_passes, find_some, first_none, none_first}
 use Rattle.world_laws.specs.Laws.{GoneInEachWorld}
 use Rattle.world_laws.proofs.ActionRequests.{map_from}
-use Rattle.world_laws.proofs.Asked.{find_passes, find_some, first_none, none_first}
 use Rattle.world_laws.proofs.Effects.{each_has_effect}
 use Rattle.world_laws.proofs.Finished.{IsEnded, basis_of}
 use Rattle.world_laws.proofs.Held.{effects}

@@ -23,10 +23,10 @@ use Rattle.run_model.specs.Worlds.{Did, Move, Took, entries_of}
 use Rattle.run_model.proofs.LegalLaws.{found_passes}
 use Rattle.run_model.proofs.RequestLemmas.{same_text}
 use Rattle.run_model.proofs.RollLaws.{carries}
+use Rattle.run_requests.proofs.Replies.{finds_make}
 use Rattle.world_laws.specs.Sights.{IsSightOf}
 use Rattle.world_laws.proofs.ActionRequests.{of_kind}
 use Rattle.world_laws.proofs.Along.{IsCarried, IsEffect, carried_along}
-use Rattle.world_laws.proofs.Asked.{finds_make}
 use Rattle.world_laws.proofs.Effects.{effect_new}
 use Rattle.world_laws.proofs.Finished.{IsUnderWay, basis_of}
 use Rattle.world_laws.proofs.Held.{effects}

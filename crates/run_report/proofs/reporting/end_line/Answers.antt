@@ -2,7 +2,7 @@
 use Rattle.std.proofs.Common.{◌≡◌, ◌∙◌, sym}
 use Rattle.std.specs.Prelude.{reverse}
 use Rattle.run_model.specs.Journals.{Work, holding}
-use Rattle.run_report.specs.Permits.{of_one_worker}
+use Rattle.run_requests.specs.Setups.{setup_of}
 use Rattle.run_report.proofs.Holdings.{holds_work}
 use Rattle.run_report.proofs.ReportLines.{no_line}
 use Rattle.run_report.proofs.reporting.end_line.Goals as goal
@@ -16,5 +16,5 @@ pub returns-in-None : goal.returns-in-None
 returns-in-None c =
     let run = c.args.run.now in
     c.new.ensures
-    ∙ no_line (of_one_worker run.declared.now run.seen.now run.plan.now.actions) c.args.outcome.now
+    ∙ no_line (setup_of run) c.args.outcome.now
     (holding (reverse c.args.past.now) c.args.worker) (sym c.in-None.ensures)

@@ -1,10 +1,10 @@
 -- The entry at the place adds its line.
-use Rattle.run_report.specs.Permits.{of_one_worker}
+use Rattle.run_requests.specs.Setups.{setup_of}
 use Rattle.run_report.proofs.ReportLines.{report_step}
 use Rattle.run_report.proofs.reporting.push_at.Goals as goal
 
 pub returns : goal.returns
 returns c =
     let run = c.args.run.now in
-    report_step (of_one_worker run.declared.now run.seen.now run.plan.now.actions) c.args.journal.now _ c.args.at c.index-journal-at.result _ _ _
+    report_step (setup_of run) c.args.journal.now _ c.args.at c.index-journal-at.result _ _ _
     c.earlier.ensures c.requires c.index-journal-at.is c.push_entry.ensures

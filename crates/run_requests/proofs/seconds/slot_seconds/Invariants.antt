@@ -1,7 +1,7 @@
 use Rattle.std.proofs.Common.{◌≡◌, drop}
 use Rattle.std.specs.Prelude.{find}
 use Rattle.run_model.specs.Labels.{names_slot}
-use Rattle.run_report.proofs.stopping.stop_seconds.Given as goal
+use Rattle.run_requests.proofs.seconds.slot_seconds.Given as goal
 
 -- the slot that is named first is among those that are left
 abbrev pub invariant-loop-slot : goal.invariant-loop-slot

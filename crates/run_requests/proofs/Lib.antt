@@ -1,0 +1,4 @@
+pub mod Searches
+pub mod Replies
+pub mod Journals
+pub mod Known
