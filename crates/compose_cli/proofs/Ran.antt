@@ -1,23 +1,20 @@
 -- What a call leaves, by what its run left.
 use Rattle.std.proofs.Common.{◌≡◌, ◌⊎◌, ℕ, zero, suc, ◌<◌, ◌≤◌, Bool, true, false, List, [], ◌∷◌, ◌++◌, Option, Some, None, length, take, refl, sym, ap, ◌∙◌, subst, inl, inr, arith, append-nil}
-use Rattle.std.specs.Prelude.{IfSome, IsSome, IsSomeAnd, Ok, if◌then◌else◌, option_map, slice_get}
+use Rattle.std.specs.Prelude.{IfSome, IsSomeAnd, Ok, if◌then◌else◌, option_map, slice_get}
 use Rattle.std.specs.Option.{option_map_or}
 use Rattle.engine_types.specs.declared.Engine.{Engine}
-use Rattle.engine_types.specs.declared.Outcome.{Outcome}
 use Rattle.engine_types.specs.declared.RunFault.{RunFault}
-use Rattle.engine_types.specs.declared.SeenEnd.{SeenEnd}
-use Rattle.engine_types.specs.declared.SeenFault.{SeenFault}
-use Rattle.compose_cli.specs.Runs.{ForTask, HoldsExactly, HoldsNone, IsRefusalOf, IsStatusOf, IsUnbegun, LeadsOn, Reports, RunsTask, aim_for, run_options, task_for}
+use Rattle.compose_cli.specs.Runs.{ForTask, HoldsExactly, HoldsNone, IsCausedAnew, IsRefusalOf, IsStatusOf, IsUnbegun, LeadsOn, Reports, RunsTask, aim_for, run_options, task_for}
 use Rattle.engine_types.specs.declared.Entry.{Entry}
 use Rattle.engine_types.specs.declared.Exchange.{Exchange}
-use Rattle.observe_project.specs.Exchanges.{HasCauseOfEnd, HasCauseOfFault}
 use Rattle.compose_config.proofs.Loads.{for_project}
 use Rattle.plain_services.specs.Commands.{command_of}
 use Rattle.plain_services.specs.Loading.{IsSpelled, LoadsAs, loaded}
 use Rattle.service_attrs.specs.declared.Project.{Project}
 use Rattle.outside_files.specs.Counts.{Rose}
 use Rattle.outside_files.specs.Files.{Contents}
-use Rattle.outside_api.specs.Hands.{BeginsWith, HasCause, Heard, HearsMore}
+use Rattle.outside_api.specs.Accounts.{Account, account}
+use Rattle.outside_api.specs.Hands.{BeginsWith, Heard, HeardNothing}
 use Rattle.outside_files.specs.Sinks.{GrewBy}
 use Rattle.project_run.specs.Whole.{IfBegun, IsCaused, IsFault, IsReport, SparesKept}
 use Rattle.project_run.specs.Worlds.{EndsExact, EndsGone, GoesThrough}
@@ -153,33 +150,15 @@ status_by (Some fault) old new refusal status (inl r) e = inl (e ∙ (ap status_
 status_by fault old new refusal status (inr (inl r)) e = inr (inl (ap (λ (f : Option RunFault). option_map_or fault_status f 0) r.0, e ∙ ap status_of r.1))
 status_by fault old new refusal status (inr (inr r)) e = inr (inr (e ∙ ap status_of r))
 
--- a cause by what was heard before is one by what is heard now
-some_after : (h g : Option (List Heard)) → HearsMore h g → IsSome h → IsSome g
-some_after None g more s = absurd (cc s)
-some_after (Some items) None more s = absurd more
-some_after (Some items) (Some now) more s = refl
-
-cause_now : (h g : Option (List Heard)) (old new : ℕ) (outcome : Outcome) → HearsMore h g → HasCause h old new outcome → HasCause g old new outcome
-cause_now h g old new (Outcome.Answered reply) more c = tt
-cause_now h g old new (Outcome.Lost why) more (inl r) = inl r
-cause_now h g old new (Outcome.Lost why) more (inr s) = inr (some_after h g more s)
-cause_now h g old new Outcome.NotSent more r = r
-cause_now h g old new Outcome.Memory more c = tt
-
-fault_now : (h g : Option (List Heard)) (old new : ℕ) (fault : SeenFault) → HearsMore h g → HasCauseOfFault h old new fault → HasCauseOfFault g old new fault
-fault_now h g old new (SeenFault.Lost request cause) more c = cause_now h g old new (Outcome.Lost cause) more c
-fault_now h g old new (SeenFault.NotSent request) more c = cause_now h g old new Outcome.NotSent more c
-fault_now h g old new _ more c = tt
-
-end_now : (h g : Option (List Heard)) (old new : ℕ) (end : SeenEnd) → HearsMore h g → HasCauseOfEnd h old new end → HasCauseOfEnd g old new end
-end_now h g old new (SeenEnd.Good seen) more c = tt
-end_now h g old new (SeenEnd.Bad fault) more c = fault_now h g old new fault more c
-
-pub caused_now : (journal : List Entry) (w : ℕ) (h g : Option (List Heard)) (old new : ℕ) → HearsMore h g → IsCaused journal w h old new → IsCaused journal w g old new
-caused_now journal w h g old new more is = record {
-  observed = λ first observation e. end_now h g old new observation.end more (is.observed first observation e);
-  ended = λ outcome m. cause_now h g old new outcome more (is.ended outcome m);
-}
+-- the cause of each exchange, with a hand whose log was empty and which counted no fault
+caused_anew : (task : Task) (journal : List Entry) (w : ℕ) (log : List Exchange) (heard : Option (List Heard)) (faults : ℕ) (now : Account) → log ≡ [] → HeardNothing heard → faults ≡ 0
+    → IsCaused task journal w (account log heard faults) now → IsCausedAnew task journal w now
+caused_anew task journal w log heard faults now unused unheard faultless is = (
+  heard,
+  unheard,
+  subst (λ (n : ℕ). IsCaused task journal w (account [] heard n) now) faultless
+      (subst (λ (l : List Exchange). IsCaused task journal w (account l heard faults) now) unused is),
+)
 
 among_one : {X : Type 0} (xs : List X) (x y : X) → xs ≡ x ∷ [] → Among xs y → y ≡ x
 among_one xs x y e m = at (subst (λ (l : List _). Among l y) e m)
@@ -219,11 +198,11 @@ went_well fault old new refusal found r h e = unrefused fault old new refusal r 
 pub runs_task : {H : Type 0} (log : H → List Exchange) (heard : H → Option (List Heard)) (faults : H → ℕ) (task : Task) (journal : List Entry) (hands : List H) (status : ℕ) (report : List ℕ)
     (fault : Option RunFault) (refusal found : Option Refusal) (hand after : H) (written_old written_new : Option (List ℕ)) (old new : ℕ)
     → task.limits.workers ≡ 1 → IfBegun journal (IsRun task journal) → IfBegun journal (IsLeftByAll task journal) → IfBegun journal (GrowsBy (run_exchanges task journal 0) (log hand) (log after)) → IfBegun journal (IsFault (run_fault task journal) fault)
-    → IsReport (run_report task journal) fault report → IsCaused journal 0 (heard hand) (faults hand) (faults after) → HearsMore (heard hand) (heard after)
+    → IsReport (run_report task journal) fault report → IsCaused task journal 0 (account (log hand) (heard hand) (faults hand)) (account (log after) (heard after) (faults after))
     → (is_up task.aim.purpose ≡ true → SparesKept task journal) → (fault ≡ None → is_up task.aim.purpose ≡ true → EndsExact task journal)
-    → (fault ≡ None → is_up task.aim.purpose ≡ false → EndsGone task journal) → log hand ≡ [] → faults hand ≡ 0 → hands ≡ after ∷ [] → IsRefusalOf fault old new refusal → Says report written_old written_new old new → IsSaidIfAny refusal found
+    → (fault ≡ None → is_up task.aim.purpose ≡ false → EndsGone task journal) → log hand ≡ [] → HeardNothing (heard hand) → faults hand ≡ 0 → hands ≡ after ∷ [] → IsRefusalOf fault old new refusal → Says report written_old written_new old new → IsSaidIfAny refusal found
     → IfBegun journal (RunsTask log heard faults task (record { status = status; journal = journal; hands = hands; refusal = found }) written_old written_new old new)
-runs_task log heard faults task journal hands status report fault refusal found hand after written_old written_new old new worker is left grows told reports causes hears spares ends lacks unused faultless one refused says is_said =
+runs_task log heard faults task journal hands status report fault refusal found hand after written_old written_new old new worker is left grows told reports causes spares ends lacks unused unheard faultless one refused says is_said =
     if_begun_of journal is left grows told (λ run all_left grown is_fault. record {
       run = run;
       left = all_left;
@@ -232,8 +211,9 @@ runs_task log heard faults task journal hands status report fault refusal found 
           subst (λ (n : ℕ). GrowsBy (run_exchanges task journal n) [] (log other)) (sym only.0) (subst (λ (h : _). GrowsBy (run_exchanges task journal 0) [] (log h)) (sym only.1)
           (subst (λ (l : List Exchange). GrowsBy (run_exchanges task journal 0) l (log after)) unused grown));
       caused = λ w other m. let only = only_at hands after other w one m in
-          subst (λ (n : ℕ). IsCaused journal n (heard other) 0 (faults other)) (sym only.0) (subst (λ (h : _). IsCaused journal 0 (heard h) 0 (faults h)) (sym only.1)
-          (caused_now journal 0 (heard hand) (heard after) 0 (faults after) hears (subst (λ (n : ℕ). IsCaused journal 0 (heard hand) n (faults after)) faultless causes)));
+          subst (λ (n : ℕ). IsCausedAnew task journal n (account (log other) (heard other) (faults other))) (sym only.0)
+          (subst (λ (h : _). IsCausedAnew task journal 0 (account (log h) (heard h) (faults h))) (sym only.1)
+          (caused_anew task journal 0 (log hand) (heard hand) (faults hand) (account (log after) (heard after) (faults after)) unused unheard faultless causes));
       refused = refused_by old new (run_fault task journal) fault refusal found is_fault refused is_said;
       reported = reports_by old new (run_report task journal) report fault refusal found written_old written_new reports says refused is_said;
       spares = spares;

@@ -11,8 +11,9 @@ use Rattle.compose_config.specs.Commands.{ForProject}
 use Rattle.identity.specs.Declaring.{declared_of}
 use Rattle.outside_files.specs.Counts.{Rose}
 use Rattle.outside_files.specs.Files.{Contents}
+use Rattle.outside_api.specs.Accounts.{Account, account}
 use Rattle.outside_api.specs.Clock.{Clock}
-use Rattle.outside_api.specs.Hands.{Heard}
+use Rattle.outside_api.specs.Hands.{Heard, HeardNothing}
 use Rattle.outside_files.specs.Sinks.{GrewBy}
 use Rattle.plain_services.specs.Commands.{command_of}
 use Rattle.plain_services.specs.declared.Command.{Command}
@@ -100,6 +101,11 @@ HoldsExactly task now = IfSome now (λ engine. IsExact task.declared engine task
 abbrev pub HoldsNone : Task → Option Engine → Type 0
 HoldsNone task now = IfSome now (λ engine. IsGone task.declared engine task.aim.orphans task.aim.volumes)
 
+-- each outcome of a worker's in the task's journal has its cause in its own exchange, with a hand that tells this now: before the
+-- run its log was empty, it had heard nothing, and no exchange had failed
+abbrev pub IsCausedAnew : Task → List Entry → ℕ → Account → Type 0
+IsCausedAnew task journal w now = (heard : Option (List Heard)) × HeardNothing heard × IsCaused task journal w (account [] heard 0) now
+
 -- a call ran a task: its journal, what each worker's hand tells, its refusal, and what it wrote
 pub record RunsTask {H : Type 0} (log : H → List Exchange) (heard : H → Option (List Heard)) (faults : H → ℕ) (task : Task) (ended : Ended H)
     (written_old written_new : Option (List ℕ)) (faults_old faults_new : ℕ) : Type 0 where
@@ -107,7 +113,7 @@ pub record RunsTask {H : Type 0} (log : H → List Exchange) (heard : H → Opti
   pub left : IsLeftByAll task ended.journal
   pub hands : length ended.hands ≡ task.limits.workers
   pub logs : (w : ℕ) (hand : H) → slice_get ended.hands w ≡ Some hand → GrowsBy (run_exchanges task ended.journal w) [] (log hand)
-  pub caused : (w : ℕ) (hand : H) → slice_get ended.hands w ≡ Some hand → IsCaused ended.journal w (heard hand) 0 (faults hand)
+  pub caused : (w : ℕ) (hand : H) → slice_get ended.hands w ≡ Some hand → IsCausedAnew task ended.journal w (account (log hand) (heard hand) (faults hand))
   pub refused : IsRefusalOf (run_fault task ended.journal) faults_old faults_new ended.refusal
   pub reported : Reports (run_report task ended.journal) ended.refusal written_old written_new faults_old faults_new
   pub spares : is_up task.aim.purpose ≡ true → SparesKept task ended.journal

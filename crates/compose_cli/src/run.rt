@@ -2,6 +2,7 @@ ghost use Rattle.std.specs.Prelude.{◌≡◌, ◌+◌, ◌<◌, ◌^◌, [], So
 ghost use Rattle.std.specs.Option.{ForSome};
 ghost use Rattle.compose_cli.specs.Ends.{CountsHands, SendsNothing};
 ghost use Rattle.compose_cli.specs.Runs.{HoldsExactly, HoldsNone, IsRefusalOf, IsUnbegun, MovesEngine, RunsTask};
+ghost use Rattle.outside_api.specs.Hands.{HeardNothing};
 ghost use Rattle.outside_files.specs.Counts.{Rose};
 ghost use Rattle.project_run.specs.Whole.{IfBegun, task_of};
 ghost use Rattle.project_run.specs.Worlds.{GoesThrough};
@@ -94,6 +95,7 @@ fn run_with<H: Hand, O: Sink, G: Sink>(
     requires unconditional { WaitsForNone declared.now }
     requires own { HasOwnSpecs declared.now }
     requires unused { H.log hand ≡ [] }
+    requires unheard { HeardNothing (H.heard hand) }
     requires faultless { H.faults hand ≡ 0 }
     ensures hands { length result.hands ≡ 1 }
     ensures origin { IsOfRun result.refusal }

@@ -1,16 +1,17 @@
 ghost use Rattle.std.specs.Prelude.{◌≡◌, ◌⊎◌, ℕ, ◌<◌, ◌^◌, [], Some, None, IfSome, IfErr, length, true, false, option_map, slice_get};
 ghost use Rattle.std.specs.Option.{ForSome};
 ghost use Rattle.compose_cli.specs.Ends.{CountsHands, IsRefusedWith, SendsNothing};
-ghost use Rattle.compose_cli.specs.Runs.{ForTask, HoldsExactly, HoldsNone, IfRuns, IsRefusalOf, IsStatusOf, IsUnbegun, LeadsOn, MovesEngine, Reports, RunsTask, aim_for, first_reading, task_for};
+ghost use Rattle.compose_cli.specs.Runs.{ForTask, HoldsExactly, HoldsNone, IfRuns, IsCausedAnew, IsRefusalOf, IsStatusOf, IsUnbegun, LeadsOn, MovesEngine, Reports, RunsTask, aim_for, first_reading, task_for};
 ghost use Rattle.compose_config.specs.Commands.{ForProject, GrewByPrefix, IfLoads, IsFailedRead, IsOfConfig, IsReadFault, OnlyOutsideFails};
 ghost use Rattle.project_print.specs.ProjectPages.{project_page};
+ghost use Rattle.outside_api.specs.Accounts.{account};
 ghost use Rattle.outside_files.specs.Counts.{Rose};
 ghost use Rattle.outside_files.specs.Sinks.{GrewBy};
 ghost use Rattle.plain_services.specs.Commands.{command_of};
 ghost use Rattle.plain_services.specs.Loading.{loaded};
 ghost use Rattle.service_attrs.specs.Projects.{IsInOrder};
 ghost use Rattle.plain_services.specs.declared.Command.{Command};
-ghost use Rattle.project_run.specs.Whole.{IfBegun, IsCaused, SparesKept};
+ghost use Rattle.project_run.specs.Whole.{IfBegun, SparesKept};
 ghost use Rattle.project_run.specs.Worlds.{EndsExact, EndsGone};
 ghost use Rattle.refusals.specs.Origins.{IsOfLoading, loading_refusal};
 ghost use Rattle.refusals.specs.Statuses.{status_of};
@@ -96,15 +97,17 @@ pub fn serial_main<F: Files, P: Plug, O: Sink, G: Sink>(
     ensures unsent { result.journal ≡ [] → (hand : P.Hand) → Among result.hands hand → P.Hand.log hand ≡ [] }
 
     // Else the journal is that of a whole run of what the words ask for of the project, within their limits. There are as many hands as
-    // workers, each worker left where the observation ended well, and the hand of each made its exchanges.
+    // workers, each worker left where the observation ended well, and the hand of each made its exchanges, each of
+    // which has its cause in itself.
     ensures legal { IfBegun result.journal (ForTask words.now cwd.now (F.told files.old) (first_reading (λ h. P.Hand.clock h) result.hands) (λ task. IsRun task result.journal)) }
     ensures left { IfBegun result.journal (ForTask words.now cwd.now (F.told files.old) (first_reading (λ h. P.Hand.clock h) result.hands) (λ task. IsLeftByAll task result.journal)) }
     ensures hands { IfBegun result.journal (ForTask words.now cwd.now (F.told files.old) (first_reading (λ h. P.Hand.clock h) result.hands) (λ task.
         length result.hands ≡ task.limits.workers)) }
     ensures log { IfBegun result.journal (ForTask words.now cwd.now (F.told files.old) (first_reading (λ h. P.Hand.clock h) result.hands) (λ task.
         (w : ℕ) (hand : P.Hand) → slice_get result.hands w ≡ Some hand → GrowsBy (run_exchanges task result.journal w) [] (P.Hand.log hand))) }
-    ensures cause { IfBegun result.journal ((w : ℕ) (hand : P.Hand) → slice_get result.hands w ≡ Some hand
-        → IsCaused result.journal w (P.Hand.heard hand) 0 (P.Hand.faults hand)) }
+    ensures cause { IfBegun result.journal (ForTask words.now cwd.now (F.told files.old) (first_reading (λ h. P.Hand.clock h) result.hands) (λ task.
+        (w : ℕ) (hand : P.Hand) → slice_get result.hands w ≡ Some hand
+        → IsCausedAnew task result.journal w (account (P.Hand.log hand) (P.Hand.heard hand) (P.Hand.faults hand)))) }
 
     // Status, refusal and report are those of the run, and `up` leaves kept containers alone.
     ensures run_status { IfBegun result.journal (ForTask words.now cwd.now (F.told files.old) (first_reading (λ h. P.Hand.clock h) result.hands) (λ task. IsStatusOf (run_status task result.journal) result.status)) }

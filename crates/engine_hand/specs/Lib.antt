@@ -1,3 +1,4 @@
 pub mod Fates
 pub mod HandClocks
 pub mod MemoryHands
+pub mod SilentHands

@@ -3,6 +3,8 @@
 //! `MemoryHand` meets the contract of `Hand`: its log grows by exactly the exchange, and its Engine changes by one
 //! answer that an Engine may give, or by none, as the outcome says. What each exchange comes to is exactly what the
 //! Engine's plan of faults says of its number.
+//!
+//! `SilentHand` is one that tells what it heard: its peer closes each connection without an answer.
 #![tactic(auto)]
 
 mod fate;
@@ -10,7 +12,11 @@ mod hand_clock;
 mod memory_hand;
 mod memory_plug;
 mod outcome;
+mod silent_hand;
+mod silent_plug;
 
 pub use hand_clock::HandClock;
 pub use memory_hand::MemoryHand;
 pub use memory_plug::MemoryPlug;
+pub use silent_hand::SilentHand;
+pub use silent_plug::SilentPlug;

@@ -75,7 +75,7 @@ impl Hand for MemoryHand {
             → Some self.new.engine.engine ≡ Some self.old.engine.engine }
         ensures unsent_faults { log_of self.new ≡ log_of self.old → faults_of self.new ≡ faults_of self.old }
         ensures counted { faults_of self.old ≤ faults_of self.new }
-        ensures cause { HasCause None (faults_of self.old) (faults_of self.new) result }
+        ensures cause { HasCause request None (faults_of self.old) (faults_of self.new) result }
         ensures clock { clock_of self.new ≡ clock_of self.old }
         ensures unlogged { log_of self.new ≡ log_of self.old → self.new.engine ≡ self.old.engine }
         ensures fate { log_of self.new ≡ logged (log_of self.old) request result

@@ -12,11 +12,12 @@ use Rattle.engine_types.specs.declared.SeenFault.{SeenFault}
 use Rattle.engine_types.specs.declared.Slot.{Slot}
 use Rattle.run_model.specs.Observation.{Ends, Onward, Strays, asking, is_asked, is_request, wanting}
 use Rattle.run_model.specs.EngineRules.{Tells}
-use Rattle.outside_api.specs.Hands.{Heard, HasCause, HearsEach, HearsMore, Logs}
+use Rattle.outside_api.specs.Accounts.{IsCausedIn}
+use Rattle.outside_api.specs.Hands.{Heard}
 use Rattle.observe_project.specs.Exchanges.{HasCauseOfFault}
 use Rattle.observe_project.specs.Reading.{OrMemory, or_memory}
-use Rattle.observe_project.specs.Steps.{Asked, Leads, MayEnd, Reads, Standing, Steps}
-use Rattle.observe_project.proofs.Ways.{fault-wider, makes-append, makes-none, makes-one}
+use Rattle.observe_project.specs.Steps.{Asked, Leads, MayEnd, Reads, Standing, Steps, account_of}
+use Rattle.observe_project.proofs.Ways.{fault-wider, makes-append, makes-counted, makes-none, makes-one}
 
 -- a want of memory is the fault that it is said to be
 pub no_memory : {X : Type 0} (answer : Result X Memory) (fault : SeenFault) → Err fault ≡ or_memory answer → fault ≡ SeenFault.Memory
@@ -28,10 +29,10 @@ module _ {X : Type 0} (onward : X → List Exchange → Onward) where
   leads-along f g (Ok x) e h = λ rest. e rest ∙ h rest
   leads-along f g (Err fault) e h = let P : Onward → Type 0 = λ here. MayEnd here fault in subst P (sym (e [])) h
 
-  cause-wider : (h g : Option (List Heard)) (a b c : ℕ) (result : Result X SeenFault) → HearsMore h g → a ≤ b → b ≤ c
-      → IfErr result (HasCauseOfFault g b c) → IfErr result (HasCauseOfFault h a c)
-  cause-wider h g a b c (Ok x) more m n t = tt
-  cause-wider h g a b c (Err fault) more m n t = fault-wider h g a b c c fault more m n (omega arith) t
+  cause-wider : (heard : Option (List Heard)) (a b c : ℕ) (result : Result X SeenFault) → a ≤ b → b ≤ c
+      → IfErr result (HasCauseOfFault heard b c) → IfErr result (HasCauseOfFault heard a c)
+  cause-wider heard a b c (Ok x) m n t = tt
+  cause-wider heard a b c (Err fault) m n t = fault-wider heard a b c c fault m n (omega arith) t
 
   -- what needs no exchange
   pub step-none : (from : List Exchange → Onward) (result : Result X SeenFault) (kept : List Exchange) (s : Standing) → Leads from onward result
@@ -55,13 +56,13 @@ module _ {X : Type 0} (onward : X → List Exchange → Onward) where
   -- an exchange that was made and kept, and what was read from it
   pub step-asked : (request sent : Request) (next : Outcome → List Exchange → Onward) (exchange : Exchange) (result : Result X SeenFault) (kept before after : List Exchange)
       (old new : Standing) → is_request request sent ≡ true → before ≡ kept → after ≡ before ++ exchange ∷ [] → Asked sent (Ok exchange) old new
-      → Reads (next exchange.outcome) onward exchange.outcome result → Steps (asking request next) onward result kept after old new
+      → Reads (next exchange.outcome) onward exchange.request exchange.outcome result → Steps (asking request next) onward result kept after old new
   step-asked request sent next exchange result kept before after old new e same put asked reads = record {
     made = exchange ∷ [];
     kept = put ∙ ap (λ (l : List Exchange). l ++ exchange ∷ []) same;
     makes = asked.1;
     leads = leads-along (λ rest. asking request next (exchange ∷ rest)) (next exchange.outcome) result on reads.leads;
-    cause = reads.cause old.heard old.faults new.faults asked.2;
+    cause = reads.cause new.heard old.faults new.faults asked.2;
   }
     where
       is : is_request request exchange.request ≡ true
@@ -79,7 +80,7 @@ module _ {X : Type 0} (onward : X → List Exchange → Onward) where
     makes = makes-append s.made t.made a b c s.makes t.makes;
     leads = leads-along (λ rest. from ((s.made ++ t.made) ++ rest)) (λ rest. mid y (t.made ++ rest)) result
         (λ rest. ap from (append_assoc s.made t.made rest) ∙ s.leads (t.made ++ rest)) t.leads;
-    cause = cause-wider a.heard b.heard a.faults b.faults c.faults result s.makes.heard s.makes.counted t.makes.counted t.cause;
+    cause = cause-wider c.heard a.faults b.faults c.faults result (makes-counted s.made a b s.makes) (makes-counted t.made b c t.makes) t.cause;
   }
 
   -- a step that came to a value, after which no exchange follows
@@ -125,9 +126,9 @@ want-built builder slot image onward fault kept s e h =
     at (inr f) = step-short onward (wanting (Some slot) image onward) fault kept s f refl
 
 -- a request of which a copy was kept was sent
-pub asked-one : (request sent : Request) (outcome : Outcome) (a b : Standing) → sent ≡ request → Logs a.log request outcome b.log → Tells a.engine request outcome b.engine
-    → HearsMore a.heard b.heard → (HearsEach a.log a.heard → HearsEach b.log b.heard) → a.faults ≤ b.faults → b.clock ≡ a.clock → HasCause a.heard a.faults b.faults outcome
+pub asked-one : (request sent : Request) (outcome : Outcome) (a b : Standing) → sent ≡ request → Tells a.engine request outcome b.engine
+    → IsCausedIn (record { request = request; outcome = outcome }) (account_of a) (account_of b) → b.clock ≡ a.clock
     → Asked request (Ok (record { request = sent; outcome = outcome })) a b
-asked-one request sent outcome a b is log told heard each counted clock cause =
+asked-one request sent outcome a b is told caused clock =
     let P : Request → Type 0 = λ r. Asked request (Ok (record { request = r; outcome = outcome })) a b in
-    subst P (sym is) (refl, makes-one request outcome a b log told heard each counted clock, cause)
+    subst P (sym is) (refl, makes-one request outcome a b told caused clock, caused.cause)

@@ -1,5 +1,5 @@
 -- A step of an observation: the exchanges that it made lead on from what was to come before it to what comes after it.
-use Rattle.std.specs.Prelude.{◌≡◌, ◌⊎◌, ℕ, ◌≤◌, List, [], ◌∷◌, ◌++◌, Option, Result, Ok, Err, IfErr, true}
+use Rattle.std.specs.Prelude.{◌≡◌, ◌⊎◌, ℕ, List, [], ◌∷◌, ◌++◌, Option, Result, Ok, Err, IfErr, true}
 use Rattle.engine_types.specs.declared.Engine.{Engine}
 use Rattle.engine_types.specs.declared.Exchange.{Exchange}
 use Rattle.engine_types.specs.declared.Outcome.{Outcome}
@@ -9,7 +9,8 @@ use Rattle.engine_types.specs.declared.SeenFault.{SeenFault}
 use Rattle.run_model.specs.Logs.{GrowsBy}
 use Rattle.run_model.specs.Observation.{Onward, Ends, is_asked}
 use Rattle.outside_api.specs.Clock.{Clock}
-use Rattle.outside_api.specs.Hands.{Heard, HasCause, HearsEach, HearsMore}
+use Rattle.outside_api.specs.Accounts.{Account, AreCaused, account}
+use Rattle.outside_api.specs.Hands.{Heard, HasCause}
 use Rattle.observe_project.specs.Exchanges.{HasCauseOfFault}
 use Rattle.run_model.specs.EngineRules.{ToldBy}
 
@@ -23,13 +24,13 @@ Leads from onward (Ok x) = (rest : List Exchange) → from rest ≡ onward x res
 Leads from onward (Err fault) = MayEnd (from []) fault
 
 -- a fault of a step has its cause in the outcome of its exchange
-abbrev pub ComesFrom : {X : Type 0} → Outcome → Result X SeenFault → Type 0
-ComesFrom outcome result = (heard : Option (List Heard)) (old new : ℕ) → HasCause heard old new outcome → IfErr result (HasCauseOfFault heard old new)
+abbrev pub ComesFrom : {X : Type 0} → Request → Outcome → Result X SeenFault → Type 0
+ComesFrom request outcome result = (heard : Option (List Heard)) (old new : ℕ) → HasCause request heard old new outcome → IfErr result (HasCauseOfFault heard old new)
 
--- what is read from an outcome
-pub record Reads {X : Type 0} (from : List Exchange → Onward) (onward : X → List Exchange → Onward) (outcome : Outcome) (result : Result X SeenFault) : Type 0 where
+-- what is read from the outcome of a request
+pub record Reads {X : Type 0} (from : List Exchange → Onward) (onward : X → List Exchange → Onward) (request : Request) (outcome : Outcome) (result : Result X SeenFault) : Type 0 where
   pub leads : Leads from onward result
-  pub cause : ComesFrom outcome result
+  pub cause : ComesFrom request outcome result
 
 -- where a hand stands
 pub record Standing : Type 0 where
@@ -43,19 +44,21 @@ pub record Standing : Type 0 where
 abbrev pub standing : List Exchange → Option Engine → Option (List Heard) → ℕ → Clock → Standing
 standing log engine heard faults clock = record { log = log; engine = engine; heard = heard; faults = faults; clock = clock }
 
+-- what it tells of its exchanges
+abbrev pub account_of : Standing → Account
+account_of s = account s.log s.heard s.faults
+
 -- a hand went through these exchanges
 pub record Makes (made : List Exchange) (old new : Standing) : Type 0 where
   pub log : GrowsBy made old.log new.log
   pub told : ToldBy made old.engine new.engine
-  pub heard : HearsMore old.heard new.heard
-  pub heard_each : HearsEach old.log old.heard → HearsEach new.log new.heard
-  pub counted : old.faults ≤ new.faults
+  pub caused : AreCaused made (account_of old) (account_of new)
   pub clock : new.clock ≡ old.clock
 
 -- a request was sent, or there was no memory for it and nothing was done
 abbrev pub Asked : Request → Result Exchange SeenFault → Standing → Standing → Type 0
 Asked request (Ok exchange) old new =
-    (exchange.request ≡ request) × Makes (exchange ∷ []) old new × HasCause old.heard old.faults new.faults exchange.outcome
+    (exchange.request ≡ request) × Makes (exchange ∷ []) old new × HasCause exchange.request new.heard old.faults new.faults exchange.outcome
 Asked request (Err fault) old new = (fault ≡ SeenFault.Memory) × (new ≡ old)
 
 -- a step of an observation: the exchanges that were made with the hand were kept, and lead on
@@ -65,4 +68,4 @@ pub record Steps {X : Type 0} (from : List Exchange → Onward) (onward : X → 
   pub kept : kept_after ≡ kept_before ++ made
   pub makes : Makes made old new
   pub leads : Leads (λ rest. from (made ++ rest)) onward result
-  pub cause : IfErr result (HasCauseOfFault old.heard old.faults new.faults)
+  pub cause : IfErr result (HasCauseOfFault new.heard old.faults new.faults)

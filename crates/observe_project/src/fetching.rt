@@ -183,7 +183,7 @@ fn ask_to_pull<H: Hand>(
 
 fn read_pull(alloc: Global, exchange: &Exchange, image: &Text) -> Result<(), SeenFault>
     ensures { (onward : List ℕ → List Exchange → Onward) → exchange.now.request ≡ Request.Pull image.now
-        → Reads (after_pull image.now onward exchange.now.outcome) (λ _. inspecting image.now onward) exchange.now.outcome result }
+        → Reads (after_pull image.now onward exchange.now.outcome) (λ _. inspecting image.now onward) exchange.now.request exchange.now.outcome result }
 {
     if tells_pulled(&exchange.outcome) {
         return Ok(());
@@ -224,7 +224,7 @@ fn inspect<H: Hand>(
 
 fn read_id(alloc: Global, exchange: &Exchange) -> Result<Text, SeenFault>
     ensures { (image : List ℕ) (onward : List ℕ → List Exchange → Onward) → AreAsked onward → exchange.now.request ≡ Request.Image image
-        → Reads (after_look image onward exchange.now.outcome) onward exchange.now.outcome result }
+        → Reads (after_look image onward exchange.now.outcome) onward exchange.now.request exchange.now.outcome result }
 {
     match id_told(&exchange.outcome) {
         Some(id) => or_memory(id.copy(alloc)),
@@ -253,7 +253,7 @@ fn look_for<H: Hand>(
 
 fn read_found(alloc: Global, exchange: &Exchange) -> Result<Option<Text>, SeenFault>
     ensures { (builder : Option Slot) (image : List ℕ) (onward : List ℕ → List Exchange → Onward) → AreAsked onward → exchange.now.request ≡ Request.Image image
-        → Reads (after_first_look builder image onward exchange.now.outcome) (found_or_wanted builder image onward) exchange.now.outcome result }
+        → Reads (after_first_look builder image onward exchange.now.outcome) (found_or_wanted builder image onward) exchange.now.request exchange.now.outcome result }
 {
     if tells_missing(&exchange.outcome) {
         return Ok(None);

@@ -51,7 +51,7 @@ fn list_containers<H: Hand>(
 
 fn read_containers(alloc: Global, exchange: &Exchange) -> Result<Seen, SeenFault>
     ensures { (declared : Declared) (purpose : Purpose) → exchange.now.request ≡ Request.ListContainers declared.project
-        → Reads (after_containers declared purpose exchange.now.outcome) (listing_networks declared purpose) exchange.now.outcome result }
+        → Reads (after_containers declared purpose exchange.now.outcome) (listing_networks declared purpose) exchange.now.request exchange.now.outcome result }
 {
     match containers_told(&exchange.outcome) {
         Some(rows) => or_memory(see_containers(alloc, rows.as_slice())),
@@ -138,7 +138,7 @@ fn ask_for_networks<H: Hand>(
 
 fn read_networks(alloc: Global, exchange: &Exchange, seen: Seen) -> Result<Seen, SeenFault>
     ensures { (declared : Declared) (purpose : Purpose) → exchange.now.request ≡ Request.ListNetworks
-        → Reads (after_networks declared purpose seen exchange.now.outcome) (listing_volumes declared purpose) exchange.now.outcome result }
+        → Reads (after_networks declared purpose seen exchange.now.outcome) (listing_volumes declared purpose) exchange.now.request exchange.now.outcome result }
 {
     match networks_told(&exchange.outcome) {
         Some(rows) => or_memory(see_networks(alloc, rows, seen)),
@@ -192,7 +192,7 @@ fn ask_for_volumes<H: Hand>(
 
 fn read_volumes(alloc: Global, exchange: &Exchange, seen: Seen) -> Result<Seen, SeenFault>
     ensures { (declared : Declared) (purpose : Purpose) → exchange.now.request ≡ Request.ListVolumes
-        → Reads (after_volumes declared purpose seen exchange.now.outcome) (judging declared purpose) exchange.now.outcome result }
+        → Reads (after_volumes declared purpose seen exchange.now.outcome) (judging declared purpose) exchange.now.request exchange.now.outcome result }
 {
     match volumes_told(&exchange.outcome) {
         Some(names) => or_memory(see_volumes(alloc, names, seen)),

@@ -1,8 +1,8 @@
-ghost use Rattle.std.specs.Prelude.{◌≡◌, ◌≤◌, None};
+ghost use Rattle.std.specs.Prelude.{◌≡◌, None};
 ghost use Rattle.engine_types.specs.declared.SeenEnd.{SeenEnd};
 ghost use Rattle.run_model.specs.Logs.{GrowsBy};
 ghost use Rattle.run_model.specs.Observation.{IsObservation, after_judging, ending, judging, observed};
-ghost use Rattle.outside_api.specs.Hands.{HearsEach, HearsMore};
+ghost use Rattle.outside_api.specs.Accounts.{AreCaused, account};
 ghost use Rattle.observe_project.specs.Exchanges.{HasCauseOfEnd};
 ghost use Rattle.run_model.specs.EngineRules.{ToldBy};
 ghost use Rattle.observe_project.specs.Reading.{end_of};
@@ -24,7 +24,8 @@ use tree_base::ReservedList;
 /// The end is bad at the first request that isn't answered as asked (RequestFailed, PullFailed, Lost, NotSent); where
 /// a declared network is there twice (with the two least ids), is another project's, or an external network or
 /// volume is missing for `up`; where a missing image is to be built; and for want of memory. Room for an
-/// exchange is taken before it is made, so every exchange that was made is in the list.
+/// exchange is taken before it is made, so every exchange that was made is in the list. Each of them has its cause in itself, and
+/// where the end tells of a lost response or of a request that wasn't sent, what was heard last is what was heard of that request.
 pub fn observe<H: Hand>(
     alloc: Global,
     hand: &mut H,
@@ -34,10 +35,8 @@ pub fn observe<H: Hand>(
     ensures observed { IsObservation declared.now purpose result }
     ensures log { GrowsBy result.exchanges (H.log hand.old) (H.log hand.new) }
     ensures told { ToldBy result.exchanges (H.engine hand.old) (H.engine hand.new) }
-    ensures cause { HasCauseOfEnd (H.heard hand.old) (H.faults hand.old) (H.faults hand.new) result.end }
-    ensures heard { HearsMore (H.heard hand.old) (H.heard hand.new) }
-    ensures heard_each { HearsEach (H.log hand.old) (H.heard hand.old) → HearsEach (H.log hand.new) (H.heard hand.new) }
-    ensures counted { H.faults hand.old ≤ H.faults hand.new }
+    ensures caused { AreCaused result.exchanges (account (H.log hand.old) (H.heard hand.old) (H.faults hand.old)) (account (H.log hand.new) (H.heard hand.new) (H.faults hand.new)) }
+    ensures cause { HasCauseOfEnd (H.heard hand.new) (H.faults hand.old) (H.faults hand.new) result.end }
     ensures clock { H.clock hand.new ≡ H.clock hand.old }
 {
     let mut exchanges = ReservedList::new(alloc);

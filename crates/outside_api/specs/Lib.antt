@@ -1,5 +1,7 @@
 pub mod Clock
 pub mod Hands
+pub mod Accounts
+pub mod Laws
 pub mod Pipes
 pub mod Plugs
 pub mod Wires

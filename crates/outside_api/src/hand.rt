@@ -3,7 +3,7 @@ ghost use Rattle.engine_types.specs.declared.Engine.{Engine};
 ghost use Rattle.engine_types.specs.declared.Exchange.{Exchange};
 ghost use Rattle.run_model.specs.EngineRules.{Tells, DriftsTold};
 ghost use Rattle.outside_api.specs.Clock.{Clock, after_now, after_pause, after_asked};
-ghost use Rattle.outside_api.specs.Hands.{Heard, Logs, HearsEach, HearsMore, HasCause};
+ghost use Rattle.outside_api.specs.Hands.{Heard, Logs, HearsNext, HasCause};
 
 use engine_types::{Outcome, Request};
 use std::alloc::Global;
@@ -31,12 +31,10 @@ pub trait Hand: Drop {
         ensures log { Logs (log self.old) request result (log self.new) }
         ensures told { Tells (engine self.old) request result (engine self.new) }
         ensures unsent { log self.new ≡ log self.old → engine self.new ≡ engine self.old }
-        ensures unsent_heard { log self.new ≡ log self.old → heard self.new ≡ heard self.old }
         ensures unsent_faults { log self.new ≡ log self.old → faults self.new ≡ faults self.old }
-        ensures heard { HearsMore (heard self.old) (heard self.new) }
-        ensures heard_each { HearsEach (log self.old) (heard self.old) → HearsEach (log self.new) (heard self.new) }
+        ensures heard { HearsNext (log self.old) (log self.new) (heard self.old) (heard self.new) }
         ensures counted { faults self.old ≤ faults self.new }
-        ensures cause { HasCause (heard self.old) (faults self.old) (faults self.new) result }
+        ensures cause { HasCause request (heard self.new) (faults self.old) (faults self.new) result }
         ensures clock { clock self.new ≡ clock self.old };
 
     /// The time in milliseconds of a clock that all hands share. No memory.

@@ -7,11 +7,13 @@
 #![tactic(auto)]
 
 mod hand;
+mod laws;
 mod pipe;
 mod plug;
 mod wire;
 
 pub use hand::Hand;
+pub use laws::caused_stays_told;
 pub use outside_files::{
     DiskFiles, FileAnswer, Files, MemoryFiles, MemorySink, OutSink, Sink, SinkAnswer, write_all,
 };

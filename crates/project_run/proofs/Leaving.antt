@@ -1,21 +1,21 @@
 -- What a run leaves, from how it opened and how its plan was carried out.
-use Rattle.std.proofs.Common.{◌≡◌, ℕ, ◌≤◌, List, [], ◌∷◌, ◌++◌, Option, Some, reverse, refl, sym, ap, ◌∙◌, subst, inl, inr, arith}
+use Rattle.std.proofs.Common.{◌≡◌, List, [], ◌∷◌, ◌++◌, Option, Some, reverse, refl, sym, ap, ◌∙◌, subst, inl, inr}
 use Rattle.std.specs.Prelude.{unwrap_or}
 use Rattle.engine_types.specs.declared.Action.{Action}
 use Rattle.engine_types.specs.declared.Declared.{Declared}
 use Rattle.engine_types.specs.declared.Entry.{Entry}
 use Rattle.engine_types.specs.declared.Exchange.{Exchange}
 use Rattle.engine_types.specs.declared.Observed.{Observed}
-use Rattle.engine_types.specs.declared.Outcome.{Outcome}
 use Rattle.engine_types.specs.declared.RunFault.{RunFault}
 use Rattle.engine_types.specs.declared.Seen.{Seen}
 use Rattle.engine_types.specs.declared.SeenEnd.{SeenEnd}
 use Rattle.engine_types.specs.declared.SeenFault.{SeenFault}
 use Rattle.observe_project.specs.Exchanges.{HasCauseOfEnd}
-use Rattle.observe_project.proofs.Ways.{cause-wider, fault-wider, grows-append, hears-append, told-append}
-use Rattle.outside_api.specs.Hands.{Heard, HearsMore}
+use Rattle.observe_project.proofs.Ways.{grows-append}
+use Rattle.outside_api.proofs.Accounts.{caused-append}
+use Rattle.outside_api.specs.Accounts.{Account, AreCaused}
 use Rattle.run_model.specs.Ending.{first_fault}
-use Rattle.run_model.specs.EngineRules.{Among, ToldBy}
+use Rattle.run_model.specs.EngineRules.{ToldBy}
 use Rattle.run_model.specs.Journals.{Setup, seen_in}
 use Rattle.run_model.specs.Legal.{IsLegal}
 use Rattle.run_model.specs.Lines.{report_text}
@@ -24,20 +24,12 @@ use Rattle.run_model.specs.Plans.{Aim, planned}
 use Rattle.run_model.specs.Rolling.{run_actions}
 use Rattle.run_model.proofs.RollLaws.{unrolled}
 use Rattle.run_model.specs.Runs.{IsRun, Task, run_exchanges, run_fault, run_report, run_seen, run_setup}
-use Rattle.serial_run.specs.Serial.{IsBegun, Telling, WaitsForNone, basis_of, exchanges_since, one_worker, serial_setup}
+use Rattle.serial_run.specs.Serial.{IsBegun, Telling, WaitsForNone, account_in, basis_of, exchanges_since, one_worker, serial_setup}
 use Rattle.project_run.specs.Opening.{IsCarriedOut, IsObservedBadly, Opens}
 use Rattle.project_run.specs.Whole.{IsCaused, Leaves, task_of}
 use Rattle.project_run.specs.declared.opening.Opening.{Opening}
 use Rattle.project_run.proofs.Joining.{exchanges_joined, seen_after}
 use Rattle.world_laws.proofs.Leaving.{one_worker_leaves}
-
--- an end's cause within a longer time is one of it
-end_wider : (h g : Option (List Heard)) (a b c d : ℕ) (end : SeenEnd) → HearsMore h g → a ≤ b → b ≤ c → c ≤ d → HasCauseOfEnd g b c end → HasCauseOfEnd h a d end
-end_wider h g a b c d (SeenEnd.Good seen) more k m n t = tt
-end_wider h g a b c d (SeenEnd.Bad fault) more k m n t = fault-wider h g a b c d fault more k m n t
-
-hears_none : (h : Option (List Heard)) → HearsMore h h
-hears_none h = Rattle.observe_project.proofs.Ways.hears-same h
 
 -- a run that ended with its observation
 module _ (declared : Declared) (aim : Aim) (journal : List Entry) (before now : Telling) (opens : Opens declared aim Opening.Ended journal before now) where
@@ -59,16 +51,12 @@ module _ (declared : Declared) (aim : Aim) (journal : List Entry) (before now : 
     over = inl (rw bad refl);
   }
 
-  bad_caused : IsCaused (Entry.Seen observation ∷ []) 0 before.heard before.faults now.faults
+  bad_caused : IsCaused (task_of declared aim one_worker) (Entry.Seen observation ∷ []) 0 (account_in before) (account_in now)
   bad_caused = record {
+    exchanges = opens.caused;
     observed = λ first other e. let same : Some (Entry.Seen observation) ≡ Some (Entry.Seen other) = e in
-        let one : observation ≡ other = cc same in subst (λ (o : Observed). HasCauseOfEnd before.heard before.faults now.faults o.end) one opens.cause;
-    ended = λ outcome m. none outcome m;
+        let one : observation ≡ other = cc same in subst (λ (o : Observed). HasCauseOfEnd now.heard before.faults now.faults o.end) one opens.cause;
   }
-    where
-      none : (outcome : Outcome) → Among (Entry.Seen observation ∷ []) (Entry.Ended 0 outcome) → Rattle.outside_api.specs.Hands.HasCause before.heard before.faults now.faults outcome
-      none outcome (inl e) = absurd (cc e)
-      none outcome (inr m) = absurd m
 
   pub leaves_badly : Leaves (task_of declared aim one_worker) journal before now
   leaves_badly = rw opens.only (record {
@@ -78,11 +66,12 @@ module _ (declared : Declared) (aim : Aim) (journal : List Entry) (before now : 
     log = opens.log;
     told = opens.told;
     caused = bad_caused;
-    hears = opens.hears;
-    hears_each = opens.hears_each;
-    counted = opens.counted;
     timed = opens.timed;
   })
+
+-- a run that had no room for its journal made no exchange
+pub nothing_caused : (task : Task) (journal : List Entry) (w : ℕ) (a : Account) → journal ≡ [] → IsCaused task journal w a a
+nothing_caused task journal w a e = rw e (record { exchanges = refl; observed = λ first observation f. absurd (cc f) })
 
 -- the fault and the report of a run that ended with its observation hang on no task
 pub bad_fault : (declared : Declared) (seen : Seen) (actions : List Action) (journal : List Entry) (task : Task) (badly : IsObservedBadly journal)
@@ -141,19 +130,20 @@ module _ (declared : Declared) (aim : Aim) (seen : Seen) (actions : List Action)
   begins : (entry : Entry) × (rest : List Entry) × (new ≡ entry ∷ rest)
   begins = (Entry.Seen look, carried.more.0, starts)
 
-  caused : IsCaused new 0 before.heard before.faults now.faults
+  caused : IsCaused (task_of declared aim one_worker) new 0 (account_in before) (account_in now)
   caused = record {
+    exchanges = subst (λ (l : List Exchange). AreCaused l (account_in before) (account_in now)) (sym exchanges)
+        (caused-append look.exchanges (exchanges_since (serial_setup declared seen actions) old new) (account_in before) (account_in mid) (account_in now) opens.caused carried.caused);
     observed = λ first other e. at other starts e;
-    ended = λ outcome m. cause-wider before.heard mid.heard before.faults mid.faults now.faults now.faults outcome opens.hears opens.counted carried.counted (omega arith) (carried.caused outcome m);
   }
     where
       at : (other : Observed) → new ≡ Entry.Seen look ∷ carried.more.0 → Rattle.std.specs.Prelude.slice_get new 0 ≡ Some (Entry.Seen other)
-          → HasCauseOfEnd before.heard before.faults now.faults other.end
+          → HasCauseOfEnd now.heard before.faults now.faults other.end
       at other e f =
           let same : Some (Entry.Seen look) ≡ Some (Entry.Seen other) = rw e at f in
           let one : look ≡ other = cc same in
-          subst (λ (o : Observed). HasCauseOfEnd before.heard before.faults now.faults o.end) one
-          (end_wider before.heard before.heard before.faults before.faults mid.faults now.faults look.end (hears_none before.heard) (omega arith) opens.counted carried.counted opens.cause)
+          subst (λ (o : Observed). HasCauseOfEnd now.heard before.faults now.faults o.end) one
+          (subst (λ (end : SeenEnd). HasCauseOfEnd now.heard before.faults now.faults end) (sym good) tt)
 
   pub leaves_well : Leaves (task_of declared aim one_worker) new before now
   leaves_well = record {
@@ -166,9 +156,6 @@ module _ (declared : Declared) (aim : Aim) (seen : Seen) (actions : List Action)
         (told-append look.exchanges (exchanges_since (serial_setup declared seen actions) old new) before.engine mid.engine now.engine
         opens.told carried.told);
     caused = caused;
-    hears = hears-append before.heard mid.heard now.heard opens.hears carried.hears;
-    hears_each = λ h. carried.hears_each (opens.hears_each h);
-    counted = omega (arith, opens.counted, carried.counted);
     timed = carried.timed ∙ opens.timed;
   }
 

@@ -1,5 +1,5 @@
 -- How a run opens, by its observation.
-use Rattle.std.proofs.Common.{◌≡◌, ℕ, ◌≤◌, Bool, true, false, List, [], ◌∷◌, ◌++◌, Option, Some, refl, sym, ap, ◌∙◌, subst, inl, inr}
+use Rattle.std.proofs.Common.{◌≡◌, ℕ, Bool, true, false, List, [], ◌∷◌, ◌++◌, Option, Some, refl, sym, ap, ◌∙◌, subst, inl, inr}
 use Rattle.std.specs.Prelude.{if◌then◌else◌}
 use Rattle.engine_types.specs.declared.Declared.{Declared}
 use Rattle.engine_types.specs.declared.Entry.{Entry}
@@ -9,12 +9,13 @@ use Rattle.engine_types.specs.declared.SeenEnd.{SeenEnd}
 use Rattle.engine_types.specs.declared.SeenFault.{SeenFault}
 use Rattle.observe_project.specs.Exchanges.{HasCauseOfEnd}
 use Rattle.run_model.specs.EngineRules.{ToldBy}
-use Rattle.outside_api.specs.Hands.{Heard, HearsEach, HearsMore}
+use Rattle.outside_api.specs.Accounts.{AreCaused}
+use Rattle.outside_api.specs.Hands.{Heard}
 use Rattle.run_model.specs.Legal.{IsObserved, seen_end, whole_end}
 use Rattle.run_model.specs.Logs.{GrowsBy}
 use Rattle.run_model.specs.Observation.{IsObservation}
 use Rattle.run_model.specs.Plans.{Aim, Basis, action_count, is_too_long}
-use Rattle.serial_run.specs.Serial.{Telling}
+use Rattle.serial_run.specs.Serial.{Telling, account_in}
 use Rattle.project_run.specs.Opening.{Follows, IsWholeEnd, Opens}
 use Rattle.project_run.specs.declared.opening.Opening.{Opening}
 
@@ -47,19 +48,17 @@ caused declared aim heard old new before after c (inr w) = subst (HasCauseOfEnd 
 pub opened : (declared : Declared) (aim : Aim) (look : Observed) (end : SeenEnd) (opening : Opening) (old new : List Entry) (before now : Telling)
     → IsObservation declared aim.purpose look → IsWholeEnd declared aim look.end end → Follows declared aim end opening
     → old ≡ [] → new ≡ old ++ Entry.Seen (record { exchanges = look.exchanges; end = end }) ∷ []
-    → GrowsBy look.exchanges before.log now.log → ToldBy look.exchanges before.engine now.engine → HasCauseOfEnd before.heard before.faults now.faults look.end → HearsMore before.heard now.heard
-    → (HearsEach before.log before.heard → HearsEach now.log now.heard) → before.faults ≤ now.faults → now.clock ≡ before.clock
+    → GrowsBy look.exchanges before.log now.log → ToldBy look.exchanges before.engine now.engine → AreCaused look.exchanges (account_in before) (account_in now)
+    → HasCauseOfEnd now.heard before.faults now.faults look.end → now.clock ≡ before.clock
     → Opens declared aim opening new before now
-opened declared aim look end opening old new before now is whole follows none pushed log told cause hears each counted timed = record {
+opened declared aim look end opening old new before now is whole follows none pushed log told causes cause timed = record {
   observation = record { exchanges = look.exchanges; end = end };
   only = pushed ∙ ap (λ (entries : List Entry). entries ++ Entry.Seen (record { exchanges = look.exchanges; end = end }) ∷ []) none;
   observed = observed_whole declared aim look.exchanges look.end end is whole;
   follows = follows;
   log = log;
   told = told;
-  cause = caused declared aim before.heard before.faults now.faults look.end end cause whole;
-  hears = hears;
-  hears_each = each;
-  counted = counted;
+  caused = causes;
+  cause = caused declared aim now.heard before.faults now.faults look.end end cause whole;
   timed = timed;
 }

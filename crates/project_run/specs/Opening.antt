@@ -1,5 +1,5 @@
 -- How a run opens: what follows from the end of its observation.
-use Rattle.std.specs.Prelude.{◌≡◌, ◌⊎◌, ◌≤◌, ◌∷◌, [], List, false, reverse}
+use Rattle.std.specs.Prelude.{◌≡◌, ◌⊎◌, ◌∷◌, [], List, false, reverse}
 use Rattle.engine_types.specs.declared.Action.{Action}
 use Rattle.engine_types.specs.declared.Declared.{Declared}
 use Rattle.engine_types.specs.declared.Entry.{Entry}
@@ -8,13 +8,13 @@ use Rattle.engine_types.specs.declared.Seen.{Seen}
 use Rattle.engine_types.specs.declared.SeenEnd.{SeenEnd}
 use Rattle.engine_types.specs.declared.SeenFault.{SeenFault}
 use Rattle.observe_project.specs.Exchanges.{HasCauseOfEnd}
-use Rattle.outside_api.specs.Hands.{HearsEach, HearsMore}
+use Rattle.outside_api.specs.Accounts.{AreCaused}
 use Rattle.project_run.specs.declared.opening.Opening.{Opening}
 use Rattle.run_model.specs.Ending.{IsRunOver}
 use Rattle.run_model.specs.Legal.{IsLegal, IsObserved, whole_end}
 use Rattle.run_model.specs.Logs.{GrowsBy}
 use Rattle.run_model.specs.Plans.{Aim, is_too_long, planned}
-use Rattle.serial_run.specs.Serial.{AllCaused, GoesOn, Telling, basis_of, exchanges_since, serial_setup}
+use Rattle.serial_run.specs.Serial.{GoesOn, Telling, account_in, basis_of, exchanges_since, serial_setup}
 use Rattle.run_model.specs.EngineRules.{ToldBy}
 
 -- an end is the whole one of what was observed, or want of memory stands in its place
@@ -35,10 +35,8 @@ pub record Opens (declared : Declared) (aim : Aim) (opening : Opening) (journal 
   pub follows : Follows declared aim observation.end opening
   pub log : GrowsBy observation.exchanges before.log now.log
   pub told : ToldBy observation.exchanges before.engine now.engine
-  pub cause : HasCauseOfEnd before.heard before.faults now.faults observation.end
-  pub hears : HearsMore before.heard now.heard
-  pub hears_each : HearsEach before.log before.heard → HearsEach now.log now.heard
-  pub counted : before.faults ≤ now.faults
+  pub caused : AreCaused observation.exchanges (account_in before) (account_in now)
+  pub cause : HasCauseOfEnd now.heard before.faults now.faults observation.end
   pub timed : now.clock ≡ before.clock
 
 -- the journal is an observation that ended badly
@@ -55,8 +53,5 @@ pub record IsCarriedOut (declared : Declared) (aim : Aim) (seen : Seen) (actions
   pub more : GoesOn old new
   pub log : GrowsBy (exchanges_since (serial_setup declared seen actions) old new) before.log now.log
   pub told : ToldBy (exchanges_since (serial_setup declared seen actions) old new) before.engine now.engine
-  pub caused : AllCaused new 0 before.heard before.faults now.faults
-  pub hears : HearsMore before.heard now.heard
-  pub hears_each : HearsEach before.log before.heard → HearsEach now.log now.heard
-  pub counted : before.faults ≤ now.faults
+  pub caused : AreCaused (exchanges_since (serial_setup declared seen actions) old new) (account_in before) (account_in now)
   pub timed : now.clock ≡ before.clock

@@ -1,5 +1,5 @@
 -- What a whole run of one worker leaves.
-use Rattle.std.specs.Prelude.{◌≡◌, ◌⊎◌, ◌≤◌, ℕ, List, [], ◌∷◌, Option, Some, None, false, IfSome, IsSomeAnd, slice_get, true}
+use Rattle.std.specs.Prelude.{◌≡◌, ◌⊎◌, ℕ, List, [], ◌∷◌, Option, Some, None, false, IfSome, IsSomeAnd, slice_get, true}
 use Rattle.engine_types.specs.declared.ActionKind.{ActionKind}
 use Rattle.engine_types.specs.declared.ActionKind.TheVariants.{CreateSlot, RemoveContainer, StopContainer, StopKept}
 use Rattle.engine_types.specs.declared.Declared.{Declared}
@@ -9,12 +9,12 @@ use Rattle.engine_types.specs.declared.RunFault.{RunFault}
 use Rattle.engine_types.specs.declared.RunLimits.{RunLimits}
 use Rattle.engine_types.specs.declared.Seen.{Seen}
 use Rattle.observe_project.specs.Exchanges.{HasCauseOfEnd}
-use Rattle.outside_api.specs.Hands.{Heard, HearsEach, HearsMore}
+use Rattle.outside_api.specs.Accounts.{Account, AreCaused}
 use Rattle.run_model.specs.EngineRules.{Among, ToldBy}
 use Rattle.run_model.specs.Logs.{GrowsBy}
 use Rattle.run_model.specs.Plans.{Aim, is_kept, is_restarted, kept, kind_of, slot_at}
 use Rattle.run_model.specs.Runs.{IsLeftByAll, IsRun, Task, run_exchanges, run_seen, run_setup}
-use Rattle.serial_run.specs.Serial.{AllCaused, Telling}
+use Rattle.serial_run.specs.Serial.{Telling, account_in}
 
 -- to carry out for a declared set what an aim asks for, within limits
 abbrev pub task_of : Declared → Aim → RunLimits → Task
@@ -33,11 +33,12 @@ IsFault expected fault = (fault ≡ expected) ⊎ (fault ≡ Some RunFault.Memor
 abbrev pub IsReport : List ℕ → Option RunFault → List ℕ → Type 0
 IsReport expected fault report = (report ≡ expected) ⊎ ((report ≡ []) × (fault ≡ Some RunFault.Memory))
 
--- each outcome of a worker's in a journal that tells of a fault has its cause: the count of faults rose, or, where the hand
--- tells what it heard, the response may be broken; the observation's outcomes are worker 0's
-pub record IsCaused (journal : List Entry) (w : ℕ) (heard : Option (List Heard)) (old new : ℕ) : Type 0 where
-  pub observed : w ≡ 0 → (observation : Observed) → slice_get journal 0 ≡ Some (Entry.Seen observation) → HasCauseOfEnd heard old new observation.end
-  pub ended : AllCaused journal w heard old new
+-- each outcome of a worker's in the task's journal, the observation's for worker 0 too, has its cause in its own exchange, by what
+-- the hand told before the run and tells now; and where the observation ended with a lost response or with a request that wasn't
+-- sent, that was the last exchange, and what is heard last is what was heard in it
+pub record IsCaused (task : Task) (journal : List Entry) (w : ℕ) (old new : Account) : Type 0 where
+  pub exchanges : AreCaused (run_exchanges task journal w) old new
+  pub observed : w ≡ 0 → (observation : Observed) → slice_get journal 0 ≡ Some (Entry.Seen observation) → HasCauseOfEnd new.heard old.faults new.faults observation.end
 
 -- an action that leaves kept containers alone: it removes none, stops none but that of a slot which a need asks to restart, and
 -- creates no other one for their slots
@@ -60,8 +61,5 @@ pub record Leaves (task : Task) (journal : List Entry) (before now : Telling) : 
   pub begun : (entry : Entry) × (rest : List Entry) × (journal ≡ entry ∷ rest)
   pub log : GrowsBy (run_exchanges task journal 0) before.log now.log
   pub told : ToldBy (run_exchanges task journal 0) before.engine now.engine
-  pub caused : IsCaused journal 0 before.heard before.faults now.faults
-  pub hears : HearsMore before.heard now.heard
-  pub hears_each : HearsEach before.log before.heard → HearsEach now.log now.heard
-  pub counted : before.faults ≤ now.faults
+  pub caused : IsCaused task journal 0 (account_in before) (account_in now)
   pub timed : now.clock ≡ before.clock

@@ -1,6 +1,6 @@
 ghost use Rattle.std.specs.Prelude.{◌≡◌, ◌≤◌, [], Some, None, false, reverse, true};
 ghost use Rattle.engine_types.specs.declared.RunFault.{RunFault};
-ghost use Rattle.outside_api.specs.Hands.{HearsEach, HearsMore};
+ghost use Rattle.outside_api.specs.Accounts.{account};
 ghost use Rattle.run_model.specs.Logs.{GrowsBy};
 ghost use Rattle.run_model.specs.Ending.{first_fault};
 ghost use Rattle.run_model.specs.Lines.{report_text};
@@ -28,7 +28,9 @@ use tree_base::{List, ReservedList, Text};
 /// waits for anything else.
 ///
 /// The journal is empty only where there was no room for its first two entries; then nothing was sent, and the fault
-/// is Memory. An Engine that the hand tells went through the run. Where a run of `up` went well and each slot's spec is
+/// is Memory. Each exchange has its cause in itself: a reply is the one that was heard, where the hand tells it, and where a response was
+/// lost, the count of faults rose in that exchange, or what was heard in it is broken in the way that the journal says.
+/// An Engine that the hand tells went through the run. Where a run of `up` went well and each slot's spec is
 /// made for it, the Engine holds exactly what is declared, and where one of `down` went well, all that is declared is
 /// gone, whatever the Engine held before. Where there is no memory to say the fault or the report, the fault is Memory in
 /// its place, and the report is empty.
@@ -45,10 +47,8 @@ pub fn run_project<H: Hand>(alloc: Global, hand: &mut H, declared: &Declared, ai
     ensures world { IfBegun result.journal (GoesThrough (task_of declared.now (aim_of aim) one_worker) result.journal (H.engine hand.old) (H.engine hand.new)) }
     ensures exact { result.fault ≡ None → is_up aim.purpose ≡ true → HasOwnSpecs declared.now → EndsExact (task_of declared.now (aim_of aim) one_worker) result.journal }
     ensures gone { result.fault ≡ None → is_up aim.purpose ≡ false → EndsGone (task_of declared.now (aim_of aim) one_worker) result.journal }
-    ensures cause { IsCaused result.journal 0 (H.heard hand.old) (H.faults hand.old) (H.faults hand.new) }
-    ensures heard { HearsMore (H.heard hand.old) (H.heard hand.new) }
-    ensures heard_each { HearsEach (H.log hand.old) (H.heard hand.old) → HearsEach (H.log hand.new) (H.heard hand.new) }
-    ensures counted { H.faults hand.old ≤ H.faults hand.new }
+    ensures cause { IsCaused (task_of declared.now (aim_of aim) one_worker) result.journal 0
+        (account (H.log hand.old) (H.heard hand.old) (H.faults hand.old)) (account (H.log hand.new) (H.heard hand.new) (H.faults hand.new)) }
     ensures clock { H.clock hand.new ≡ H.clock hand.old }
 {
     let mut journal = ReservedList::new(alloc);

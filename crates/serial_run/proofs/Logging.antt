@@ -1,16 +1,16 @@
 -- What a hand's log grows by, over the actions of a run of one worker.
-use Rattle.std.proofs.Common.{◌≡◌, ◌⊎◌, ℕ, ◌<◌, ◌≤◌, List, [], ◌∷◌, ◌++◌, length, reverse, drop, take, Option, Some, None, refl, sym, ap, ◌∙◌, subst, inl, inr, arith, append_assoc}
-use Rattle.std.proofs.lemmas.Bool.{cases_lt, eq-eqb}
+use Rattle.std.proofs.Common.{◌≡◌, ℕ, List, [], ◌∷◌, ◌++◌, length, reverse, drop, Option, Some, refl, sym, ap, ◌∙◌, subst, inl, inr, append_assoc}
+use Rattle.std.proofs.lemmas.Bool.{eq-eqb}
 use Rattle.std.proofs.lemmas.List.{append-nil}
-use Rattle.std.specs.Prelude.{IsSome}
 use Rattle.engine_types.specs.declared.ActionKind.{ActionKind}
 use Rattle.engine_types.specs.declared.Engine.{Engine}
 use Rattle.engine_types.specs.declared.Entry.{Entry}
 use Rattle.engine_types.specs.declared.Exchange.{Exchange}
 use Rattle.engine_types.specs.declared.Outcome.{Outcome}
 use Rattle.engine_types.specs.declared.Request.{Request}
-use Rattle.outside_files.specs.Counts.{Rose}
-use Rattle.outside_api.specs.Hands.{HasCause, Heard, HearsMore, Logs}
+use Rattle.outside_api.specs.Accounts.{Account, AreCaused, IsCausedIn}
+use Rattle.outside_api.specs.Hands.{Logs}
+use Rattle.outside_api.proofs.Accounts.{caused-append, caused-one}
 use Rattle.run_model.specs.EngineRules.{Tells, ToldBy}
 use Rattle.run_model.specs.Journals.{Setup}
 use Rattle.run_model.specs.Logs.{GrowsBy, IsLogOf, exchanges_of}
@@ -54,6 +54,12 @@ pub told_more : (es : List Exchange) (old mid new : Option Engine) (request : Re
 told_more [] old mid new request outcome e t = (new, subst (λ (o : Option Engine). Tells o request outcome new) e t, refl)
 told_more (x ∷ es) old mid new request outcome e t = (e.0, e.1, told_more es e.0 mid new request outcome e.2 t)
 
+-- after these exchanges one more has its cause in it
+pub caused_more : (es : List Exchange) (old mid new : Account) (request : Request) (outcome : Outcome) → AreCaused es old mid
+    → IsCausedIn (record { request = request; outcome = outcome }) mid new → AreCaused (es ++ record { request = request; outcome = outcome } ∷ []) old new
+caused_more es old mid new request outcome e c =
+    caused-append es (record { request = request; outcome = outcome } ∷ []) old mid new e (caused-one (record { request = request; outcome = outcome }) mid new c)
+
 drop_all : {X : Type 0} (xs ys : List X) → drop (length xs) (xs ++ ys) ≡ ys
 drop_all [] ys = refl
 drop_all (x ∷ xs) ys = drop_all xs ys
@@ -90,49 +96,3 @@ module _ (setup : Setup) where
 
   pub since_short : (old new : List Entry) (es : List Exchange) → Since old new es → Since old (new ++ Entry.Short 0 ∷ []) es
   since_short old new es s = record { are = ap (λ (past : List Entry). exchanges_of setup past 0) (reverse_push new (Entry.Short 0)) ∙ s.are }
-
-take_all : {X : Type 0} (xs : List X) → take (length xs) xs ≡ xs
-take_all [] = refl
-take_all (x ∷ xs) = ap (λ ys. x ∷ ys) (take_all xs)
-
--- what was heard stays heard
-pub hears_same : (heard : Option (List Heard)) → HearsMore heard heard
-hears_same None = refl
-hears_same (Some items) = take_all items
-
-take_through : {X : Type 0} (xs ys zs : List X) → take (length xs) ys ≡ xs → take (length ys) zs ≡ ys → take (length xs) zs ≡ xs
-take_through [] ys zs e f = refl
-take_through (x ∷ xs) [] zs e f = absurd (cc e)
-take_through (x ∷ xs) (y ∷ ys) [] e f = absurd (cc f)
-take_through (x ∷ xs) (y ∷ ys) (z ∷ zs) e f =
-    let e0 : y ≡ x = cc e in let e1 : take (length xs) ys ≡ xs = cc e in
-    let f0 : z ≡ y = cc f in let f1 : take (length ys) zs ≡ ys = cc f in
-    let rest = take_through xs ys zs e1 f1 in cc
-
-pub hears_through : (a b c : Option (List Heard)) → HearsMore a b → HearsMore b c → HearsMore a c
-hears_through None None c e f = f
-hears_through None (Some ys) c e f = absurd (cc e)
-hears_through (Some xs) None c e f = absurd e
-hears_through (Some xs) (Some ys) None e f = absurd f
-hears_through (Some xs) (Some ys) (Some zs) e f = take_through xs ys zs e f
-
--- a count that rose between two that don't fall
-rose_within : (a b c d : ℕ) → a ≤ b → b ≤ c → c ≤ d → Rose b c → Rose a d
-rose_within a b c d l k m (inl r) = inl (omega (arith, l, m, r))
-rose_within a b c d l k m (inr r) = at (cases_lt a b)
-  where
-    at : (a < b) ⊎ (b ≤ a) → Rose a d
-    at (inl h) = inl (omega (arith, h, k, m))
-    at (inr h) = inr (omega (arith, h, r))
-
-pub heard_before : (a b : Option (List Heard)) → HearsMore a b → IsSome b → IsSome a
-heard_before None b e h = subst (λ (o : Option (List Heard)). IsSome o) e h
-heard_before (Some xs) b e h = refl
-
--- a cause within a longer time is one of it
-pub cause_within : (heard mid : Option (List Heard)) (a b c d : ℕ) (outcome : Outcome) → HearsMore heard mid → a ≤ b → b ≤ c → c ≤ d → HasCause mid b c outcome → HasCause heard a d outcome
-cause_within heard mid a b c d (Outcome.Answered reply) h l k m cause = tt
-cause_within heard mid a b c d (Outcome.Lost why) h l k m (inl r) = inl (rose_within a b c d l k m r)
-cause_within heard mid a b c d (Outcome.Lost why) h l k m (inr r) = inr (heard_before heard mid h r)
-cause_within heard mid a b c d Outcome.NotSent h l k m r = rose_within a b c d l k m r
-cause_within heard mid a b c d Outcome.Memory h l k m cause = tt

@@ -1,5 +1,5 @@
 -- A run of one worker on its way: it begins, goes on over each action, and ends.
-use Rattle.std.proofs.Common.{◌≡◌, ◌⊎◌, ℕ, ◌+◌, ◌*◌, ◌<◌, ◌≤◌, Bool, true, false, List, [], ◌∷◌, ◌++◌, length, reverse, Option, Some, None, refl, sym, ap, ◌∙◌, subst, inl, inr, arith, append_assoc}
+use Rattle.std.proofs.Common.{◌≡◌, ℕ, ◌+◌, ◌*◌, ◌<◌, ◌≤◌, Bool, true, false, List, [], ◌∷◌, ◌++◌, length, reverse, Option, Some, None, refl, sym, ap, ◌∙◌, inl, inr, arith, append_assoc}
 use Rattle.std.proofs.lemmas.List.{append-nil, length-append}
 use Rattle.std.specs.Prelude.{if◌then◌else◌}
 use Rattle.engine_types.specs.declared.Action.{Action}
@@ -12,7 +12,7 @@ use Rattle.engine_types.specs.declared.Request.{Request}
 use Rattle.engine_types.specs.declared.Seen.{Seen}
 use Rattle.engine_types.specs.declared.SeenEnd.{SeenEnd}
 use Rattle.engine_types.specs.declared.SeenFault.{SeenFault}
-use Rattle.outside_api.specs.Hands.{HasCause}
+use Rattle.outside_api.specs.Accounts.{AreCaused}
 use Rattle.run_model.specs.Ending.{IsRunOver}
 use Rattle.run_model.specs.EngineRules.{Among, ToldBy}
 use Rattle.run_model.specs.Journals.{Setup}
@@ -21,12 +21,11 @@ use Rattle.run_model.specs.Logs.{GrowsBy, exchanges_of}
 use Rattle.run_model.specs.Observation.{Asks, Ends, Onward, Strays, listing_fault, observed}
 use Rattle.run_model.specs.Plans.{Aim, Basis, action_count, is_too_long, kind_of, needs_of}
 use Rattle.run_model.specs.Requests.{request_of}
-use Rattle.run_model.proofs.DistinctLists.{from_append}
 use Rattle.run_model.proofs.ToldLaws.{seen_is_told}
 use Rattle.serial_run.proofs.Deciding.{Stand, goals_over, next_is, none_next, over}
-use Rattle.serial_run.proofs.Logging.{Since, cause_within, grows_more, grows_not, hears_same, hears_through, since_is, since_left, since_made, since_short, since_start, told_more}
+use Rattle.serial_run.proofs.Logging.{Since, caused_more, grows_more, grows_not, since_is, since_left, since_made, since_short, since_start, told_more}
 use Rattle.serial_run.proofs.Stepping.{between_start, between_step, falls_short, leaves, marks_made, marks_skip, marks_start, stand}
-use Rattle.serial_run.specs.Serial.{AllCaused, AreMarks, Exchanged, GoesOn, IsBegun, IsDone, IsMade, IsOnItsWay, IsSkipped, WaitsForNone, Telling, exchanges_since, is_clear, serial_setup}
+use Rattle.serial_run.specs.Serial.{AreMarks, Exchanged, GoesOn, IsBegun, IsDone, IsMade, IsOnItsWay, IsSkipped, WaitsForNone, Telling, account_in, exchanges_since, is_clear, serial_setup}
 use Rattle.serial_run.specs.declared.mark.Mark.{Mark}
 
 -- there is no fault in the listings of an observation that ended well
@@ -58,15 +57,6 @@ sound_of declared aim seen journal b = at b.observed
     at (inl e) = by (observed declared aim.purpose b.observation.exchanges) refl e
     at (inr e) = let bad : SeenEnd.Bad SeenFault.Memory ≡ SeenEnd.Good seen = sym e.0 ∙ b.good in absurd (cc bad)
 
--- what stands after a journal and one more entry that is no end
-no_more_ends : (journal : List Entry) (last : Entry) (outcome : Outcome) → (Entry.Ended 0 outcome ≡ last → ⊥) → Among (journal ++ last ∷ []) (Entry.Ended 0 outcome) → Among journal (Entry.Ended 0 outcome)
-no_more_ends journal last outcome other m = at (from_append journal (last ∷ []) (Entry.Ended 0 outcome) m)
-  where
-    at : Among journal (Entry.Ended 0 outcome) ⊎ Among (last ∷ []) (Entry.Ended 0 outcome) → Among journal (Entry.Ended 0 outcome)
-    at (inl n) = n
-    at (inr (inl e)) = absurd (other e)
-    at (inr (inr n)) = absurd n
-
 -- before the action whose number is the count of the marks
 pub record IsOn (aim : Aim) (setup : Setup) (old new : List Entry) (marks : List Mark) (before now : Telling) : Type 0 where
   pub way : IsOnItsWay aim setup old new before now
@@ -80,7 +70,7 @@ pub record IsEnd (aim : Aim) (setup : Setup) (old new : List Entry) (before now 
   pub more : GoesOn old new
   pub grown : GrowsBy (exchanges_since setup old new) before.log now.log
   pub told : ToldBy (exchanges_since setup old new) before.engine now.engine
-  pub caused : AllCaused new 0 before.heard before.faults now.faults
+  pub caused : AreCaused (exchanges_since setup old new) (account_in before) (account_in now)
 
 module _ (declared : Declared) (seen : Seen) (actions : List Action) (aim : Aim) (plain : WaitsForNone declared) where
   abbrev setup : Setup
@@ -96,19 +86,12 @@ module _ (declared : Declared) (seen : Seen) (actions : List Action) (aim : Aim)
           since = rw none (sym (append-nil (exchanges_of setup (reverse old) 0)));
           grown = rw none (grows_not before.log);
           told = rw none refl;
-          hears = hears_same before.heard;
-          hears_each = λ h. h;
-          counted = omega arith;
-          caused = λ outcome m. absurd (no_end outcome (subst (λ (xs : List Entry). Among xs (Entry.Ended 0 outcome)) b.only m));
+          caused = rw none refl;
           timed = refl;
         };
         marked = marks_start declared seen actions aim old b;
         length_is = let n = ap length b.only in omega (arith, n);
       }
-    where
-      no_end : (outcome : Outcome) → Among (Entry.Seen b.observation ∷ []) (Entry.Ended 0 outcome) → ⊥
-      no_end outcome (inl e) = cc e
-      no_end outcome (inr n) = n
 
   module _ (lower : (a b : ℕ) → Among (needs_of actions a) b → b < a) (old : List Entry) (before : Telling) where
     -- over an action that is skipped
@@ -143,28 +126,15 @@ module _ (declared : Declared) (seen : Seen) (actions : List Action) (aim : Aim)
       since_next : exchanges_since setup old (new ++ added) ≡ exchanges_since setup old new ++ exchange ∷ []
       since_next = since_is setup old (new ++ added) (exchanges_since setup old new ++ exchange ∷ []) since
 
-      caused : AllCaused (new ++ added) 0 before.heard before.faults later.faults
-      caused outcome m = at (from_append new added (Entry.Ended 0 outcome) m)
-        where
-          at : Among new (Entry.Ended 0 outcome) ⊎ Among added (Entry.Ended 0 outcome) → HasCause before.heard before.faults later.faults outcome
-          at (inl n) = cause_within before.heard before.heard before.faults before.faults now.faults later.faults outcome (hears_same before.heard) (omega arith) on.way.counted made.exchanged.counted (on.way.caused outcome n)
-          at (inr (inl e)) = absurd (cc e)
-          at (inr (inr (inl e))) = let same : outcome ≡ made.outcome = cc e in
-              rw same (cause_within before.heard now.heard before.faults now.faults later.faults later.faults made.outcome on.way.hears on.way.counted made.exchanged.counted (omega arith) made.exchanged.cause)
-          at (inr (inr (inr n))) = absurd n
-
       pub makes : IsOn aim setup old next (marks ++ mark ∷ []) before later
       makes = rw (made.entered, made.marked) (record {
         way = record {
           between = between_step declared seen actions aim new k made.outcome plain on.way.between next_now (let l = on.length_is in omega (arith, l, few, more));
           more = (on.way.more.0 ++ added, ap (λ (xs : List Entry). xs ++ added) on.way.more.1 ∙ append_assoc old on.way.more.0 added);
           since = rw since_next since.are;
-          grown = rw since_next (grows_more (exchanges_since setup old new) before.log now.log later.log made.request made.outcome on.way.grown made.exchanged.logged);
+          grown = rw since_next (grows_more (exchanges_since setup old new) before.log now.log later.log made.request made.outcome on.way.grown made.exchanged.caused.logged);
           told = rw since_next (told_more (exchanges_since setup old new) before.engine now.engine later.engine made.request made.outcome on.way.told made.exchanged.told);
-          hears = hears_through before.heard now.heard later.heard on.way.hears made.exchanged.hears;
-          hears_each = λ h. made.exchanged.hears_each (on.way.hears_each h);
-          counted = let a = on.way.counted in let b = made.exchanged.counted in omega (arith, a, b);
-          caused = caused;
+          caused = rw since_next (caused_more (exchanges_since setup old new) (account_in before) (account_in now) (account_in later) made.request made.outcome on.way.caused made.exchanged.caused);
           timed = made.exchanged.timed ∙ on.way.timed;
         };
         marked = marks_made declared seen actions aim new marks kind made.outcome lower on.marked is_kind;
@@ -200,7 +170,7 @@ module _ (declared : Declared) (seen : Seen) (actions : List Action) (aim : Aim)
         more = (way.more.0 ++ Entry.Leave 0 ∷ [], ap (λ (xs : List Entry). xs ++ Entry.Leave 0 ∷ []) way.more.1 ∙ append_assoc old way.more.0 (Entry.Leave 0 ∷ []));
         grown = rw s way.grown;
         told = rw s way.told;
-        caused = λ outcome m. way.caused outcome (no_more_ends new (Entry.Leave 0) outcome (λ e. cc e) m);
+        caused = rw s way.caused;
       }
 
   pub end_by_short : (old new : List Entry) (before now : Telling) → IsOnItsWay aim setup old new before now → IsEnd aim setup old (new ++ Entry.Short 0 ∷ []) before now
@@ -213,5 +183,5 @@ module _ (declared : Declared) (seen : Seen) (actions : List Action) (aim : Aim)
         more = (way.more.0 ++ Entry.Short 0 ∷ [], ap (λ (xs : List Entry). xs ++ Entry.Short 0 ∷ []) way.more.1 ∙ append_assoc old way.more.0 (Entry.Short 0 ∷ []));
         grown = rw s way.grown;
         told = rw s way.told;
-        caused = λ outcome m. way.caused outcome (no_more_ends new (Entry.Short 0) outcome (λ e. cc e) m);
+        caused = rw s way.caused;
       }

@@ -18,7 +18,8 @@ use Rattle.engine_types.specs.declared.Seen.{Seen}
 use Rattle.engine_types.specs.declared.SeenEnd.{SeenEnd}
 use Rattle.engine_types.specs.declared.Slot.{Slot}
 use Rattle.outside_api.specs.Clock.{Clock}
-use Rattle.outside_api.specs.Hands.{HasCause, Heard, HearsEach, HearsMore, Logs}
+use Rattle.outside_api.specs.Accounts.{Account, AreCaused, IsCausedIn, account}
+use Rattle.outside_api.specs.Hands.{Heard}
 use Rattle.run_model.specs.Ending.{is_goal_over, is_over}
 use Rattle.run_model.specs.EngineRules.{Among, Tells, ToldBy}
 use Rattle.run_model.specs.Journals.{Badly, Free, Nothing, Setup, Well, has_left, holding, is_ending, is_good, seen_in, standing}
@@ -72,11 +73,6 @@ GoesOn old new = (added : List Entry) × (new ≡ old ++ added)
 abbrev pub exchanges_since : Setup → List Entry → List Entry → List Exchange
 exchanges_since setup old new = drop (length (exchanges_of setup (reverse old) 0)) (exchanges_of setup (reverse new) 0)
 
--- each end of a worker's that tells of a fault has its cause: the count of faults rose, or, where the hand tells what it
--- heard, the response may be broken
-abbrev pub AllCaused : List Entry → ℕ → Option (List Heard) → ℕ → ℕ → Type 0
-AllCaused journal w heard old new = (outcome : Outcome) → Among journal (Entry.Ended w outcome) → HasCause heard old new outcome
-
 -- what a hand tells
 pub record Telling : Type 0 where
   pub log : List Exchange
@@ -89,14 +85,14 @@ pub record Telling : Type 0 where
 abbrev pub telling : List Exchange → Option (List Heard) → ℕ → Clock → Option Engine → Telling
 telling log heard faults clock engine = record { log = log; heard = heard; faults = faults; clock = clock; engine = engine }
 
+-- what it tells of its exchanges
+abbrev pub account_in : Telling → Account
+account_in telling = account telling.log telling.heard telling.faults
+
 -- what an exchange makes of what the hand tells
 pub record Exchanged (old : Telling) (request : Request) (outcome : Outcome) (new : Telling) : Type 0 where
-  pub logged : Logs old.log request outcome new.log
   pub told : Tells old.engine request outcome new.engine
-  pub hears : HearsMore old.heard new.heard
-  pub hears_each : HearsEach old.log old.heard → HearsEach new.log new.heard
-  pub counted : old.faults ≤ new.faults
-  pub cause : HasCause old.heard old.faults new.faults outcome
+  pub caused : IsCausedIn (record { request = request; outcome = outcome }) (account_in old) (account_in new)
   pub timed : new.clock ≡ old.clock
 
 -- how an action stands by its mark: it ended well with the reply of the entry at that place, otherwise, or was never claimed
@@ -143,10 +139,7 @@ pub record IsOnItsWay (aim : Aim) (setup : Setup) (old new : List Entry) (before
   pub since : exchanges_of setup (reverse new) 0 ≡ exchanges_of setup (reverse old) 0 ++ exchanges_since setup old new
   pub grown : GrowsBy (exchanges_since setup old new) before.log now.log
   pub told : ToldBy (exchanges_since setup old new) before.engine now.engine
-  pub hears : HearsMore before.heard now.heard
-  pub hears_each : HearsEach before.log before.heard → HearsEach now.log now.heard
-  pub counted : before.faults ≤ now.faults
-  pub caused : AllCaused new 0 before.heard before.faults now.faults
+  pub caused : AreCaused (exchanges_since setup old new) (account_in before) (account_in now)
   pub timed : now.clock ≡ before.clock
 
 -- nothing is left to do for the only worker, and once it has left, every action and every goal is over

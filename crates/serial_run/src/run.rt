@@ -1,12 +1,12 @@
 ghost use Rattle.std.specs.Prelude.{◌≡◌, ◌≤◌, true, false, reverse, length, slice_get, is_some, IfOk, OnOk, OnErr, Some, ◌⊎◌};
-ghost use Rattle.outside_api.specs.Hands.{HearsEach, HearsMore};
+ghost use Rattle.outside_api.specs.Accounts.{AreCaused, account};
 ghost use Rattle.run_model.specs.Ending.{IsRunOver};
 ghost use Rattle.run_model.specs.Legal.{IsLegal};
 ghost use Rattle.run_model.specs.Logs.{GrowsBy};
 ghost use Rattle.run_model.specs.Plans.{IsWhole, is_too_long, planned};
 ghost use Rattle.serial_run.specs.Asking.{course, request_by};
 ghost use Rattle.serial_run.specs.LastEntries.{last_entry};
-ghost use Rattle.serial_run.specs.Serial.{AllCaused, GoesOn, IsBegun, IsDone, IsGrounded, IsLeftAlone, IsMade, IsOnItsWay, IsSkipped, WaitsForNone, aim_of, basis_of, exchanges_since, is_clear, serial_setup, telling};
+ghost use Rattle.serial_run.specs.Serial.{GoesOn, IsBegun, IsDone, IsGrounded, IsLeftAlone, IsMade, IsOnItsWay, IsSkipped, WaitsForNone, aim_of, basis_of, exchanges_since, is_clear, serial_setup, telling};
 ghost use Rattle.run_model.specs.EngineRules.{ToldBy};
 
 use crate::mark::{Mark, is_clear, mark_of};
@@ -20,7 +20,8 @@ use tree_base::{Memory, ReservedList};
 /// Runs the plan of an aim with one worker, number 0, without deadline or waiting: goes through the actions by number, skips
 /// those of which one that they need didn't end well, claims each other one, makes its exchange and ends it, and
 /// leaves. Where memory is wanted before a claim, the worker falls short in place of leaving. The journal has the
-/// observation that the plan was made from, and room for one entry.
+/// observation that the plan was made from, and room for one entry. Each exchange has its cause in itself: where a response was lost, the
+/// count of faults rose in that exchange, or what was heard in it is broken in the way that the journal says.
 pub fn run_plan<H: Hand>(
     alloc: Global,
     hand: &mut H,
@@ -41,10 +42,8 @@ pub fn run_plan<H: Hand>(
     ensures more { GoesOn journal.old.items journal.new.items }
     ensures log { GrowsBy (exchanges_since (serial_setup declared.now seen.now plan.now.actions) journal.old.items journal.new.items) (H.log hand.old) (H.log hand.new) }
     ensures told { ToldBy (exchanges_since (serial_setup declared.now seen.now plan.now.actions) journal.old.items journal.new.items) (H.engine hand.old) (H.engine hand.new) }
-    ensures heard { HearsMore (H.heard hand.old) (H.heard hand.new) }
-    ensures heard_each { HearsEach (H.log hand.old) (H.heard hand.old) → HearsEach (H.log hand.new) (H.heard hand.new) }
-    ensures counted { H.faults hand.old ≤ H.faults hand.new }
-    ensures cause { AllCaused journal.new.items 0 (H.heard hand.old) (H.faults hand.old) (H.faults hand.new) }
+    ensures caused { AreCaused (exchanges_since (serial_setup declared.now seen.now plan.now.actions) journal.old.items journal.new.items)
+        (account (H.log hand.old) (H.heard hand.old) (H.faults hand.old)) (account (H.log hand.new) (H.heard hand.new) (H.faults hand.new)) }
     ensures clock { H.clock hand.new ≡ H.clock hand.old }
 {
     let through = make_all(alloc, hand, declared, seen, plan, aim, journal);

@@ -3,7 +3,8 @@ use Rattle.plain_services.specs.Loading.{loaded}
 use Rattle.compose_config.proofs.Loads.{IfSome-map, failed_read}
 use Rattle.compose_cli.proofs.Ending.{no_fault_of_plug, only_reads, refused_with, said_read, said_words}
 use Rattle.compose_cli.proofs.Ran.{asked, for_task, has_begun, if_begun, said_not_zero, status_by}
-use Rattle.compose_cli.specs.Runs.{HoldsExactly, HoldsNone, IsRefusalOf, IsStatusOf, LeadsOn, Reports, first_reading, task_for}
+use Rattle.compose_cli.specs.Runs.{HoldsExactly, HoldsNone, IsCausedAnew, IsRefusalOf, IsStatusOf, LeadsOn, Reports, first_reading, task_for}
+use Rattle.outside_api.specs.Accounts.{account}
 use Rattle.project_run.specs.Whole.{SparesKept}
 use Rattle.project_run.specs.Worlds.{EndsExact, EndsGone}
 use Rattle.run_model.specs.EngineRules.{Among}
@@ -53,7 +54,8 @@ returns-in-Ok-clause-log g c = if_begun c.run_project.result.journal c.run_proje
     for_task c.args.words.now c.args.cwd.now (g.F.Files.told c.args.files.now) (first_reading (λ h. g.P.Hand.Hand.clock h) c.run_project.result.hands) (aim_of c.in-Some.aim) c.in-Ok.project (λ task. (w : ℕ) (hand : _) → slice_get c.run_project.result.hands w ≡ Some hand → GrowsBy (run_exchanges task c.run_project.result.journal w) [] (g.P.Hand.Hand.log hand)) (asked c.command_of.result c.args.words.now c.aim_for.result c.in-Some.aim c.command_of.ensures c.aim_for.ensures c.in-Some.is) c.in-Ok.ensures.told c.in-Ok.ensures.text ran.logs)
 
 pub returns-in-Ok-clause-cause : goal.returns-in-Ok-clause-cause
-returns-in-Ok-clause-cause g c = if_begun c.run_project.result.journal c.run_project.ensures.ran (λ ran. ran.caused)
+returns-in-Ok-clause-cause g c = if_begun c.run_project.result.journal c.run_project.ensures.ran (λ ran.
+    for_task c.args.words.now c.args.cwd.now (g.F.Files.told c.args.files.now) (first_reading (λ h. g.P.Hand.Hand.clock h) c.run_project.result.hands) (aim_of c.in-Some.aim) c.in-Ok.project (λ task. (w : ℕ) (hand : _) → slice_get c.run_project.result.hands w ≡ Some hand → IsCausedAnew task c.run_project.result.journal w (account (g.P.Hand.Hand.log hand) (g.P.Hand.Hand.heard hand) (g.P.Hand.Hand.faults hand))) (asked c.command_of.result c.args.words.now c.aim_for.result c.in-Some.aim c.command_of.ensures c.aim_for.ensures c.in-Some.is) c.in-Ok.ensures.told c.in-Ok.ensures.text ran.caused)
 
 pub returns-in-Ok-clause-run_status : goal.returns-in-Ok-clause-run_status
 returns-in-Ok-clause-run_status g c = if_begun c.run_project.result.journal c.run_project.ensures.ran (λ ran.

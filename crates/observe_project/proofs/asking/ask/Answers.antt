@@ -13,4 +13,5 @@ returns-in_err-kept-clause-asked g c =
 pub returns-clause-asked : goal.returns-clause-asked
 returns-clause-asked g c =
     let e = c.exchange-outcome.ensures in
-    asked-one c.args.request c.in_ok-kept.kept c.exchange-outcome.result _ _ (copied _ _ _ c.copy.ensures c.in_ok-kept.ensures) e.log e.told e.heard e.heard_each e.counted e.clock e.cause
+    asked-one c.args.request c.in_ok-kept.kept c.exchange-outcome.result _ _ (copied _ _ _ c.copy.ensures c.in_ok-kept.ensures) e.told
+    (record { logged = e.log; hears = e.heard; counted = e.counted; unsent = e.unsent_faults; cause = e.cause }) e.clock

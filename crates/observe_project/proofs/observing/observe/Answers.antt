@@ -23,14 +23,11 @@ returns-clause-told g c =
 pub returns-clause-cause : goal.returns-clause-cause
 returns-clause-cause g c = rw c.end_of.ensures (cause_of_end _ _ _ c.see-seen.result c.see-seen.ensures.cause)
 
-pub returns-clause-heard : goal.returns-clause-heard
-returns-clause-heard g c = c.see-seen.ensures.makes.heard
-
-pub returns-clause-heard_each : goal.returns-clause-heard_each
-returns-clause-heard_each g c = c.see-seen.ensures.makes.heard_each
-
-pub returns-clause-counted : goal.returns-clause-counted
-returns-clause-counted g c = c.see-seen.ensures.makes.counted
+pub returns-clause-caused : goal.returns-clause-caused
+returns-clause-caused g c =
+    let s = c.see-seen.ensures in
+    let are : c.into_list.result ≡ s.made = c.into_list.ensures ∙ s.kept ∙ ap (λ k. k ++ s.made) c.new-exchanges.ensures in
+    rw are s.makes.caused
 
 pub returns-clause-clock : goal.returns-clause-clock
 returns-clause-clock g c = c.see-seen.ensures.makes.clock

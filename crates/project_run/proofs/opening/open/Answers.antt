@@ -11,5 +11,4 @@ returns-clause-opens g c =
     (telling (g.H.Hand.log c.observe-exchanges.new.hand) (g.H.Hand.heard c.observe-exchanges.new.hand) (g.H.Hand.faults c.observe-exchanges.new.hand) (g.H.Hand.clock c.observe-exchanges.new.hand) (g.H.Hand.engine c.observe-exchanges.new.hand))
     c.observe-exchanges.ensures.observed c.after_observation-end.ensures.end c.after_observation-end.ensures.follows c.requires.empty
     (on_ok c.push.result _ c.push.ensures.ok (c.push.ensures.succeeds (let r = c.requires.room in omega (arith, r))))
-    c.observe-exchanges.ensures.log c.observe-exchanges.ensures.told c.observe-exchanges.ensures.cause c.observe-exchanges.ensures.heard c.observe-exchanges.ensures.heard_each c.observe-exchanges.ensures.counted
-    c.observe-exchanges.ensures.clock
+    c.observe-exchanges.ensures.log c.observe-exchanges.ensures.told c.observe-exchanges.ensures.caused c.observe-exchanges.ensures.cause c.observe-exchanges.ensures.clock

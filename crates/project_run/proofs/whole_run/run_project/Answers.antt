@@ -1,5 +1,6 @@
 use Rattle.project_run.proofs.Exact.{ends_exact, ends_gone, goes_through, if_any}
 use Rattle.project_run.proofs.Sparing.{runs_spare_kept}
+use Rattle.project_run.proofs.Leaving.{nothing_caused}
 use Rattle.serial_run.specs.Serial.{aim_of, one_worker}
 use Rattle.project_run.specs.Whole.{task_of}
 use Rattle.project_run.proofs.whole_run.run_project.Goals as goal
@@ -21,3 +22,9 @@ returns-clause-exact g c =
 pub returns-clause-gone : goal.returns-clause-gone
 returns-clause-gone g c =
     ends_gone c.args.declared.now (aim_of c.args.aim) c.run.result.journal c.requires.whole c.run.ensures.leaves.run c.run.result.fault c.run.ensures.fault
+
+pub returns-then-is_err-clause-cause : goal.returns-then-is_err-clause-cause
+returns-then-is_err-clause-cause g c = nothing_caused (task_of c.args.declared.now (aim_of c.args.aim) one_worker) c.unopened.result.journal 0 _ c.unopened.ensures.journal
+
+pub returns-clause-cause : goal.returns-clause-cause
+returns-clause-cause g c = c.run.ensures.leaves.caused

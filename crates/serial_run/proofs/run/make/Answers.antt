@@ -11,11 +11,13 @@ returns-clause-made g c =
     c.mark_of-mark.result c.reserve.ensures.items (on_ok c.push.result _ c.push.ensures.ok (c.push.ensures.succeeds (omega (arith, c.in_ok-reserve.ensures.ok))))
     c.len.ensures c.mark_of-mark.ensures (on_ok c.push-2.result _ c.push-2.ensures.ok (c.push-2.ensures.succeeds (omega (arith, c.in_ok-reserve.ensures.ok))))
     (record {
-      logged = c.exchange-outcome.ensures.log;
       told = c.exchange-outcome.ensures.told;
-      hears = c.exchange-outcome.ensures.heard;
-      hears_each = c.exchange-outcome.ensures.heard_each;
-      counted = c.exchange-outcome.ensures.counted;
-      cause = c.exchange-outcome.ensures.cause;
+      caused = record {
+        logged = c.exchange-outcome.ensures.log;
+        hears = c.exchange-outcome.ensures.heard;
+        counted = c.exchange-outcome.ensures.counted;
+        unsent = c.exchange-outcome.ensures.unsent_faults;
+        cause = c.exchange-outcome.ensures.cause;
+      };
       timed = c.exchange-outcome.ensures.clock;
     })

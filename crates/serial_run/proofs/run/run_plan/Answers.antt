@@ -31,9 +31,6 @@ returns g c =
       more = end.more;
       log = end.grown;
       told = end.told;
-      heard = way.hears;
-      heard_each = way.hears_each;
-      counted = way.counted;
-      cause = end.caused;
+      caused = end.caused;
       clock = way.timed;
     }
