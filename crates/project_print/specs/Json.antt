@@ -1,5 +1,5 @@
 -- The same as JSON without spaces (RFC 8259).
-use Rattle.std.specs.Prelude.{ℕ, List, Bool, not, ◌++◌, ◌==◌, ◌&&◌, codes, map, nat_le}
+use Rattle.std.specs.Prelude.{ℕ, List, ◌++◌, codes, map}
 use Rattle.std.specs.List.{join_with_byte}
 use Rattle.json.specs.Print.{quoted}
 use Rattle.project_print.specs.declared.compact_json.Dollars.{Dollars}
@@ -7,14 +7,6 @@ use Rattle.project_print.specs.declared.compact_json.Dollars.TheVariants.{Once, 
 use Rattle.project_print.specs.declared.node.Node.{Node, fold-Node}
 use Rattle.project_print.specs.declared.node.Node.TheOpen.{Node-F}
 use Rattle.project_print.specs.Scalars.{doubled}
-
--- a byte that stands in a string without an escape: no control character, no quote and no backslash
-abbrev pub is_string_byte : ℕ → Bool
-is_string_byte byte = nat_le 32 byte && (not (byte == 34) && not (byte == 92))
-
--- a byte that doubling leaves as it is
-abbrev pub is_no_dollar : ℕ → Bool
-is_no_dollar byte = not (byte == 36)
 
 -- a text with its dollars as they are printed
 abbrev pub spelled : Dollars → List ℕ → List ℕ

@@ -1,14 +1,13 @@
-ghost use Rattle.std.specs.Prelude.{◌≡◌, ◌++◌, IfOk, OnOk, length, map, true};
-ghost use Rattle.std.specs.List.{list_all, zip};
+ghost use Rattle.std.specs.Prelude.{◌≡◌, [], ◌∷◌, ◌++◌, ◌+◌, ◌/◌, ◌%◌, ◌<◌, IfOk, OnOk, drop, length, map};
+ghost use Rattle.std.specs.Char.{digit_char};
+ghost use Rattle.std.specs.List.{prefix_len, zip};
+ghost use Rattle.std.specs.Str.{IsCharBoundary};
 ghost use Rattle.json.specs.Print.{quoted};
-ghost use Rattle.project_print.specs.Json.{is_no_dollar, is_string_byte, json_of, json_page_text, spelled};
-ghost use Rattle.project_print.specs.Scalars.{doubled};
-ghost use Rattle.project_print.specs.Written.{comma, listed_from, members_text};
+ghost use Rattle.project_print.specs.Json.{json_of, json_page_text, spelled};
+ghost use Rattle.project_print.specs.Written.{comma, content, escape_of, is_string_byte, listed_from, members_text, stands};
 
 use crate::node::Node;
-use crate::scalar::doubled;
-use serde_json::Value;
-use std::alloc::{AllocError, Global};
+use std::alloc::Global;
 use tree_base::{Memory, Text};
 
 /// How the dollars of texts are printed.
@@ -35,27 +34,27 @@ pub fn json_text(alloc: Global, node: &Node, dollars: Dollars) -> Result<Text, M
     ensures { IfOk result (λ text. text ≡ json_of dollars node.now) }
 {
     let mut out = Text::new(alloc);
-    put_json(node, alloc, dollars, &mut out)?;
+    put_json(node, dollars, &mut out)?;
     Ok(out)
 }
 
 /// Puts the node's JSON last.
 #[cycle(json)]
-fn put_json(node: &Node, alloc: Global, dollars: Dollars, out: &mut Text) -> Result<(), Memory>
+fn put_json(node: &Node, dollars: Dollars, out: &mut Text) -> Result<(), Memory>
     ensures { OnOk result (out.new ≡ out.old ++ json_of dollars node.now) }
 {
     match node {
         Node::Null => out.push_str("null"),
         Node::Word(word) => out.push_str(word.as_str()),
-        Node::Text(text) => put_text(alloc, text, dollars, out),
+        Node::Text(text) => put_string(text.as_str(), dollars, out),
         Node::Map(entries) => {
             out.push_str("{")?;
-            put_members(entries.values(), entries.keys(), alloc, dollars, out)?;
+            put_members(entries.values(), entries.keys(), dollars, out)?;
             out.push_str("}")
         }
         Node::Seq(items) => {
             out.push_str("[")?;
-            put_elements(items.as_slice(), alloc, dollars, out)?;
+            put_elements(items.as_slice(), dollars, out)?;
             out.push_str("]")
         }
     }
@@ -65,7 +64,6 @@ fn put_json(node: &Node, alloc: Global, dollars: Dollars, out: &mut Text) -> Res
 fn put_members(
     values: &[Node],
     keys: &[Text],
-    alloc: Global,
     dollars: Dollars,
     out: &mut Text,
 ) -> Result<(), Memory>
@@ -74,25 +72,20 @@ fn put_members(
 {
     for (at, value) in values.iter().enumerate() {
         put_comma(at, out)?;
-        put_string(alloc, keys[at].as_str(), out)?;
+        put_string(keys[at].as_str(), Dollars::Once, out)?;
         out.push_str(":")?;
-        put_json(value, alloc, dollars, out)?;
+        put_json(value, dollars, out)?;
     }
     Ok(())
 }
 
 #[cycle(json)]
-fn put_elements(
-    items: &[Node],
-    alloc: Global,
-    dollars: Dollars,
-    out: &mut Text,
-) -> Result<(), Memory>
+fn put_elements(items: &[Node], dollars: Dollars, out: &mut Text) -> Result<(), Memory>
     ensures { OnOk result (out.new ≡ out.old ++ listed_from 0 (map (json_of dollars) items.now)) }
 {
     for (at, item) in items.iter().enumerate() {
         put_comma(at, out)?;
-        put_json(item, alloc, dollars, out)?;
+        put_json(item, dollars, out)?;
     }
     Ok(())
 }
@@ -104,77 +97,105 @@ fn put_comma(at: usize, out: &mut Text) -> Result<(), Memory>
     if at == 0 { Ok(()) } else { out.push_str(",") }
 }
 
-fn put_text(alloc: Global, text: &Text, dollars: Dollars, out: &mut Text) -> Result<(), Memory>
+/// Puts a text last as a string of JSON.
+fn put_string(text: &str, dollars: Dollars, out: &mut Text) -> Result<(), Memory>
     ensures { OnOk result (out.new ≡ out.old ++ quoted (spelled dollars text.now)) }
 {
+    out.push_str("\"")?;
+    put_content(text, dollars, out)?;
+    out.push_str("\"")
+}
+
+/// Puts what stands between the quotes, piece by piece: each is copied once, into the page.
+fn put_content(text: &str, dollars: Dollars, out: &mut Text) -> Result<(), Memory>
+    ensures { OnOk result (out.new ≡ out.old ++ content dollars text.now) }
+{
+    let mut rest = text;
+    while !rest.is_empty() {
+        let len = put_piece(rest, dollars, out)?;
+        rest = &rest[len..];
+    }
+    Ok(())
+}
+
+/// Puts what a text begins with: the bytes that stand as they are, at once, or else the escape of the first byte. The
+/// result is how many bytes of the text it stands for.
+fn put_piece(text: &str, dollars: Dollars, out: &mut Text) -> Result<usize, Memory>
+    requires { 0 < length text.now }
+    ensures put { IfOk result (λ len. out.new ++ content dollars (drop len text.now) ≡ out.old ++ content dollars text.now) }
+    ensures cut { IfOk result (λ len. (0 < len) × IsCharBoundary text.now len) }
+{
+    let len = standing_len(text.as_bytes(), dollars);
+    if len == 0 {
+        put_escape(text.as_bytes()[0], out)?;
+        Ok(1)
+    } else {
+        let (front, _) = text.split_at(len);
+        out.push_str(front)?;
+        Ok(len)
+    }
+}
+
+/// How many bytes in front stand as they are.
+fn standing_len(bytes: &[u8], dollars: Dollars) -> usize
+    ensures { result ≡ prefix_len (stands dollars) bytes.now }
+{
+    bytes
+        .iter()
+        .take_while(|byte| stands(**byte, dollars))
+        .count()
+}
+
+/// Whether a byte stands in a string of JSON as it is.
+fn stands(byte: u8, dollars: Dollars) -> bool
+    ensures { result ≡ stands dollars byte }
+{
     match dollars {
-        Dollars::Twice => put_doubled_string(alloc, text.as_str(), out),
-        Dollars::Once => put_string(alloc, text.as_str(), out),
+        Dollars::Twice => is_string_byte(byte) && byte != b'$',
+        Dollars::Once => is_string_byte(byte),
     }
 }
 
-/// Puts a string last in which each dollar stands twice. One without dollars is put as it is.
-#[tactic(auto, using(crate::proofs::Strings::doubled_same))]
-fn put_doubled_string(alloc: Global, text: &str, out: &mut Text) -> Result<(), Memory>
-    ensures { OnOk result (out.new ≡ out.old ++ quoted (doubled text.now)) }
-{
-    if is_without_dollar(text.as_bytes()) {
-        put_string(alloc, text, out)
-    } else {
-        let twice = doubled(alloc, text)?;
-        put_string(alloc, twice.as_str(), out)
-    }
-}
-
-fn is_no_dollar(byte: u8) -> bool
-    ensures { result ≡ is_no_dollar byte }
-{
-    byte != b'$'
-}
-
-fn is_without_dollar(bytes: &[u8]) -> bool
-    ensures { result ≡ list_all is_no_dollar bytes.now }
-{
-    bytes.iter().all(|byte| is_no_dollar(*byte))
-}
-
-/// Puts a string of JSON last. One without escapes is put between quotes as it is; any other `serde_json` escapes.
-fn put_string(alloc: Global, text: &str, out: &mut Text) -> Result<(), Memory>
-    ensures { OnOk result (out.new ≡ out.old ++ quoted text.now) }
-{
-    if is_plain_string(text.as_bytes()) {
-        put_plain_string(text, out)
-    } else {
-        let string = escaped_string(alloc, text)?;
-        out.push_str(string.as_str())
-    }
-}
-
-/// Whether a byte stands in a string of JSON without an escape.
 fn is_string_byte(byte: u8) -> bool
     ensures { result ≡ is_string_byte byte }
 {
     byte >= b' ' && byte != b'"' && byte != b'\\'
 }
 
-fn is_plain_string(bytes: &[u8]) -> bool
-    ensures { result ≡ list_all is_string_byte bytes.now }
+/// Puts the escape of a byte last, which of a dollar is two of them.
+fn put_escape(byte: u8, out: &mut Text) -> Result<(), Memory>
+    ensures { OnOk result (out.new ≡ out.old ++ escape_of byte) }
 {
-    bytes.iter().all(|byte| is_string_byte(*byte))
+    match byte {
+        b'$' => out.push_str("$$"),
+        b'"' => out.push_str("\\\""),
+        b'\\' => out.push_str("\\\\"),
+        0x08 => out.push_str("\\b"),
+        0x0C => out.push_str("\\f"),
+        b'\n' => out.push_str("\\n"),
+        b'\r' => out.push_str("\\r"),
+        b'\t' => out.push_str("\\t"),
+        _ => put_code(byte, out),
+    }
 }
 
-fn put_plain_string(text: &str, out: &mut Text) -> Result<(), Memory>
-    requires { list_all is_string_byte text.now ≡ true }
-    ensures { OnOk result (out.new ≡ out.old ++ quoted text.now) }
+/// Puts the escape last that gives the number of a character.
+fn put_code(byte: u8, out: &mut Text) -> Result<(), Memory>
+    ensures { OnOk result (out.new ≡ out.old ++ (92 ∷ 117 ∷ 48 ∷ 48 ∷ digit_char (byte / 16) ∷ digit_char (byte % 16) ∷ [])) }
 {
-    out.push_str("\"")?;
-    out.push_str(text)?;
-    out.push_str("\"")
+    out.push_str("\\u00")?;
+    out.push(digit(byte / 16))?;
+    out.push(digit(byte % 16))
 }
 
-fn escaped_string(alloc: Global, text: &str) -> Result<Text, Memory>
-    ensures { IfOk result (λ string. string ≡ quoted text.now) }
+/// A lower-case hexadecimal digit.
+fn digit(value: u8) -> char
+    requires { value < 16 }
+    ensures { result ≡ digit_char value }
 {
-    let string = Value::try_from_str(alloc, text)?.to_string(alloc)?;
-    Ok(Text::from_string(string))
+    if value < 10 {
+        (b'0' + value) as char
+    } else {
+        (b'a' + (value - 10)) as char
+    }
 }
