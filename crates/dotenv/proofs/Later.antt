@@ -2,6 +2,7 @@
 use Rattle.std.proofs.Common.{◌≡◌, ◌≢◌, ◌∙◌, ℕ, suc, ◌+◌, Bool, true, false, cond, List, [], ◌∷◌, ◌++◌, Option, Some, None, Result, Ok, Err, refl, sym, ap, arith}
 use Rattle.std.specs.Str.{is_utf8, chars, bytes_eq}
 use Rattle.std.proofs.lemmas.Slice.Eq.{bytes_eq-Decides}
+use Rattle.tree_base.specs.Answers.{◌>>=◌}
 use Rattle.tree_base.specs.Entries.{value_at, with_entry}
 use Rattle.interpolate.specs.declared.SubstRefusal.{SubstRefusal}
 use Rattle.interpolate.specs.Substitution.{substituted}
@@ -12,7 +13,7 @@ use Rattle.dotenv.specs.declared.refusal.EnvRefusal.{EnvRefusal}
 use Rattle.dotenv.specs.declared.refusal.EnvRefusal.TheVariants as refusals
 use Rattle.dotenv.specs.Variables.{Entries, value}
 use Rattle.dotenv.specs.Lines.{line_of}
-use Rattle.dotenv.specs.Files.{◌>>=◌, on_line, with_outer, with_value, told, with_line, with_lines, line_number, env_file}
+use Rattle.dotenv.specs.Files.{on_line, with_outer, with_value, told, with_line, with_lines, line_number, env_file}
 use Rattle.dotenv.specs.Laws.{Says, key_of, GivesValue, NoneHasKey, LaterLineWins}
 use Rattle.dotenv.proofs.Puts.{value_put, value_put_same}
 

@@ -2,6 +2,7 @@
 use Rattle.std.proofs.Common.{◌≡◌, ◌∙◌, ℕ, Bool, true, false, cond, List, Result, Ok, Err, refl, sym, ap}
 use Rattle.std.specs.Str.{is_utf8, chars, IsUtf8}
 use Rattle.std.proofs.lemmas.Str.{IsUtf8-from_is_utf8, is_utf8-from_IsUtf8}
+use Rattle.tree_base.specs.Answers.{◌>>=◌}
 use Rattle.tree_base.specs.Entries.{value_at, with_entry}
 use Rattle.interpolate.specs.declared.SubstRefusal.{SubstRefusal}
 use Rattle.interpolate.specs.declared.SubstRefusal.TheVariants as causes
@@ -15,7 +16,7 @@ use Rattle.dotenv.specs.declared.refusal.EnvRefusal.{EnvRefusal}
 use Rattle.dotenv.specs.declared.refusal.EnvRefusal.TheVariants as refusals
 use Rattle.dotenv.specs.Variables.{Entries, Sees}
 use Rattle.dotenv.specs.Lines.{line_of, LineFails}
-use Rattle.dotenv.specs.Files.{◌>>=◌, on_line, numbered, unsubstituted, with_value, told, with_line, Fails}
+use Rattle.dotenv.specs.Files.{on_line, numbered, unsubstituted, with_value, told, with_line, Fails}
 
 -- a value that isn't substituted
 pub value_fails : (number : ℕ) (env : Entries) (key : List ℕ) (cause : SubstRefusal) (read : Result (List ℕ) SubstRefusal) → values.Fails cause read → Fails (unsubstituted number cause) (with_value number env key read)

@@ -1,7 +1,9 @@
 -- The variables that an env file gives.
-use Rattle.std.specs.Prelude.{◌≡◌, ℕ, ◌+◌, List, [], ◌∷◌, Option, Some, None, Result, Ok, Err, min, ◌==◌, if◌then◌else◌}
+use Rattle.std.specs.Prelude.{ℕ, ◌+◌, List, [], ◌∷◌, Bool, true, false, Option, Some, None, Result, Ok, Err, min, ◌==◌, if◌then◌else◌}
 use Rattle.std.specs.Str.{is_utf8, chars}
 use Rattle.std.specs.Str.Lines.{lines}
+use Rattle.tree_base.specs.Answers.{◌>>=◌}
+use Rattle.tree_base.specs.Answers as answers
 use Rattle.tree_base.specs.Entries.{value_at, with_entry}
 use Rattle.interpolate.specs.declared.SubstRefusal.{SubstRefusal}
 use Rattle.interpolate.specs.declared.SubstRefusal.TheVariants as causes
@@ -14,12 +16,6 @@ use Rattle.dotenv.specs.declared.refusal.EnvRefusal.{EnvRefusal}
 use Rattle.dotenv.specs.declared.refusal.EnvRefusal.TheVariants as refusals
 use Rattle.dotenv.specs.Variables.{Entries, value}
 use Rattle.dotenv.specs.Lines.{line_of}
-
--- what follows a step that has its value, and else the refusal of that step
-infixl 10 ◌>>=◌
-abbrev pub ◌>>=◌ : {A B : Type 0} → Result A EnvRefusal → (A → Result B EnvRefusal) → Result B EnvRefusal
-(Ok x) >>= f = f x
-(Err e) >>= f = Err e
 
 -- how many bytes stand before the first line feed
 abbrev pub feed_len : List ℕ → ℕ
@@ -79,17 +75,20 @@ with_lines outer number env (line ∷ more) = with_line outer (line_number numbe
 unfoldable pub env_file : Entries → List ℕ → Result Entries EnvRefusal
 env_file outer bytes = with_lines outer 1 [] (lines bytes)
 
--- what a function returned is that, unless memory ran out
-abbrev pub Fails : {Y : Type 0} → EnvRefusal → Result Y EnvRefusal → Type 0
-Fails refusals.Memory read = Unit {0}
-Fails (refusals.BadLine line) read = read ≡ Err (refusals.BadLine line)
-Fails (refusals.BadQuote line) read = read ≡ Err (refusals.BadQuote line)
-Fails (refusals.Subst line cause) read = read ≡ Err (refusals.Subst line cause)
+-- a refusal for want of memory
+abbrev pub wants_memory : EnvRefusal → Bool
+wants_memory refusals.Memory = true
+wants_memory (refusals.BadLine line) = false
+wants_memory (refusals.BadQuote line) = false
+wants_memory (refusals.Subst line cause) = false
 
--- the variables that it returned, or a refusal as above
+-- a call refused, for want of memory or as the answer does
+abbrev pub Fails : {X : Type 0} → EnvRefusal → Result X EnvRefusal → Type 0
+Fails refusal answer = answers.Fails wants_memory refusal answer
+
+-- what a call gave is the answer, unless it found no memory
 abbrev pub Gives : {X : Type 0} → Result X EnvRefusal → Result X EnvRefusal → Type 0
-Gives (Ok x) read = read ≡ Ok x
-Gives (Err e) read = Fails e read
+Gives given answer = answers.Gives wants_memory given answer
 
 -- what a function left, where it returned
 abbrev pub result_and : {A X : Type 0} → Result A EnvRefusal → X → Result X EnvRefusal

@@ -1,7 +1,8 @@
 -- What a line of an env file says, by its characters.
-use Rattle.std.specs.Prelude.{◌≡◌, ℕ, ◌+◌, List, [], ◌∷◌, Bool, true, false, Option, Some, None, Result, Ok, Err, take, drop, nat_eq, ◌==◌, if◌then◌else◌}
+use Rattle.std.specs.Prelude.{ℕ, ◌+◌, List, [], ◌∷◌, Bool, true, false, Option, Some, None, Result, Ok, Err, take, drop, nat_eq, ◌==◌, if◌then◌else◌}
 use Rattle.std.specs.List.{starts_with}
 use Rattle.std.specs.Str.{encode_utf8_all}
+use Rattle.tree_base.specs.Answers as answers
 use Rattle.dotenv.specs.declared.line.Line.{Line}
 use Rattle.dotenv.specs.declared.line.Line.TheVariants.{Nothing, Alone, Literal, Substituted}
 use Rattle.dotenv.specs.declared.quote.Quote.{Quote}
@@ -77,13 +78,16 @@ line_of cs =
     let body = drop (blanks_len cs) cs in
     if is_nothing body then Ok Nothing else key_line (drop (export_len body) body)
 
--- what a function returned is that refusal, unless memory ran out
-abbrev pub LineFails : LineRefusal → Result Line LineRefusal → Type 0
-LineFails Memory read = Unit {0}
-LineFails BadLine read = read ≡ Err BadLine
-LineFails BadQuote read = read ≡ Err BadQuote
+-- a refusal for want of memory
+abbrev pub wants_memory : LineRefusal → Bool
+wants_memory Memory = true
+wants_memory BadLine = false
+wants_memory BadQuote = false
 
--- the line that it returned, or a refusal as above
+-- a call refused, for want of memory or as the answer does
+abbrev pub LineFails : LineRefusal → Result Line LineRefusal → Type 0
+LineFails refusal answer = answers.Fails wants_memory refusal answer
+
+-- what a call gave is the answer, unless it found no memory
 abbrev pub LineGives : Result Line LineRefusal → Result Line LineRefusal → Type 0
-LineGives (Ok x) read = read ≡ Ok x
-LineGives (Err e) read = LineFails e read
+LineGives given answer = answers.Gives wants_memory given answer

@@ -1,9 +1,10 @@
 -- A text cut into its first part and the rest.
 use Rattle.std.proofs.Common.{◌≡◌, ◌≢◌, ◌∙◌, ℕ, zero, suc, ◌+◌, ◌-◌, ◌<◌, ◌≤◌, Bool, List, [], ◌∷◌, length, take, drop, Result, Ok, Err, refl, sym, ap, arith}
+use Rattle.tree_base.specs.Answers.{◌>>=◌}
 use Rattle.interpolate.specs.declared.part.Action.{Action}
 use Rattle.interpolate.specs.declared.refusal.SubstRefusal.{SubstRefusal}
 use Rattle.interpolate.specs.Shapes.{Part, Literal, Dollar, Name, Value, Form, Unclosed, Wrong, first_part, part_len, tail_start}
-use Rattle.interpolate.specs.Parts.{◌>>=◌, Parts, End, Reader, Braced, before, with_part, cut, tails, parts, well_formed, first_len}
+use Rattle.interpolate.specs.Parts.{Parts, End, Reader, Braced, before, with_part, cut, tails, parts, well_formed, first_len}
 
 -- what belongs to a part before is skipped
 cut_skip : (levels : ℕ) (read : Reader) (at skip : ℕ) (text : List ℕ) → skip ≤ length text → cut levels read at skip text ≡ cut levels read (at + skip) 0 (drop skip text)

@@ -1,16 +1,17 @@
 -- The value of a text, from the value of its first part and that of the rest.
 use Rattle.std.proofs.Common.{◌≡◌, ◌≢◌, ◌∙◌, ℕ, ◌+◌, ◌-◌, ◌<◌, ◌≤◌, Bool, false, List, [], ◌∷◌, ◌++◌, append-nil, append_assoc, length, take, drop, Result, Ok, Err, IsOk, refl, sym, ap, subst}
+use Rattle.tree_base.specs.Answers.{◌>>=◌}
 use Rattle.interpolate.specs.declared.part.Action.{Action}
 use Rattle.interpolate.specs.declared.refusal.SubstRefusal.{SubstRefusal}
 use Rattle.interpolate.specs.declared.refusal.SubstRefusal.TheVariants as refusals
 use Rattle.interpolate.specs.Shapes.{Part, Literal, Dollar, Name, Value, Form, Unclosed, Wrong, first_part, part_len, tail_start}
 use Rattle.interpolate.specs.Lengths.{inside_len}
 use Rattle.interpolate.specs.Heads.{inner}
-use Rattle.interpolate.specs.Parts.{◌>>=◌, Parts, Reader, Braced, before, with_part, cut, tails, parts}
+use Rattle.interpolate.specs.Parts.{Parts, Reader, Braced, before, with_part, cut, tails, parts}
 use Rattle.interpolate.specs.Substitution.{Variables, value, counted, form_value, part_value, text_value, first_value, appended, Fails}
 use Rattle.interpolate.proofs.Cutting.{parts_first, tails_below}
 
-abbrev Value_ : Type 0
+abbrev pub Value_ : Type 0
 Value_ = Result (List ℕ) SubstRefusal
 
 -- a value before another

@@ -1,10 +1,11 @@
 -- Bytes that stand for themselves, one at a time.
 use Rattle.std.proofs.Common.{◌≡◌, ◌≢◌, ◌∙◌, ℕ, zero, suc, ◌+◌, ◌<◌, Bool, true, false, eqb, List, [], ◌∷◌, ◌++◌, take, drop, Result, Ok, Err, refl, sym, ap, subst, arith, tests}
 use Rattle.std.proofs.lemmas.Bool.Decides.{nat_tests}
+use Rattle.tree_base.specs.Answers.{◌>>=◌}
 use Rattle.interpolate.specs.declared.refusal.SubstRefusal.{SubstRefusal}
 use Rattle.interpolate.specs.Lengths.{literal_len}
 use Rattle.interpolate.specs.Shapes.{Part, Literal, first_part}
-use Rattle.interpolate.specs.Parts.{◌>>=◌, Parts, Text, Dollars, before, with_part, tails, parts}
+use Rattle.interpolate.specs.Parts.{Parts, Text, Dollars, before, with_part, tails, parts}
 use Rattle.interpolate.specs.Substitution.{Variables, value, text_value}
 use Rattle.interpolate.specs.Laws.{HasNoDollar, doubled}
 use Rattle.interpolate.proofs.Cutting.{parts_first}

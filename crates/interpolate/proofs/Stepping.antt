@@ -2,12 +2,13 @@
 use Rattle.std.proofs.Common.{◌≡◌, ◌≢◌, ◌∙◌, ℕ, ◌+◌, ◌-◌, ◌<◌, ◌≤◌, Bool, true, false, List, [], ◌∷◌, length, length-drop, take, drop, unwrap_or, Result, Ok, Err, IsOk, refl, sym, ap, subst, arith}
 use Rattle.std.specs.Str.{IsCharBoundary}
 use Rattle.std.proofs.lemmas.List.{drop-take, length-take-le, take-take}
+use Rattle.tree_base.specs.Answers.{◌>>=◌}
 use Rattle.interpolate.specs.declared.part.Action.{Action}
 use Rattle.interpolate.specs.declared.refusal.SubstRefusal.{SubstRefusal}
 use Rattle.interpolate.specs.Lengths.{inside_len}
 use Rattle.interpolate.specs.Shapes.{Part, Literal, Dollar, Name, Value, Form, Unclosed, Wrong, first_part, part_len, tail_start}
 use Rattle.interpolate.specs.Heads.{inner, own, IsClosed, ends}
-use Rattle.interpolate.specs.Parts.{◌>>=◌, Parts, End, Reader, with_part, cut, tails, parts, well_formed, first_len}
+use Rattle.interpolate.specs.Parts.{Parts, End, Reader, with_part, cut, tails, parts, well_formed, first_len}
 use Rattle.interpolate.specs.Substitution.{Variables, counted, form_value, part_value, text_value, first_value}
 use Rattle.interpolate.proofs.Cutting.{checked, part_fine}
 use Rattle.interpolate.proofs.Fitting.{inside_within}

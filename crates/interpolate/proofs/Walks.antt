@@ -2,6 +2,7 @@
 use Rattle.std.proofs.Common.{◌≡◌, ◌∙◌, ℕ, zero, suc, ◌+◌, List, [], ◌∷◌, ◌++◌, map, drop, add-one, slice_get, Some, length, reverse, ◌≤◌, arith, Result, Ok, Err, refl, sym, ap, rules}
 use Rattle.std.specs.List.{zip}
 use Rattle.std.specs.Map.{keys_of, values_of}
+use Rattle.tree_base.specs.Answers.{◌>>=◌}
 use Rattle.tree_base.specs.declared.Tree.{Tree, Map, the_lemmas}
 use Rattle.tree_base.specs.declared.Step.{Step}
 use Rattle.tree_base.specs.declared.Step.TheVariants.{Index}
@@ -12,7 +13,7 @@ use Rattle.interpolate.specs.declared.refusal.SubstTreeRefusal.{SubstTreeRefusal
 use Rattle.interpolate.specs.declared.refusal.SubstTreeRefusal.TheVariants.{At, TooMuchText, Memory}
 use Rattle.interpolate.specs.Parts.{place}
 use Rattle.interpolate.specs.Substitution.{Variables, Fails}
-use Rattle.interpolate.specs.Walking.{◌>>=◌, Walk, root_refusal, here, under, one_more, items_walk, entry_walk, entries_walk, tree_walk, TreeFails, outer, turned}
+use Rattle.interpolate.specs.Walking.{Walk, root_refusal, here, under, one_more, items_walk, entry_walk, entries_walk, tree_walk, TreeFails, outer, turned}
 use Rattle.std.proofs.lemmas.List.{reverse-append}
 
 -- what fails at first fails as a whole

@@ -1,15 +1,10 @@
 -- The parts of a text: bytes that stand for themselves, `$$`, variables, and forms whose tails are parts again.
 use Rattle.std.specs.Prelude.{ℕ, zero, suc, ◌+◌, ◌-◌, List, [], ◌∷◌, Bool, take, drop, min, Result, Ok, Err}
+use Rattle.tree_base.specs.Answers.{◌>>=◌}
 use Rattle.interpolate.specs.declared.part.Action.{Action}
 use Rattle.interpolate.specs.declared.refusal.SubstRefusal.{SubstRefusal}
 use Rattle.interpolate.specs.declared.refusal.SubstRefusal.TheVariants as refusals
 use Rattle.interpolate.specs.Shapes.{Part, Literal, Dollar, Name, Value, Form, Unclosed, Wrong, first_part, part_len, tail_start}
-
--- what follows a step that has its value, and else the refusal of that step
-infixl 10 ◌>>=◌
-abbrev pub ◌>>=◌ : {A B : Type 0} → Result A SubstRefusal → (A → Result B SubstRefusal) → Result B SubstRefusal
-(Ok x) >>= f = f x
-(Err e) >>= f = Err e
 
 -- the parts of a text, each before those that follow it
 pub data Parts : Type 0 where

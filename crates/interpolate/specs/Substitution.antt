@@ -1,11 +1,13 @@
 -- The value of a text: the values of its parts, by the table of the Compose Specification's chapter on interpolation.
-use Rattle.std.specs.Prelude.{◌≡◌, ℕ, ◌+◌, List, [], ◌∷◌, ◌++◌, Bool, Option, Some, None, unwrap_or, length, take, drop, Result, Ok, Err, ◌==◌, ◌&&◌, if◌then◌else◌}
+use Rattle.std.specs.Prelude.{ℕ, ◌+◌, List, [], ◌∷◌, ◌++◌, Bool, true, false, Option, Some, None, unwrap_or, length, take, drop, Result, Ok, Err, ◌==◌, ◌&&◌, if◌then◌else◌}
+use Rattle.tree_base.specs.Answers.{◌>>=◌}
+use Rattle.tree_base.specs.Answers as answers
 use Rattle.interpolate.specs.declared.part.Action.{Action}
 use Rattle.interpolate.specs.declared.part.Action.TheVariants.{Default, Require, Replace}
 use Rattle.interpolate.specs.declared.refusal.SubstRefusal.{SubstRefusal}
 use Rattle.interpolate.specs.declared.refusal.SubstRefusal.TheVariants as refusals
 use Rattle.interpolate.specs.Shapes.{Part, Literal, Dollar, Name, Value, Form, Unclosed, Wrong, first_part, tail_start}
-use Rattle.interpolate.specs.Parts.{◌>>=◌, Parts, End, Text, Dollars, Variable, Braced, Reader, place, parts, tails}
+use Rattle.interpolate.specs.Parts.{Parts, End, Text, Dollars, Variable, Braced, Reader, place, parts, tails}
 
 -- what the variables are: the value of a name, where it is set
 abbrev pub Variables : Type 0
@@ -42,17 +44,20 @@ substituted_within levels env text = parts levels 0 text >>= value env
 unfoldable pub substituted : Variables → List ℕ → Result (List ℕ) SubstRefusal
 substituted = substituted_within 32
 
--- what a function returned is that value or refusal, unless memory ran out
-abbrev pub Fails : {Y : Type 0} → SubstRefusal → Result Y SubstRefusal → Type 0
-Fails refusals.Memory read = Unit {0}
-Fails (refusals.Unclosed at) read = read ≡ Err (refusals.Unclosed at)
-Fails (refusals.BadForm at) read = read ≡ Err (refusals.BadForm at)
-Fails (refusals.RequiredVariable name message) read = read ≡ Err (refusals.RequiredVariable name message)
+-- a refusal for want of memory
+abbrev pub wants_memory : SubstRefusal → Bool
+wants_memory refusals.Memory = true
+wants_memory (refusals.Unclosed at) = false
+wants_memory (refusals.BadForm at) = false
+wants_memory (refusals.RequiredVariable name message) = false
 
--- the value that it returned, or a refusal as above
+-- a call refused, for want of memory or as the answer does
+abbrev pub Fails : {X : Type 0} → SubstRefusal → Result X SubstRefusal → Type 0
+Fails refusal answer = answers.Fails wants_memory refusal answer
+
+-- what a call gave is the answer, unless it found no memory
 abbrev pub Gives : {X : Type 0} → Result X SubstRefusal → Result X SubstRefusal → Type 0
-Gives (Ok x) read = read ≡ Ok x
-Gives (Err e) read = Fails e read
+Gives given answer = answers.Gives wants_memory given answer
 
 -- what a function left, where it returned
 abbrev pub result_and : {A X : Type 0} → Result A SubstRefusal → X → Result X SubstRefusal

@@ -1,7 +1,9 @@
 -- A tree with the values of its scalars, or the first refusal in the tree's order: a mapping's key comes before its value.
-use Rattle.std.specs.Prelude.{◌≡◌, ℕ, ◌+◌, List, [], ◌∷◌, ◌++◌, length, reverse, Result, Ok, Err, nat_le, if◌then◌else◌}
+use Rattle.std.specs.Prelude.{◌≡◌, ℕ, ◌+◌, Bool, true, false, List, [], ◌∷◌, ◌++◌, length, reverse, Result, Ok, Err, nat_le, if◌then◌else◌}
 use Rattle.std.specs.List.{zip}
 use Rattle.std.specs.Map.{keys_of}
+use Rattle.tree_base.specs.Answers.{◌>>=◌}
+use Rattle.tree_base.specs.Answers as answers
 use Rattle.tree_base.specs.declared.Tree.{Tree, fold-Tree, Null, Scalar, Map, Seq, Reset, Override}
 use Rattle.tree_base.specs.declared.Tree.TheOpen.{Tree-F}
 use Rattle.tree_base.specs.declared.Step.{Step}
@@ -12,12 +14,6 @@ use Rattle.interpolate.specs.declared.refusal.SubstTreeRefusal.{SubstTreeRefusal
 use Rattle.interpolate.specs.declared.refusal.SubstTreeRefusal.TheVariants.{At, TooMuchText, Memory}
 use Rattle.interpolate.specs.Parts.{place}
 use Rattle.interpolate.specs.Substitution.{Variables, substituted}
-
--- what follows a step that has its value, and else the refusal of that step
-infixl 10 ◌>>=◌
-abbrev pub ◌>>=◌ : {A B : Type 0} → Result A SubstTreeRefusal → (A → Result B SubstTreeRefusal) → Result B SubstTreeRefusal
-(Ok x) >>= f = f x
-(Err e) >>= f = Err e
 
 -- what a tree gives, and how many bytes keys and scalars have with it, by how many they have before it
 abbrev pub Walk : Type 0
@@ -85,16 +81,19 @@ tree_walk env = fold-Tree Walk (tree_step env)
 abbrev pub substituted_tree : Variables → Tree → Result Tree SubstTreeRefusal
 substituted_tree env tree = tree_walk env tree 0 >>= λ got. Ok got.0
 
--- what a function returned is that tree or refusal, unless memory ran out
-abbrev pub TreeFails : {Y : Type 0} → SubstTreeRefusal → Result Y SubstTreeRefusal → Type 0
-TreeFails Memory read = Unit {0}
-TreeFails TooMuchText read = read ≡ Err TooMuchText
-TreeFails (At path cause) read = read ≡ Err (At path cause)
+-- a refusal for want of memory
+abbrev pub wants_memory : SubstTreeRefusal → Bool
+wants_memory Memory = true
+wants_memory TooMuchText = false
+wants_memory (At path cause) = false
 
--- the tree that it returned, or a refusal as above
+-- a call refused, for want of memory or as the answer does
+abbrev pub TreeFails : {X : Type 0} → SubstTreeRefusal → Result X SubstTreeRefusal → Type 0
+TreeFails refusal answer = answers.Fails wants_memory refusal answer
+
+-- what a call gave is the answer, unless it found no memory
 abbrev pub TreeGives : {X : Type 0} → Result X SubstTreeRefusal → Result X SubstTreeRefusal → Type 0
-TreeGives (Ok x) read = read ≡ Ok x
-TreeGives (Err e) read = TreeFails e read
+TreeGives given answer = answers.Gives wants_memory given answer
 
 -- a refusal whose path is told from the scalar up, with one step more
 abbrev pub outer : Step → SubstTreeRefusal → SubstTreeRefusal

@@ -1,6 +1,7 @@
 -- Each entry under the services of a file is one of the services that are read from it.
 use Rattle.std.proofs.Common.{◌≡◌, ℕ, Bool, true, false, cond, List, [], ◌∷◌, Option, Some, None, Ok, Err, length, map, refl, ap, sym, ◌∙◌}
 use Rattle.std.specs.Prelude.{Result, nat_lt}
+use Rattle.tree_base.specs.Answers.{◌>>=◌}
 use Rattle.tree_base.specs.declared.Step.{Step}
 use Rattle.tree_base.specs.declared.tree.Tree.{Tree, out-Tree}
 use Rattle.tree_base.specs.declared.tree.Tree.TheOpen.{Tree-F}
@@ -8,7 +9,7 @@ use Rattle.plain_services.specs.declared.refusal.ProjectRefusal.{ProjectRefusal}
 use Rattle.plain_services.specs.declared.refusal.PlainRefusal.{PlainRefusal}
 use Rattle.plain_services.specs.Laws.{NoServiceIsLost}
 use Rattle.plain_services.specs.Marks.{counted}
-use Rattle.plain_services.specs.Shape.{◌>>=◌, Entries, few, in_byte_order, service_of, services_of, unless_unbuilt, with_both}
+use Rattle.plain_services.specs.Shape.{Entries, few, in_byte_order, service_of, services_of, unless_unbuilt, with_both}
 use Rattle.service_attrs.specs.declared.Service.{Service}
 use Rattle.plain_services.proofs.KeptKeys.{map-by_key}
 use Rattle.plain_services.proofs.Opened.{opened}

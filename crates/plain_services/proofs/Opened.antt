@@ -1,8 +1,9 @@
 -- The services of a file that has just entries under its services.
 use Rattle.std.proofs.Common.{◌≡◌, Some, [], ◌∷◌, codes, ap, ◌∙◌}
+use Rattle.tree_base.specs.Answers.{◌>>=◌}
 use Rattle.tree_base.specs.declared.tree.Tree.TheVariants.{Map, outs-Map}
 use Rattle.plain_services.specs.Laws.{file_of}
-use Rattle.plain_services.specs.Shape.{◌>>=◌, Entries, few, in_byte_order, services_from, services_in, services_of, services_under}
+use Rattle.plain_services.specs.Shape.{Entries, few, in_byte_order, services_from, services_in, services_of, services_under}
 
 -- they are those of the entries in byte order, where these are few
 pub opened : (entries : Entries) → services_in (file_of entries) ≡ (few entries >>= λ services. services_of (in_byte_order services))

@@ -4,6 +4,7 @@ use Rattle.std.specs.Prelude.{Option, Result, IfOk, IfErr, nat_lt, length, codes
 use Rattle.std.specs.Map.{keys_of}
 use Rattle.std.specs.Option.{option_map}
 use Rattle.std.proofs.lemmas.Result.{IfErr-at_err}
+use Rattle.tree_base.specs.Answers.{◌>>=◌}
 use Rattle.tree_base.specs.declared.Step.{Step}
 use Rattle.tree_base.specs.declared.Tree.{Tree, out-Tree}
 use Rattle.tree_base.specs.declared.Tree.TheOpen.{Tree-F}
@@ -12,7 +13,7 @@ use Rattle.plain_services.specs.Answers.{Gives}
 use Rattle.plain_services.specs.Marks.{counted}
 use Rattle.service_attrs.specs.Projects.{IsInOrder}
 use Rattle.plain_services.proofs.EntryOrder.{in_order_by_names}
-use Rattle.plain_services.specs.Shape.{◌>>=◌, Entries, few, first_entry, image_of, in_byte_order, service_of, services_of, services_of_file, services_under, unbuilt_top, unless_unbuilt, with_both}
+use Rattle.plain_services.specs.Shape.{Entries, few, first_entry, image_of, in_byte_order, service_of, services_of, services_of_file, services_under, unbuilt_top, unless_unbuilt, with_both}
 use Rattle.service_attrs.specs.declared.Service.{Service}
 use Rattle.plain_services.specs.declared.refusal.PlainRefusal.{PlainRefusal}
 use Rattle.plain_services.specs.declared.refusal.LoadRefusal.{LoadRefusal}

@@ -1,12 +1,13 @@
 -- What the words and the file in the working directory give: a project, or the first refusal.
 use Rattle.std.specs.Prelude.{◌≡◌, ℕ, if◌then◌else◌, List, [], ◌∷◌, Option, Some, None, Result, Ok, Err, nat_lt, length, codes}
+use Rattle.tree_base.specs.Answers.{◌>>=◌}
 use Rattle.tree_base.specs.Entries.{value_at}
 use Rattle.tree_base.specs.declared.Tree.{Tree}
 use Rattle.outside_files.specs.Files.{Contents}
 use Rattle.plain_services.specs.Commands.{command_of}
 use Rattle.plain_services.specs.Directories.{path_in, base_name}
 use Rattle.plain_services.specs.ProjectNames.{name_from}
-use Rattle.plain_services.specs.Shape.{◌>>=◌, services_in}
+use Rattle.plain_services.specs.Shape.{services_in}
 use Rattle.plain_services.specs.declared.command.Command.{Command}
 use Rattle.service_attrs.specs.declared.Project.{Project}
 use Rattle.plain_services.specs.declared.refusal.PlainRefusal.{PlainRefusal}

@@ -1,9 +1,10 @@
 -- Parts of the shape that have functions of their own.
 use Rattle.std.specs.Prelude.{ℕ, List, Option, Result}
+use Rattle.tree_base.specs.Answers.{◌>>=◌}
 use Rattle.tree_base.specs.declared.Step.{Step}
 use Rattle.tree_base.specs.declared.Tree.{Tree}
 use Rattle.tree_base.specs.declared.Tree.TheOpen.{Tree-F}
-use Rattle.plain_services.specs.Shape.{◌>>=◌, Entries, few, in_byte_order, services_of, services_under, unbuilt_attribute, unbuilt_top}
+use Rattle.plain_services.specs.Shape.{Entries, few, in_byte_order, services_of, services_under, unbuilt_attribute, unbuilt_top}
 use Rattle.service_attrs.specs.declared.Service.{Service}
 use Rattle.plain_services.specs.declared.unbuilt.Level.{Level}
 use Rattle.plain_services.specs.declared.refusal.PlainRefusal.{PlainRefusal}

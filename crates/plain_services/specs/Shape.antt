@@ -2,6 +2,7 @@
 use Rattle.std.specs.Prelude.{ℕ, Bool, true, false, ◌&&◌, ◌||◌, if◌then◌else◌, List, [], ◌∷◌, Option, Some, None, Result, Ok, Err, length, map, take, nat_lt, is_some, codes}
 use Rattle.std.specs.Option.{option_and_then, option_map}
 use Rattle.std.specs.Str.{bytes_eq}
+use Rattle.tree_base.specs.Answers.{◌>>=◌}
 use Rattle.tree_base.specs.Entries.{value_at}
 use Rattle.tree_base.specs.declared.Step.{Step}
 use Rattle.tree_base.specs.declared.Step.TheVariants.{Key}
@@ -13,12 +14,6 @@ use Rattle.plain_services.specs.declared.refusal.PlainRefusal.{PlainRefusal}
 use Rattle.plain_services.specs.declared.refusal.ProjectRefusal.{ProjectRefusal}
 use Rattle.plain_services.specs.declared.refusal.Unbuilt.{Unbuilt}
 use Rattle.tree_base.specs.ByteOrder.{by_key}
-
-infixl 10 ◌>>=◌
--- what is given goes on into the next step; a refusal ends the loading
-abbrev pub ◌>>=◌ : {A B : Type 0} → Result A PlainRefusal → (A → Result B PlainRefusal) → Result B PlainRefusal
-(Ok x) >>= f = f x
-(Err refusal) >>= f = Err refusal
 
 -- the entries of a mapping
 abbrev pub Entries : Type 0

@@ -1,5 +1,5 @@
 -- What a plain word is read as.
-use Rattle.std.proofs.Common.{◌≡◌, ◌∙◌, ℕ, suc, ◌-◌, List, [], ◌∷◌, ◌++◌, ◌&&◌, ◌||◌, not, Bool, true, false, eqb, Some, drop, length, take, refl, sym, ap, add-one, arith}
+use Rattle.std.proofs.Common.{◌≡◌, ◌∙◌, ℕ, suc, ◌-◌, List, [], ◌∷◌, ◌++◌, ◌&&◌, ◌||◌, not, Bool, true, false, eqb, Some, drop, length, take, refl, sym, ap, add-one, arith, true≢false}
 use Rattle.std.proofs.Math.Seq.{take-append_seam}
 use Rattle.std.proofs.lemmas.Bool.{and_parts, eqb-true, false_from_ne_true, not_from_true, or_parts}
 use Rattle.std.specs.List.{ends_with, list_all}
@@ -9,21 +9,18 @@ use Rattle.yaml_lines.specs.Plain as plain
 use Rattle.yaml_lines.specs.declared.plain.Context.TheVariants.{Block}
 use Rattle.project_print.specs.Scalars.{begins_plain, is_plain, is_plain_byte, is_plain_start, is_reserved, is_word, means_more}
 
-true_no : true ≡ false → ⊥
-true_no h = cc
-
 -- what a test tells apart isn't equal
 pub apart : (test : ℕ → Bool) (c n : ℕ) → test c ≡ true → test n ≡ false → eqb c n ≡ false
-apart test c n at_c at_n = false_from_ne_true (eqb c n) (λ same. true_no (sym at_c ∙ ap test (eqb-true c n same) ∙ at_n))
+apart test c n at_c at_n = false_from_ne_true (eqb c n) (λ same. true≢false (sym at_c ∙ ap test (eqb-true c n same) ∙ at_n))
 
 -- a colon ends a longer text where it ends the rest
-ends_later : (c d : ℕ) (cs : List ℕ) → ends_with eqb (c ∷ d ∷ cs) (58 ∷ []) ≡ ends_with eqb (d ∷ cs) (58 ∷ [])
+pub ends_later : (c d : ℕ) (cs : List ℕ) → ends_with eqb (c ∷ d ∷ cs) (58 ∷ []) ≡ ends_with eqb (d ∷ cs) (58 ∷ [])
 ends_later c d cs =
     let e : length (c ∷ d ∷ cs) - 1 ≡ suc (length (d ∷ cs) - 1) = omega arith in
     ap (λ n. bytes_eq (58 ∷ []) (drop n (c ∷ d ∷ cs))) e
 
-last_no : (c : ℕ) → ends_with eqb (c ∷ []) (58 ∷ []) ≡ false → eqb c 58 ≡ false
-last_no c h = false_from_ne_true (eqb c 58) (λ same. true_no (sym (ap (λ x. ends_with eqb (x ∷ []) (58 ∷ [])) (eqb-true c 58 same)) ∙ h))
+pub last_no : (c : ℕ) → ends_with eqb (c ∷ []) (58 ∷ []) ≡ false → eqb c 58 ≡ false
+last_no c h = false_from_ne_true (eqb c 58) (λ same. true≢false (sym (ap (λ x. ends_with eqb (x ∷ []) (58 ∷ [])) (eqb-true c 58 same)) ∙ h))
 
 -- no byte of a plain word ends it
 run_goes_on : (c : ℕ) (cs rest : List ℕ) → is_plain_byte c ≡ true → list_all is_plain_byte cs ≡ true → ends_with eqb (c ∷ cs) (58 ∷ []) ≡ false → plain.ends_plain Block false (c ∷ (cs ++ rest)) ≡ false
@@ -92,7 +89,7 @@ module _ (text : List ℕ) (e : is_plain text ≡ true) where
   are_bytes = (and_parts (begins_plain text) (list_all is_plain_byte text) word).1
 
   more : means_more text ≡ false
-  more = false_from_ne_true (means_more text) (λ h. let k : not (means_more text) ≡ false = not_from_true (means_more text) h in true_no (sym (and_parts (is_word text) (not (means_more text)) e).1 ∙ k))
+  more = false_from_ne_true (means_more text) (λ h. let k : not (means_more text) ≡ false = not_from_true (means_more text) h in true≢false (sym (and_parts (is_word text) (not (means_more text)) e).1 ∙ k))
 
   pub no_colon : ends_with eqb text (58 ∷ []) ≡ false
   no_colon = (or_parts (ends_with eqb text (58 ∷ [])) (is_reserved text) more).0

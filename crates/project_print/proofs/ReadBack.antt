@@ -1,5 +1,5 @@
 -- The words of a page read back.
-use Rattle.std.proofs.Common.{◌≡◌, ◌∙◌, ℕ, List, [], ◌∷◌, ◌++◌, Bool, true, false, cond, codes, eqb, Some, length, refl, sym, ap}
+use Rattle.std.proofs.Common.{◌≡◌, ◌∙◌, ℕ, List, [], ◌∷◌, ◌++◌, Bool, true, false, cond, codes, eqb, Some, length, refl, sym, ap, true≢false}
 use Rattle.std.proofs.lemmas.Bool.{cond-false, eqb-true, false_from_ne_true}
 use Rattle.std.proofs.lemmas.Slice.Eq.{bytes_eq-Decides}
 use Rattle.std.specs.Str.{bytes_eq}
@@ -18,12 +18,9 @@ unquoted (c ∷ cs) rest e h =
     let no : eqb c 34 ≡ false = apart is_plain_start c 34 (is_begun (c ∷ cs) e) refl in
     cond-false (eqb c 34) (quoted_of (c ∷ (cs ++ rest))) (plain_of Block (c ∷ (cs ++ rest))) no ∙ plain_reads (c ∷ cs) rest e h
 
-true_no : true ≡ false → ⊥
-true_no h = cc
-
 -- texts that a test tells apart aren't equal
 apart_text : (test : List ℕ → Bool) (s t : List ℕ) → test s ≡ true → test t ≡ false → bytes_eq s t ≡ false
-apart_text test s t at_s at_t = false_from_ne_true (bytes_eq s t) (λ same. true_no (sym at_s ∙ ap test ((bytes_eq-Decides s t).0 same) ∙ at_t))
+apart_text test s t at_s at_t = false_from_ne_true (bytes_eq s t) (λ same. true≢false (sym at_s ∙ ap test ((bytes_eq-Decides s t).0 same) ∙ at_t))
 
 not_null : (test : List ℕ → Bool) (word : List ℕ) → test word ≡ true → test (codes "null") ≡ false → test (codes "Null") ≡ false → test (codes "NULL") ≡ false → test (codes "~") ≡ false → is_null word ≡ false
 not_null test word at_word a b d e =

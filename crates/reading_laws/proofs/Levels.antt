@@ -1,10 +1,11 @@
 -- A text is cut into the same parts wherever it stands, and however many more levels are left than its forms need.
 use Rattle.std.proofs.Common.{◌≡◌, ◌∙◌, ℕ, zero, suc, ◌+◌, ◌-◌, ◌<◌, ◌≤◌, ◌⊎◌, inl, inr, Bool, true, false, eqb, List, [], ◌∷◌, length, take, drop, Result, Ok, Err, refl, ap, subst, arith, tests}
 use Rattle.std.proofs.lemmas.Bool.Decides.{nat_tests}
+use Rattle.tree_base.specs.Answers.{◌>>=◌}
 use Rattle.interpolate.specs.declared.refusal.SubstRefusal.{SubstRefusal}
 use Rattle.interpolate.specs.Lengths.{starts_name, inside_len}
 use Rattle.interpolate.specs.Shapes.{Part, Literal, Dollar, Name, Value, Form, Unclosed, Wrong, braced_part, dollar_part, first_part, part_len, tail_start}
-use Rattle.interpolate.specs.Parts.{◌>>=◌, Parts, Text, Dollars, Variable, Braced, Reader, before, with_part, cut, tails, parts}
+use Rattle.interpolate.specs.Parts.{Parts, Text, Dollars, Variable, Braced, Reader, before, with_part, cut, tails, parts}
 
 -- a form stands where a level is left
 abbrev HasLevel : ℕ → Part → Type 0

@@ -2,19 +2,18 @@
 use Rattle.std.proofs.Common.{◌≡◌, ◌≢◌, ◌∙◌, ℕ, ◌+◌, ◌<◌, Bool, true, false, eqb, List, [], ◌∷◌, ◌++◌, append-nil, append_assoc, length, length-append, take, drop, Option, None, Result, Ok, Err, IsOk, refl, sym, ap, arith, tests}
 use Rattle.std.proofs.lemmas.Bool.Decides.{nat_tests}
 use Rattle.std.proofs.lemmas.List.{drop_all, drop_at, take_at}
+use Rattle.tree_base.specs.Answers.{◌>>=◌}
 use Rattle.interpolate.specs.declared.part.Action.TheVariants.{Default}
 use Rattle.interpolate.specs.declared.refusal.SubstRefusal.{SubstRefusal}
 use Rattle.interpolate.specs.Lengths.{name_len, inside_len}
 use Rattle.interpolate.specs.Shapes.{Part, Form, operator_part, form_part, braced_part, first_part, part_len, tail_start}
-use Rattle.interpolate.specs.Parts.{◌>>=◌, Parts, End, Braced, before, with_part, tails, parts}
+use Rattle.interpolate.specs.Parts.{Parts, End, Braced, before, with_part, tails, parts}
 use Rattle.interpolate.specs.Substitution.{Variables, value, counted, form_value, substituted_within}
 use Rattle.interpolate.proofs.Cutting.{parts_first}
+use Rattle.interpolate.proofs.Joining.{Value_}
 use Rattle.reading_laws.specs.Defaults.{IsName, NestsBraces, IsTail, operator, with_default}
 use Rattle.reading_laws.proofs.Braces.{name_ends, name_inside, name_runs, nested_inside}
 use Rattle.reading_laws.proofs.Levels.{parts_same}
-
-abbrev Value_ : Type 0
-Value_ = Result (List ℕ) SubstRefusal
 
 operator_inside : (colon : Bool) (more : List ℕ) → inside_len 0 false (operator colon ++ more) ≡ length (operator colon) + inside_len 0 false more
 operator_inside true more = let k : inside_len 0 false (58 ∷ 45 ∷ more) ≡ inside_len 0 false more + 1 + 1 = refl in omega (arith, k)

@@ -1,5 +1,5 @@
 -- A file whose one line is a flow is read as the tree that it spells.
-use Rattle.std.proofs.Common.{◌≡◌, ◌∙◌, ℕ, zero, suc, ◌+◌, ◌≤◌, Bool, true, false, cond, List, [], ◌∷◌, None, Ok, drop, length, map, take, refl, sym, ap, append-nil, arith}
+use Rattle.std.proofs.Common.{◌≡◌, ◌∙◌, ℕ, zero, suc, ◌+◌, ◌≤◌, Bool, true, false, cond, List, [], ◌∷◌, None, Ok, length, map, take, refl, sym, ap, append-nil, arith}
 use Rattle.std.proofs.lemmas.Bool.{cond-false, cond-true}
 use Rattle.std.proofs.lemmas.List.{drop_all}
 use Rattle.std.specs.Str.{chars}
@@ -22,13 +22,12 @@ use Rattle.yaml_nodes.specs.Marks.{is_item, is_key_behind, is_left_out, is_prope
 use Rattle.yaml_nodes.specs.Progress.{◌>>=◌, at_start}
 use Rattle.yaml_nodes.specs.Properties.{no_properties}
 use Rattle.yaml_tree.specs.Blocks.{below, node}
-use Rattle.yaml_tree.specs.Inline.{goes_on_at, inline, inline_alone}
+use Rattle.yaml_tree.specs.Inline.{goes_on_at}
 use Rattle.yaml_tree.specs.Parts.{begun}
 use Rattle.yaml_tree.specs.Reading.{document, is_start, no_owner, reading}
 use Rattle.yaml_laws.proofs.NumberedLines.{row_with}
-use Rattle.yaml_laws.proofs.OneLine.{node_is}
-use Rattle.yaml_laws.specs.Laws.{IsWithinLimits}
-use Rattle.yaml_page_laws.specs.Laws.{chars_of}
+use Rattle.yaml_laws.proofs.OneLine.{alone_by, last_of_three, node_is}
+use Rattle.yaml_laws.specs.Laws.{IsWithinLimits, chars_of}
 use Rattle.yaml_page_laws.specs.Readable.{is_readable, spelled_by}
 use Rattle.yaml_node_laws.proofs.Layers.{of_each, shown_null, shown_text, shown_word}
 use Rattle.yaml_node_laws.proofs.Pages as pages
@@ -67,16 +66,6 @@ grouped_none owner (suc n) = refl
 same_both : {A : Type 0} (b : Bool) (x : A) → cond b x x ≡ x
 same_both true x = refl
 same_both false x = refl
-
--- the last of three cases
-last_of_three : {A : Type 0} (a b : Bool) (x y last : A) → a ≡ false → b ≡ false
-    → cond a x (cond b y last) ≡ last
-last_of_three a b x y last p q = rw (p, q) refl
-
-alone_by : (levels indent column : ℕ) (p q : Progress) (line : LogicalLine) (at end : ℕ) (tree : Tree)
-    → inline levels column no_properties p line at ≡ Ok ((tree, end), q) → drop end line.row.chars ≡ []
-    → inline_alone levels indent column no_properties p line at [] ≡ Ok (tree, q)
-alone_by levels indent column p q line at end tree reads ends = rw (reads, ends) refl
 
 module _ (levels file number : ℕ) (text : List ℕ) (tree : Tree) (bare : IsBare text) (is : IsFlowText (suc levels) text tree) (nodes : node_count tree ≤ 200000) (bytes : text_size tree ≤ 16777216) where
   abbrev line : LogicalLine

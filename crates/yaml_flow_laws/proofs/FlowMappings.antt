@@ -28,6 +28,7 @@ use Rattle.yaml_laws.proofs.NewKeys.{put_last, still_new}
 use Rattle.yaml_laws.proofs.NumberedLines.{All-from_map}
 use Rattle.yaml_laws.proofs.OneLine.{counted, grown, node_fits, text_fits}
 use Rattle.yaml_laws.proofs.Sizes.{map_sizes}
+use Rattle.yaml_laws.proofs.EntryValues.{entries_with}
 use Rattle.yaml_page_laws.specs.Readable.{are_distinct}
 use Rattle.yaml_page_laws.proofs.Tokens.{key_of}
 use Rattle.yaml_flow_laws.proofs.Ends.{is_end}
@@ -43,10 +44,6 @@ use Rattle.yaml_flow_laws.specs.Flows.{pair, separated}
 
 closes : Closes 125
 closes = record { cut = refl; comma = refl; same = refl; mark = refl }
-
--- entries without a merge key
-abbrev entries_with : Pairs → Entries
-entries_with own = record { own = own; merge = None }
 
 -- where none of some passes a test, each fails it
 none_any : {X : Type 0} (test : X → Bool) (xs : List X) → list_any test xs ≡ false

@@ -3,9 +3,8 @@ use Rattle.std.specs.Prelude.{◌≡◌, ℕ, [], ◌∷◌, Ok, true}
 use Rattle.project_print.specs.declared.node.Node.{Node}
 use Rattle.project_print.specs.Pages.{lines_of, page_text, shown}
 use Rattle.yaml_flow_laws.specs.Flows.{flow_page, flow_text}
-use Rattle.yaml_laws.specs.Laws.{IsWithinLimits}
+use Rattle.yaml_laws.specs.Laws.{IsWithinLimits, chars_of}
 use Rattle.yaml_lines.specs.declared.lines.Lines.{Lines}
-use Rattle.yaml_page_laws.specs.Laws.{chars_of}
 use Rattle.yaml_page_laws.specs.Readable.{is_readable, spelled_by}
 use Rattle.yaml_tree.specs.Reading.{reading}
 use Rattle.yaml_lines.specs.Scan.{scan_of}

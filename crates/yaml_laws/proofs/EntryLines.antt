@@ -28,7 +28,7 @@ pub record IsEntryLine (cs : List ℕ) : Type 0 where
   pub begins : is_key_behind Block cs ≡ true
 
 -- the third of four cases
-third_of_four : {A : Type 0} (a b c : Bool) (x y third z : A) → a ≡ false → b ≡ false → c ≡ true → cond a x (cond b y (cond c third z)) ≡ third
+pub third_of_four : {A : Type 0} (a b c : Bool) (x y third z : A) → a ≡ false → b ≡ false → c ≡ true → cond a x (cond b y (cond c third z)) ≡ third
 third_of_four a b c x y third z p q r = rw (p, q, r)
 
 -- a key and its colon are passed over

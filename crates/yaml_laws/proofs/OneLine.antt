@@ -57,7 +57,7 @@ inline_by : (levels column : ℕ) (p : Progress) (line : LogicalLine) (at : ℕ)
     → inline levels column no_properties p line at ≡ word Block levels no_properties p line.row at
 inline_by levels column p line at flat bare = rw (flat, bare)
 
-alone_by : (levels indent column : ℕ) (p q : Progress) (line : LogicalLine) (at end : ℕ) (tree : Tree) → inline levels column no_properties p line at ≡ Ok ((tree, end), q) → drop end line.row.chars ≡ []
+pub alone_by : (levels indent column : ℕ) (p q : Progress) (line : LogicalLine) (at end : ℕ) (tree : Tree) → inline levels column no_properties p line at ≡ Ok ((tree, end), q) → drop end line.row.chars ≡ []
     → inline_alone levels indent column no_properties p line at [] ≡ Ok (tree, q)
 alone_by levels indent column p q line at end tree reads ends = rw (reads, ends)
 
@@ -66,7 +66,7 @@ pub last_of_four : {A : Type 0} (a b c : Bool) (x y z last : A) → a ≡ false 
 last_of_four a b c x y z last p q r = rw (p, q, r)
 
 -- the last of three cases
-last_of_three : {A : Type 0} (a b : Bool) (x y last : A) → a ≡ false → b ≡ false → cond a x (cond b y last) ≡ last
+pub last_of_three : {A : Type 0} (a b : Bool) (x y last : A) → a ≡ false → b ≡ false → cond a x (cond b y last) ≡ last
 last_of_three a b x y last p q = rw (p, q)
 
 block_or_inline_by : (levels under : ℕ) (read : Reader) (owner : Owned) (p : Progress) (at : ℕ) (line : LogicalLine) (more : List LogicalLine)

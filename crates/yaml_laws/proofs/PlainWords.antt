@@ -21,7 +21,7 @@ trimmed_is (c ∷ cs) chars =
     let parts = and_parts (is_word_char c) (are_word_chars cs) chars in
     rw (never is_white refl c parts.0, trimmed_is cs parts.1, add-one (length cs))
 
-or_false : (b : Bool) → (b || false) ≡ b
+pub or_false : (b : Bool) → (b || false) ≡ b
 or_false true = refl
 or_false false = refl
 

@@ -39,7 +39,7 @@ record IsRoom (p : Progress) (xs : Numbered) : Type 0 where
   nodes : p.nodes + length xs ≤ 200000
   text : p.text + bytes_of (words_of xs) ≤ 16777216
 
-sequence_by : (levels under : ℕ) (read : Reader) (owner : Owned) (p : Progress) (at : ℕ) (line : LogicalLine) (more : List LogicalLine) → is_item (drop at line.row.chars) ≡ true
+pub sequence_by : (levels under : ℕ) (read : Reader) (owner : Owned) (p : Progress) (at : ℕ) (line : LogicalLine) (more : List LogicalLine) → is_item (drop at line.row.chars) ≡ true
     → block_or_inline levels under read owner no_properties p at line more ≡ block_sequence levels read no_properties p at line more
 sequence_by levels under read owner p at line more dash = cond-true _ _ _ dash
 

@@ -1,6 +1,6 @@
 -- Items of a page, one below the other, are read as the sequence of what they spell.
 use Rattle.std.proofs.Common.{◌≡◌, ◌∙◌, ℕ, suc, ◌+◌, ◌≤◌, ◌++◌, true, false, eqb, List, [], ◌∷◌, All, Ok, Result, codes, map, flat_map, sum_by, drop, nat_le, refl, sym, ap, arith, append_assoc}
-use Rattle.std.proofs.lemmas.Bool.{and_from, cond-true, eq-eqb, le-leb}
+use Rattle.std.proofs.lemmas.Bool.{and_from, eq-eqb, le-leb}
 use Rattle.std.proofs.lemmas.List.{append-nil, drop-drop}
 use Rattle.std.proofs.lemmas.List.Elements.{All-cons, All-nil}
 use Rattle.std.proofs.lemmas.List.Sums.{sum_by-cons}
@@ -17,13 +17,14 @@ use Rattle.yaml_nodes.specs.declared.progress.Progress.{Progress}
 use Rattle.yaml_nodes.specs.Marks.{is_item, is_property}
 use Rattle.yaml_nodes.specs.Progress.{◌>>=◌}
 use Rattle.yaml_nodes.specs.Properties.{no_properties}
-use Rattle.yaml_tree.specs.Blocks.{Reader, block_item, block_or_inline, block_sequence, item_node, node}
+use Rattle.yaml_tree.specs.Blocks.{Reader, block_item, block_sequence, item_node, node}
 use Rattle.yaml_tree.specs.Inline.{Owned}
 use Rattle.yaml_tree.specs.Parts.{begins_item, is_item_at, later_parts, parted}
 use Rattle.yaml_tree.specs.Parts as parts
 use Rattle.yaml_laws.proofs.NumberedLines.{row_with}
 use Rattle.yaml_laws.proofs.OneLine.{grown, node_fits, node_is}
 use Rattle.yaml_laws.proofs.Sizes.{seq_sizes}
+use Rattle.yaml_laws.proofs.Sequences.{sequence_by}
 use Rattle.yaml_node_laws.proofs.Layers.{part_of_item}
 use Rattle.yaml_page_laws.proofs.PageLines.{ArePageLines, IsPageLine, begun_is, block_lines, item_lines, value_lines}
 use Rattle.yaml_page_laws.proofs.Parts.{no_item_begins, parted_more, parted_part}
@@ -57,10 +58,6 @@ item_begins column row line is = ap (λ n. nat_le n column) (indent_is column ro
 item_belongs : (column : ℕ) (row : Row) (line : List ℕ) → row ≡ row_with row.number (margin column (45 ∷ 32 ∷ line)) → is_item_at column (lone_line row) ≡ true
 item_belongs column row line is =
     and_from (eqb row.indent column) (is_item (drop column row.chars)) (eq-eqb row.indent column (indent_is column row (45 ∷ 32 ∷ line) is refl)) (ap is_item (here_is column row (45 ∷ 32 ∷ line) is))
-
-sequence_by : (levels under : ℕ) (read : Reader) (owner : Owned) (p : Progress) (at : ℕ) (line : LogicalLine) (more : List LogicalLine) → is_item (drop at line.row.chars) ≡ true
-    → block_or_inline levels under read owner no_properties p at line more ≡ block_sequence levels read no_properties p at line more
-sequence_by levels under read owner p at line more dash = cond-true _ _ _ dash
 
 none_before : (column : ℕ) (xs : List Node) (rows : List Row) → Stand column (item_lines_of xs) rows → (parted (begins_item column) (map lone_line rows)).0 ≡ []
 none_before column [] [] stand = refl

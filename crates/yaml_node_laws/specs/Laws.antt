@@ -2,9 +2,8 @@
 use Rattle.std.specs.Prelude.{◌≡◌, Ok, true}
 use Rattle.project_print.specs.declared.node.Node.{Node}
 use Rattle.project_print.specs.Pages.{lines_of, shown}
-use Rattle.yaml_laws.specs.Laws.{IsWithinLimits}
+use Rattle.yaml_laws.specs.Laws.{IsWithinLimits, chars_of}
 use Rattle.yaml_lines.specs.declared.lines.Lines.{Lines}
-use Rattle.yaml_page_laws.specs.Laws.{chars_of}
 use Rattle.yaml_page_laws.specs.Readable.{is_readable, spelled_by}
 use Rattle.yaml_tree.specs.Reading.{reading}
 

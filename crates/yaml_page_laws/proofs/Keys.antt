@@ -1,5 +1,5 @@
 -- A line that begins with a key of a page and its colon.
-use Rattle.std.proofs.Common.{◌≡◌, ◌∙◌, ℕ, zero, suc, ◌+◌, ◌≤◌, ◌||◌, Bool, true, false, cond, List, [], ◌∷◌, ◌++◌, Ok, drop, length, refl, sym, ap, add-one, add-zero, length-append, arith}
+use Rattle.std.proofs.Common.{◌≡◌, ◌∙◌, ℕ, zero, suc, ◌+◌, ◌≤◌, ◌||◌, Bool, true, false, List, [], ◌∷◌, ◌++◌, Ok, drop, length, refl, sym, ap, add-one, add-zero, length-append, arith}
 use Rattle.std.proofs.lemmas.Bool.{cond-false}
 use Rattle.std.proofs.lemmas.List.{drop-drop, drop_at}
 use Rattle.std.specs.Str.{encode_utf8_all}
@@ -17,6 +17,7 @@ use Rattle.yaml_tree.specs.Reading.{is_start}
 use Rattle.yaml_page_laws.proofs.Firsts.{no_document_start, no_item, no_property, no_spaces, no_tab, not_blank, not_left_out, not_white}
 use Rattle.yaml_page_laws.proofs.Spelled.{IsSpelled, scalar_spelled}
 use Rattle.yaml_page_laws.proofs.Tokens.{before_is, is_key_before, key_is}
+use Rattle.yaml_laws.proofs.EntryLines.{third_of_four}
 
 -- the key of a page, as it is read: never the merge key
 abbrev pub page_key : List ℕ → Key
@@ -35,10 +36,6 @@ pub record IsKeyLine (key rest : List ℕ) : Type 0 where
   pub before : before_colon Block (scalar key ++ 58 ∷ rest) ≡ length (scalar key)
   pub reads : (p : Progress) (row : Row) (at : ℕ) → drop at row.chars ≡ scalar key ++ 58 ∷ rest → key_at Block p row at ≡ Ok (page_key key)
   pub head : (owner at : ℕ) → head_of owner at 0 (scalar key ++ 58 ∷ rest) ≡ head_of at (at + length (scalar key) + 1) 0 rest
-
--- the third of four cases
-third_of_four : {A : Type 0} (a b c : Bool) (x y third z : A) → a ≡ false → b ≡ false → c ≡ true → cond a x (cond b y (cond c third z)) ≡ third
-third_of_four a b c x y third z p q r = rw (p, q, r)
 
 -- characters that belong to a key are passed over
 passed : (owner at n : ℕ) (cs : List ℕ) → n ≤ length cs → head_of owner at n cs ≡ head_of owner (at + n) 0 (drop n cs)

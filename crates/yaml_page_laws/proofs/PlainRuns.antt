@@ -1,12 +1,12 @@
 -- Words without quotes are read as they stand, in blocks and in flow collections.
-use Rattle.std.proofs.Common.{◌≡◌, ◌∙◌, ℕ, suc, ◌-◌, ◌<◌, List, [], ◌∷◌, ◌++◌, ◌&&◌, ◌||◌, Bool, true, false, eqb, Some, codes, drop, length, take, refl, sym, ap, add-one, arith}
+use Rattle.std.proofs.Common.{◌≡◌, ◌∙◌, ℕ, ◌-◌, ◌<◌, List, [], ◌∷◌, ◌++◌, ◌&&◌, ◌||◌, Bool, true, false, eqb, Some, codes, length, take, refl, sym, ap, add-one, arith}
 use Rattle.std.proofs.Math.Seq.{take-append_seam}
-use Rattle.std.proofs.lemmas.Bool.{agree_below, and_parts, eqb-true, false_from_ne_true}
+use Rattle.std.proofs.lemmas.Bool.{agree_below, and_parts}
 use Rattle.std.proofs.lemmas.Bool.Decides.{nat_tests}
 use Rattle.std.specs.Char.{is_ascii_alphanumeric}
 use Rattle.std.specs.List.{ends_with, list_all}
-use Rattle.std.specs.Str.{bytes_eq}
 use Rattle.project_print.specs.Scalars.{is_plain_byte}
+use Rattle.project_print.proofs.PlainWords.{ends_later, last_no}
 use Rattle.yaml_lines.specs.Blanks.{is_white}
 use Rattle.yaml_lines.specs.declared.plain.Context.{Context}
 use Rattle.yaml_lines.specs.declared.plain.Context.TheVariants.{Block, Flow}
@@ -33,18 +33,6 @@ module _ (c : ℕ) (byte : is_plain_byte c ≡ true) where
   ends_none : (context : Context) → ends_item context c ≡ false
   ends_none Block = refl
   ends_none Flow = never is_flow_mark refl
-
-true_no : true ≡ false → ⊥
-true_no h = cc
-
--- a colon ends a longer text where it ends the rest
-ends_later : (c d : ℕ) (cs : List ℕ) → ends_with eqb (c ∷ d ∷ cs) (58 ∷ []) ≡ ends_with eqb (d ∷ cs) (58 ∷ [])
-ends_later c d cs =
-    let e : length (c ∷ d ∷ cs) - 1 ≡ suc (length (d ∷ cs) - 1) = omega arith in
-    ap (λ n. bytes_eq (58 ∷ []) (drop n (c ∷ d ∷ cs))) e
-
-last_no : (c : ℕ) → ends_with eqb (c ∷ []) (58 ∷ []) ≡ false → eqb c 58 ≡ false
-last_no c h = false_from_ne_true (eqb c 58) (λ same. true_no (sym (ap (λ x. ends_with eqb (x ∷ []) (58 ∷ [])) (eqb-true c 58 same)) ∙ h))
 
 -- no character of a word ends it
 goes_on : (context : Context) (c : ℕ) (cs rest : List ℕ) → list_all is_plain_byte (c ∷ cs) ≡ true → ends_with eqb (c ∷ cs) (58 ∷ []) ≡ false → ends_plain context false (c ∷ (cs ++ rest)) ≡ false

@@ -1,5 +1,5 @@
 -- What a scalar of a page spells where it stands before the end of its line, before the colon of a key, or before a mark of a flow collection.
-use Rattle.std.proofs.Common.{◌≡◌, ◌∙◌, ℕ, ◌<◌, ◌||◌, not, Bool, true, false, cond, eqb, List, [], ◌∷◌, ◌++◌, Option, Some, codes, flat_map, length, refl, sym, ap, arith}
+use Rattle.std.proofs.Common.{◌≡◌, ◌∙◌, ℕ, ◌<◌, ◌||◌, not, Bool, true, false, cond, eqb, List, [], ◌∷◌, ◌++◌, Option, Some, codes, flat_map, length, refl, sym, ap, arith, true≢false}
 use Rattle.std.proofs.lemmas.Bool.{and_parts, cond-false, not-false, not-true, or_parts}
 use Rattle.std.proofs.lemmas.Bool.Decides.{nat_tests}
 use Rattle.std.proofs.lemmas.Str.{encode_ascii}
@@ -17,6 +17,7 @@ use Rattle.yaml_nodes.specs.Scalars.{is_null_word}
 use Rattle.yaml_page_laws.specs.Readable.{begins_word, is_read_as_word}
 use Rattle.yaml_page_laws.proofs.Firsts.{excluded, is_first}
 use Rattle.yaml_page_laws.proofs.PlainRuns.{byte_below, is_word_start, plain_read, start_below}
+use Rattle.yaml_laws.proofs.PlainWords.{or_false}
 
 -- what is read where a scalar begins with a character: in double quotes, or plain
 abbrev pub read_in : Context → ℕ → List ℕ → Option (List ℕ × ℕ)
@@ -35,13 +36,6 @@ pub record IsSpelled (context : Context) (cs text : List ℕ) (len : ℕ) : Type
 or_true : (b : Bool) → (b || true) ≡ true
 or_true true = refl
 or_true false = refl
-
-or_false : (b : Bool) → (b || false) ≡ b
-or_false true = refl
-or_false false = refl
-
-true_no : true ≡ false → ⊥
-true_no h = cc
 
 -- a letter, a digit or a slash is no quote
 no_quote : (c : ℕ) → is_word_start c ≡ true → eqb c 34 ≡ false
@@ -107,4 +101,4 @@ scalar_spelled context text rest ends = by (is_plain text) refl
   where
     by : (b : Bool) → is_plain text ≡ b → IsSpelled context (cond b text (in_quotes text) ++ rest) text (length (cond b text (in_quotes text)))
     by true plain = plain_spelled context text rest plain ends
-    by false quoted = record { front = 34; more = (flat_map escaped text ++ 34 ∷ []) ++ rest; is = refl; first = refl; some = omega arith; read = quotes_read text rest; spells = λ bare. absurd (true_no bare) }
+    by false quoted = record { front = 34; more = (flat_map escaped text ++ 34 ∷ []) ++ rest; is = refl; first = refl; some = omega arith; read = quotes_read text rest; spells = λ bare. absurd (true≢false bare) }

@@ -18,7 +18,7 @@ use Rattle.yaml_tree.specs.Inline.{Owned, goes_on_at, inline_alone}
 use Rattle.yaml_tree.specs.Parts.{PartReader, begun, later_parts, parted}
 use Rattle.yaml_tree.specs.Reading.{is_start}
 use Rattle.yaml_laws.proofs.NumberedLines.{row_with}
-use Rattle.yaml_laws.proofs.OneLine.{counted, grown, node_is}
+use Rattle.yaml_laws.proofs.OneLine.{counted, grown, last_of_three, node_is}
 use Rattle.yaml_page_laws.proofs.PageLines.{ArePageLines, IsPageLine, begun_is, rows_are, value_lines}
 use Rattle.yaml_page_laws.proofs.Standing.{Stand, drop_margin, lone_line, margin, spaces_margin}
 use Rattle.yaml_page_laws.proofs.Values.{IsValue}
@@ -85,10 +85,6 @@ part_is belongs read done line more parts begins here = rw (begins, here)
 
 pub begins_at_once : (begins : LogicalLine → Bool) (line : LogicalLine) (lines : List LogicalLine) → begins line ≡ true → (parted begins (line ∷ lines)).0 ≡ []
 begins_at_once begins line lines is = rw is
-
--- the last of three cases
-last_of_three : {A : Type 0} (a b : Bool) (x y last : A) → a ≡ false → b ≡ false → cond a x (cond b y last) ≡ last
-last_of_three a b x y last p q = rw (p, q)
 
 inline_by : (levels under : ℕ) (read : Reader) (owner : Owned) (p : Progress) (at : ℕ) (line : LogicalLine) (more : List LogicalLine) → is_item (drop at line.row.chars) ≡ false → is_key_behind Block (drop at line.row.chars) ≡ false
     → block_or_inline levels under read owner no_properties p at line more ≡ inline_alone levels (goes_on_at owner line at) owner.column no_properties p line at more

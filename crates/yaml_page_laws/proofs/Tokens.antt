@@ -21,14 +21,11 @@ use Rattle.yaml_nodes.specs.Scalars as nodes
 use Rattle.yaml_page_laws.proofs.Firsts.{first_below, is_first, never, no_alias, no_colon, no_properties_len, no_property, quotes_are}
 use Rattle.yaml_page_laws.proofs.PlainRuns.{plain_read}
 use Rattle.yaml_page_laws.proofs.Spelled.{IsSpelled, encoded, read_in}
+use Rattle.yaml_laws.proofs.PlainWords.{or_false}
 
 -- the key that a text of so many characters is: never the merge key
 abbrev pub key_of : List ℕ → ℕ → Key
 key_of text len = record { is_merge = false; text = encode_utf8_all text; len = len }
-
-or_false : (b : Bool) → (b || false) ≡ b
-or_false true = refl
-or_false false = refl
 
 -- the second of three cases isn't met
 skipped : (a a' b : Bool) (x y z : ℕ) → a ≡ a' → b ≡ false → cond a x (cond b y z) ≡ cond a' x z

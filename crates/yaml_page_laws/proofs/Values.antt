@@ -1,5 +1,5 @@
 -- Words of a page that stand for a tree: as the value of a key, as an item, or alone.
-use Rattle.std.proofs.Common.{◌≡◌, ◌∙◌, ℕ, zero, suc, ◌+◌, ◌<◌, ◌≤◌, ◌&&◌, Bool, true, false, cond, List, [], ◌∷◌, Ok, codes, drop, length, refl, sym, ap, subst, add-zero, arith}
+use Rattle.std.proofs.Common.{◌≡◌, ◌∙◌, ℕ, zero, suc, ◌+◌, ◌<◌, ◌≤◌, ◌&&◌, Bool, true, false, List, [], ◌∷◌, Ok, codes, drop, length, refl, sym, ap, subst, add-zero, arith}
 use Rattle.std.proofs.lemmas.Bool.{cond-false, cond-true}
 use Rattle.std.proofs.lemmas.List.{append-nil, drop-drop, drop_all}
 use Rattle.std.specs.Prelude.{nat_lt}
@@ -23,7 +23,7 @@ use Rattle.yaml_nodes.specs.Scalars.{scalar_at}
 use Rattle.yaml_nodes.specs.Scalars as nodes
 use Rattle.yaml_tree.specs.Inline.{inline, inline_alone}
 use Rattle.yaml_tree.specs.Reading.{is_start}
-use Rattle.yaml_laws.proofs.OneLine.{grown, last_of_four, node_fits, text_fits}
+use Rattle.yaml_laws.proofs.OneLine.{alone_by, grown, last_of_four, last_of_three, node_fits, text_fits}
 use Rattle.yaml_laws.proofs.Sizes.{IsOfSizes, map_sizes, null_sizes, scalar_sizes, seq_sizes}
 use Rattle.yaml_page_laws.specs.Readable.{is_read_as_word}
 use Rattle.yaml_page_laws.proofs.Empties.{empty_map, empty_seq, lone_map, lone_seq}
@@ -54,10 +54,6 @@ and_false : (b : Bool) → (b && false) ≡ false
 and_false true = refl
 and_false false = refl
 
--- the last of three cases
-last_of_three : {A : Type 0} (a b : Bool) (x y last : A) → a ≡ false → b ≡ false → cond a x (cond b y last) ≡ last
-last_of_three a b x y last p q = rw (p, q)
-
 -- a scalar that takes all of a text is no key
 no_key_whole : (cs : List ℕ) → key_len Block cs ≡ length cs → is_key Block cs ≡ false
 no_key_whole cs len =
@@ -67,10 +63,6 @@ no_key_whole cs len =
 
 word_by : (levels : ℕ) (p q : Progress) (row : Row) (at : ℕ) → starts 42 (drop at row.chars) ≡ false → one_node levels p row at 0 ≡ Ok q → nodes.word Block levels no_properties p row at ≡ scalar_at Block no_properties q row at
 word_by levels p q row at no_star counts = rw (no_star, counts)
-
-alone_by : (levels indent column : ℕ) (p q : Progress) (line : LogicalLine) (at end : ℕ) (tree : Tree) → inline levels column no_properties p line at ≡ Ok ((tree, end), q) → drop end line.row.chars ≡ []
-    → inline_alone levels indent column no_properties p line at [] ≡ Ok (tree, q)
-alone_by levels indent column p q line at end tree reads ends = rw (reads, ends)
 
 -- nothing stands behind the last characters of a row
 nothing_behind : (at : ℕ) (chars cs : List ℕ) → drop at chars ≡ cs → drop (at + length cs) chars ≡ []

@@ -1,18 +1,13 @@
 -- Laws about pages as texts that are read, on characters.
-use Rattle.std.specs.Prelude.{◌≡◌, ◌≤◌, ℕ, List, Ok, length, map}
+use Rattle.std.specs.Prelude.{◌≡◌, ◌≤◌, ℕ, List, Ok, length}
 use Rattle.std.specs.Str.{encode_utf8_all}
 use Rattle.project_print.specs.declared.node.Node.TheVariants as nodes
 use Rattle.project_print.specs.Pages.{lines_of, shown}
 use Rattle.project_print.specs.Scalars.{doubled}
 use Rattle.tree_base.specs.declared.tree.Tree.TheVariants.{Scalar}
-use Rattle.yaml_lines.specs.Block.{lines_of_rows}
 use Rattle.yaml_lines.specs.declared.lines.Lines.{Lines}
-use Rattle.yaml_lines.specs.Rows.{row_of}
 use Rattle.yaml_tree.specs.Reading.{reading}
-
--- the characters of lines
-abbrev pub chars_of : Lines → List (List ℕ)
-chars_of lines = lines_of_rows (map row_of lines.lines)
+use Rattle.yaml_laws.specs.Laws.{chars_of}
 
 -- the page of one text spells it, each of its dollars twice as it is printed
 abbrev pub TextPagesReadBack : Type 0

@@ -1,7 +1,6 @@
 -- Words of a page on bytes: what is made of a text's UTF-8 is the UTF-8 of what is made of the text.
-use Rattle.std.proofs.Common.{◌≡◌, ◌∙◌, ℕ, ◌+◌, ◌/◌, ◌%◌, ◌<◌, ◌≤◌, ◌&&◌, Bool, true, false, cond, not, eqb, ltb, List, [], ◌∷◌, ◌++◌, flat_map, refl, sym, ap, inl, inr, ◌⊎◌, arith}
+use Rattle.std.proofs.Common.{◌≡◌, ◌∙◌, ℕ, ◌+◌, ◌/◌, ◌%◌, ◌<◌, ◌≤◌, ◌&&◌, Bool, true, false, cond, not, eqb, ltb, List, [], ◌∷◌, ◌++◌, flat_map, refl, sym, ap, inl, inr, ◌⊎◌, arith, true≢false}
 use Rattle.std.proofs.lemmas.Bool.{agree_below_at, and_left, and_parts, and_right, cases_lt, cond-false, false_from_ne_true, le-leb, le-ltb, leb-true, ltb-true, ne_eqb}
-use Rattle.std.proofs.lemmas.Bool.Decides.{nat_tests}
 use Rattle.std.proofs.lemmas.Grind.{flat_map-append}
 use Rattle.std.proofs.lemmas.List.{append-nil}
 use Rattle.std.proofs.lemmas.Str.{encode_ascii, encodes-append}
@@ -9,6 +8,8 @@ use Rattle.std.specs.List.{list_all}
 use Rattle.std.specs.Prelude.{nat_le}
 use Rattle.std.specs.Str.{encode_utf8_all}
 use Rattle.project_print.specs.Scalars.{begins_plain, doubled, doubled_byte, escaped, in_quotes, is_plain, is_plain_byte, is_word, means_more, scalar}
+use Rattle.yaml_page_laws.proofs.PlainRuns.{byte_below}
+use Rattle.yaml_page_laws.proofs.Spelled.{encoded}
 use lib.Utf8.{encode}
 
 -- a number below 128
@@ -125,19 +126,6 @@ quotes_bytes text =
     ∙ ap (λ l. 34 ∷ l) (encodes-append (flat_map escaped text) (34 ∷ []))
     ∙ (λ i. 34 ∷ (commutes escaped escaped_low escaped_high text i ++ (quote i ++ [])))
 
-pub byte_below : (c : ℕ) → is_plain_byte c ≡ true → c < 128
-byte_below c byte = grind (arith, nat_tests)
-
--- plain characters are their own UTF-8
-pub plain_low : (cs : List ℕ) → list_all is_plain_byte cs ≡ true → encode_utf8_all cs ≡ cs
-plain_low [] plain = refl
-plain_low (c ∷ cs) plain =
-    let parts = and_parts (is_plain_byte c) (list_all is_plain_byte cs) plain in
-    rw (encode_ascii c (byte_below c parts.0)) (ap (λ l. c ∷ l) (plain_low cs parts.1))
-
-true_no : true ≡ false → ⊥
-true_no h = cc
-
 high_no_plain : (c : ℕ) → 128 ≤ c → is_plain_byte c ≡ false
 high_no_plain c high = false_from_ne_true (is_plain_byte c) (λ yes. absurd (omega (arith, byte_below c yes)))
 
@@ -157,7 +145,7 @@ first_no c cs (inr large) bare later =
 
 -- what has another character than those of a plain text has another byte
 no_plain : (cs : List ℕ) → list_all is_plain_byte cs ≡ false → list_all is_plain_byte (encode_utf8_all cs) ≡ false
-no_plain [] bare = absurd (true_no bare)
+no_plain [] bare = absurd (true≢false bare)
 no_plain (c ∷ cs) bare = first_no c cs (cases_lt c 128) bare (λ later. no_plain cs later)
 
 not_plain : (text : List ℕ) → list_all is_plain_byte text ≡ false → is_plain text ≡ false
@@ -167,7 +155,7 @@ plain_bytes : (text : List ℕ) → is_plain (encode_utf8_all text) ≡ is_plain
 plain_bytes text = by (list_all is_plain_byte text) refl
   where
     by : (b : Bool) → list_all is_plain_byte text ≡ b → is_plain (encode_utf8_all text) ≡ is_plain text
-    by true plain = ap is_plain (plain_low text plain)
+    by true plain = ap is_plain (encoded text plain)
     by false bare = not_plain (encode_utf8_all text) (no_plain text bare) ∙ sym (not_plain text bare)
 
 -- a text as a page has it

@@ -9,7 +9,9 @@ use Rattle.std.specs.Str.{IsUtf8}
 use Rattle.project_print.specs.Pages.{Shown, block, deeper, entry, item, lines_of, word}
 use Rattle.project_print.specs.Scalars.{doubled, doubled_byte, escaped, in_quotes, is_plain, is_plain_byte, scalar}
 use Rattle.project_print.proofs.PlainWords.{are_bytes}
-use Rattle.yaml_print_laws.proofs.Bytes.{byte_below, doubled_bytes, escaped_high, is_low, low_same, plain_low, scalar_bytes}
+use Rattle.yaml_page_laws.proofs.PlainRuns.{byte_below}
+use Rattle.yaml_page_laws.proofs.Spelled.{encoded}
+use Rattle.yaml_print_laws.proofs.Bytes.{doubled_bytes, escaped_high, is_low, low_same, scalar_bytes}
 use Rattle.yaml_print_laws.proofs.Scanned.{IsCleanLine, is_clean}
 use lib.Utf8.{low_scalar, scalar as is_scalar, scalars}
 
@@ -82,7 +84,7 @@ plain_scalars (c ∷ cs) plain =
 
 -- a word of the characters of plain ones
 pub plain_line : (text : List ℕ) → list_all is_plain_byte text ≡ true → IsCleanLine text
-plain_line text plain = record { clean = plain_clean text plain; utf8 = (text, (plain_scalars text plain, plain_low text plain)) }
+plain_line text plain = record { clean = plain_clean text plain; utf8 = (text, (plain_scalars text plain, encoded text plain)) }
 
 dollar_scalars : (c : ℕ) (b : Bool) → is_scalar c ≡ true → scalars (cond b (36 ∷ 36 ∷ []) (c ∷ [])) ≡ true
 dollar_scalars c true is = refl

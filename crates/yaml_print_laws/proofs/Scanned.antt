@@ -1,5 +1,5 @@
 -- Lines without control characters, each with a line feed behind it, are scanned as these lines.
-use Rattle.std.proofs.Common.{◌≡◌, ◌∙◌, ℕ, zero, suc, ◌-◌, ◌<◌, Bool, true, false, cond, eqb, All, Ok, Result, List, [], ◌∷◌, ◌++◌, flat_map, get_or, length, map, take, refl, sym, ap, append_assoc, arith}
+use Rattle.std.proofs.Common.{◌≡◌, ◌∙◌, ℕ, zero, suc, ◌-◌, ◌<◌, Bool, true, false, eqb, All, Ok, Result, List, [], ◌∷◌, ◌++◌, flat_map, get_or, length, map, take, refl, sym, ap, append_assoc, arith}
 use Rattle.std.proofs.lemmas.Bool.{and_parts, cond-false, le-ltb, leb-true, ne_eqb}
 use Rattle.std.proofs.lemmas.List.{take_all}
 use Rattle.std.proofs.lemmas.List.Elements.{All-cons, All-head, All-nil, All-tail}
@@ -17,6 +17,7 @@ use Rattle.yaml_lines.specs.declared.refusal.YamlRefusal.{YamlRefusal}
 use Rattle.yaml_lines.specs.Block.{lines_of_rows}
 use Rattle.yaml_lines.specs.Rows.{one_more, row_of}
 use Rattle.yaml_lines.specs.Scan.{clean_len, numbered, scan_of, scanned, starts_with_byte, without_mark}
+use Rattle.yaml_laws.proofs.OneLine.{last_of_three}
 
 -- a byte of at least 32, which is no control character of C0
 abbrev pub is_clean : ℕ → Bool
@@ -93,9 +94,6 @@ no_mark [] bare = refl
 no_mark (a ∷ []) bare = refl
 no_mark (a ∷ b ∷ []) bare = refl
 no_mark (a ∷ b ∷ c ∷ bytes) bare = rw bare
-
-last_of_three : {A : Type 0} (a b : Bool) (x y last : A) → a ≡ false → b ≡ false → cond a x (cond b y last) ≡ last
-last_of_three a b x y last p q = rw (p, q)
 
 scanned_clean : (file : ℕ) (bytes : List ℕ) → clean_len bytes ≡ length bytes → scanned file (length bytes) bytes ≡ Ok (record { file = file; lines = numbered 1 (lines bytes) })
 scanned_clean file bytes clean =

@@ -1,7 +1,8 @@
 use Rattle.std.proofs.Common.{◌≡◌, ◌∙◌, ◌+◌, ◌++◌, ℕ, List, Some, Ok, Err, length, drop, map, slice_get, refl, ap, sym, arith}
 use Rattle.std.proofs.lemmas.Option.{slice_get_read}
 use Rattle.std.proofs.lemmas.Result.{err_from_is_err_and}
-use Rattle.plain_services.specs.Shape.{◌>>=◌, Entries, services_of}
+use Rattle.tree_base.specs.Answers.{◌>>=◌}
+use Rattle.plain_services.specs.Shape.{Entries, services_of}
 use Rattle.tree_base.specs.declared.Tree.{Tree}
 use Rattle.plain_services.specs.declared.entries.Entry.{Entry}
 use Rattle.service_attrs.specs.declared.Service.{Service}

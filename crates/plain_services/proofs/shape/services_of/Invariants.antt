@@ -1,5 +1,6 @@
 use Rattle.std.proofs.Common.{◌≡◌, ◌++◌, map, drop, Ok}
-use Rattle.plain_services.specs.Shape.{◌>>=◌, services_of}
+use Rattle.tree_base.specs.Answers.{◌>>=◌}
+use Rattle.plain_services.specs.Shape.{services_of}
 use Rattle.plain_services.proofs.shape.services_of.Given as goal
 
 abbrev pub invariant-loop-entry : goal.invariant-loop-entry
