@@ -4,7 +4,8 @@ ghost use Rattle.std.specs.Option.{option_copied};
 use crate::answers::Answers;
 use crate::case_fault::CaseFault;
 use crate::fields::Fields;
-use crate::one_line::line_of;
+use crate::line::Line;
+use crate::one_line::say_tree;
 use std::alloc::Global;
 use tree_base::{Memory, Text, Tree};
 
@@ -21,7 +22,7 @@ impl<'c> Case<'c> {
         match tree {
             Tree::Map(entries) => Ok(Case {
                 alloc,
-                fields: Fields::new(alloc, entries.get()),
+                fields: Fields::new(entries.get()),
             }),
             _ => Err(CaseFault::no_case(alloc, "a case wants a mapping")),
         }
@@ -42,24 +43,6 @@ impl<'c> Case<'c> {
         Err(CaseFault::no_case(self.alloc, "it names no call"))
     }
 
-    /// What the case is told by on one line: its sentence, or else its call with the beginning of its main input.
-    pub fn title(&self) -> Result<Text, CaseFault> {
-        match self.fields.find("case") {
-            Some(Tree::Scalar(sentence)) => Ok(sentence.copy(self.alloc)?),
-            Some(_) => Err(CaseFault::wants(self.alloc, "case", "a text")),
-            None => self.input_line(),
-        }
-    }
-
-    fn input_line(&self) -> Result<Text, CaseFault> {
-        let call = self.call()?.as_str();
-        let mut title = Text::from_str(self.alloc, call)?;
-        title.push_str(": ")?;
-        let input = line_of(self.alloc, self.fields.tree(call)?)?;
-        add_beginning(input.as_str(), &mut title)?;
-        Ok(title)
-    }
-
     /// NoCase where no answer of the call with these further inputs is wanted.
     pub fn has_wanted(&self, call: &Text, inputs: &[&str]) -> Result<(), CaseFault> {
         for key in self.fields.entries().keys() {
@@ -77,36 +60,74 @@ impl<'c> Case<'c> {
         inputs: &[&str],
         answers: &Answers,
     ) -> Result<Option<Text>, CaseFault> {
-        let lines = self.differences(call, inputs, answers)?;
+        let mut lines = Line::new(self.alloc);
+        self.say_differences(&mut lines, call, inputs, answers);
+        self.told(call, &lines.end()?)
+    }
+
+    fn told(&self, call: &Text, lines: &Text) -> Result<Option<Text>, CaseFault> {
         if lines.is_empty() {
             return Ok(None);
         }
-        let mut told = self.title()?;
-        told.push_str("\n")?;
-        told.push_str(lines.as_str())?;
-        Ok(Some(told))
+        let sentence = self.sentence()?;
+        let mut told = Line::new(self.alloc);
+        self.say_title(&mut told, call, sentence);
+        told.put("\n");
+        told.put(lines.as_str());
+        Ok(Some(told.end()?))
     }
 
-    /// How the answers differ from those that are wanted, two lines each; the empty text where they don't. Wanted
+    /// The sentence of the case; None where it has none. NoCase where it is no text.
+    fn sentence(&self) -> Result<Option<&'c Text>, CaseFault> {
+        match self.fields.find("case") {
+            Some(Tree::Scalar(sentence)) => Ok(Some(sentence)),
+            Some(_) => Err(CaseFault::no_case(self.alloc, "`case` wants a text")),
+            None => Ok(None),
+        }
+    }
+
+    /// Says what the case is told by on one line: its sentence, or else its call with the beginning of its main input.
+    fn say_title(&self, line: &mut Line, call: &Text, sentence: Option<&Text>) {
+        match sentence {
+            Some(sentence) => line.put(sentence.as_str()),
+            None => {
+                line.put(call.as_str());
+                line.put(": ");
+                self.say_input(line, call);
+            }
+        }
+    }
+
+    fn say_input(&self, line: &mut Line, call: &Text) {
+        let mut input = Line::new(self.alloc);
+        if let Some(tree) = self.fields.find(call.as_str()) {
+            say_tree(&mut input, tree);
+        }
+        match input.end() {
+            Ok(input) => say_beginning(line, input.as_str()),
+            Err(Memory) => line.put(".."),
+        }
+    }
+
+    /// Says how the answers differ from those that are wanted, two lines each; nothing where they don't. Wanted
     /// is each field but the sentence, the call and its further inputs; and that `refused` doesn't come, where it isn't among these.
-    pub fn differences(
+    pub fn say_differences(
         &self,
+        lines: &mut Line,
         call: &Text,
         inputs: &[&str],
         answers: &Answers,
-    ) -> Result<Text, CaseFault> {
-        let mut lines = Text::new(self.alloc);
+    ) {
         let entries = self.fields.entries();
         for (key, wanted) in entries.keys().iter().zip(entries.values()) {
             if is_wanted(key.as_str(), call.as_str(), inputs) {
                 let came = answers.find(key.as_str());
-                compare(self.alloc, key.as_str(), Some(wanted), came, &mut lines)?;
+                compare(lines, key.as_str(), Some(wanted), came);
             }
         }
         if !self.fields.has(REFUSED) {
-            compare(self.alloc, REFUSED, None, answers.find(REFUSED), &mut lines)?;
+            compare(lines, REFUSED, None, answers.find(REFUSED));
         }
-        Ok(lines)
     }
 }
 
@@ -123,20 +144,11 @@ fn is_wanted(key: &str, call: &str, inputs: &[&str]) -> bool {
 /// The name of the answer that tells why a call was refused.
 const REFUSED: &str = "refused";
 
-/// Puts two lines where what came isn't what was wanted.
-fn compare(
-    alloc: Global,
-    name: &str,
-    wanted: Option<&Tree>,
-    came: Option<&Tree>,
-    lines: &mut Text,
-) -> Result<(), CaseFault> {
-    if is_same(wanted, came) {
-        return Ok(());
+/// Says two lines where what came isn't what was wanted.
+fn compare(lines: &mut Line, name: &str, wanted: Option<&Tree>, came: Option<&Tree>) {
+    if !is_same(wanted, came) {
+        say_difference(lines, name, wanted, came);
     }
-    let wanted = line_or_nothing(alloc, wanted)?;
-    let came = line_or_nothing(alloc, came)?;
-    Ok(add_difference(name, &wanted, &came, lines)?)
 }
 
 /// Whether there are two trees that are the same, or none at all. No memory.
@@ -150,38 +162,37 @@ fn is_same(wanted: Option<&Tree>, came: Option<&Tree>) -> bool
     }
 }
 
-fn line_or_nothing(alloc: Global, tree: Option<&Tree>) -> Result<Text, CaseFault> {
-    match tree {
-        Some(tree) => line_of(alloc, tree),
-        None => Ok(Text::from_str(alloc, "nothing")?),
-    }
-}
-
-/// Puts the first 60 characters of a line, and two points where there are more.
-fn add_beginning(line: &str, to: &mut Text) -> Result<(), Memory> {
-    for (at, c) in line.chars().enumerate() {
-        if at == 60 {
-            return to.push_str("..");
-        }
-        to.push(c)?;
-    }
-    Ok(())
-}
-
-/// Two lines, one below the other, as
+/// Says two lines, one below the other, as
 ///
 ///     text: wanted "a"
 ///           came   "b"
-fn add_difference(name: &str, wanted: &Text, came: &Text, lines: &mut Text) -> Result<(), Memory> {
-    lines.push_str("  ")?;
-    lines.push_str(name)?;
-    lines.push_str(": wanted ")?;
-    lines.push_str(wanted.as_str())?;
-    lines.push_str("\n    ")?;
+fn say_difference(lines: &mut Line, name: &str, wanted: Option<&Tree>, came: Option<&Tree>) {
+    lines.put("  ");
+    lines.put(name);
+    lines.put(": wanted ");
+    say_tree_or_nothing(lines, wanted);
+    lines.put("\n    ");
     for _ in name.chars() {
-        lines.push_str(" ")?;
+        lines.put(" ");
     }
-    lines.push_str("came   ")?;
-    lines.push_str(came.as_str())?;
-    lines.push_str("\n")
+    lines.put("came   ");
+    say_tree_or_nothing(lines, came);
+    lines.put("\n");
+}
+
+fn say_tree_or_nothing(line: &mut Line, tree: Option<&Tree>) {
+    match tree {
+        Some(tree) => say_tree(line, tree),
+        None => line.put("nothing"),
+    }
+}
+
+/// Says the first 60 characters of a line, and two points where there are more.
+fn say_beginning(line: &mut Line, text: &str) {
+    for (at, c) in text.chars().enumerate() {
+        if at == 60 {
+            return line.put("..");
+        }
+        line.put_char(c);
+    }
 }

@@ -1,59 +1,52 @@
-use crate::case_fault::CaseFault;
-use std::alloc::{AllocError, Global};
-use std::fmt::Write;
+use crate::line::Line;
 use tree_base::{Map, Text, Tree};
 
-/// A tree on one line: `null`, `"scalar"`, `[a, b]`, `{"k": v}`, `!reset`, `!override v`.
-pub fn line_of(alloc: Global, tree: &Tree) -> Result<Text, CaseFault> {
-    let mut line = String::new(alloc);
-    show(tree, &mut line)?;
-    Ok(Text::from_string(line))
-}
-
-#[cycle(show)]
-fn show(tree: &Tree, line: &mut String) -> Result<(), AllocError> {
+/// Says a tree: `null`, `"scalar"`, `[a, b]`, `{"k": v}`, `!reset`, `!override v`.
+#[cycle(say)]
+pub(crate) fn say_tree(line: &mut Line, tree: &Tree) {
     match tree {
-        Tree::Null => line.push_str("null"),
-        Tree::Scalar(text) => write!(line, "{text:?}"),
-        Tree::Map(entries) => show_entries(entries.get(), line),
-        Tree::Seq(items) => show_items(items.as_slice(), line),
-        Tree::Reset => line.push_str("!reset"),
+        Tree::Null => line.put("null"),
+        Tree::Scalar(text) => line.put_quoted(text),
+        Tree::Map(entries) => say_entries(line, entries.get()),
+        Tree::Seq(items) => say_items(line, items.as_slice()),
+        Tree::Reset => line.put("!reset"),
         Tree::Override(inner) => {
-            line.push_str("!override ")?;
-            show(inner.get(), line)
+            line.put("!override ");
+            say_tree(line, inner.get());
         }
     }
 }
 
-#[cycle(show)]
-fn show_items(items: &[Tree], line: &mut String) -> Result<(), AllocError> {
-    line.push_str("[")?;
+#[cycle(say)]
+fn say_items(line: &mut Line, items: &[Tree]) {
+    line.put("[");
     for (at, item) in items.iter().enumerate() {
-        if at > 0 {
-            line.push_str(", ")?;
-        }
-        show(item, line)?;
+        line.put(mark_of(at));
+        say_tree(line, item);
     }
-    line.push_str("]")
+    line.put("]");
 }
 
-#[cycle(show)]
-fn show_entries(entries: &Map, line: &mut String) -> Result<(), AllocError> {
-    line.push_str("{")?;
+#[cycle(say)]
+fn say_entries(line: &mut Line, entries: &Map) {
+    line.put("{");
     let keys = entries.keys();
     for (at, value) in entries.values().iter().enumerate() {
-        show_key(keys, at, line)?;
-        show(value, line)?;
+        line.put(mark_of(at));
+        say_key(line, keys.get(at));
+        say_tree(line, value);
     }
-    line.push_str("}")
+    line.put("}");
 }
 
-fn show_key(keys: &[Text], at: usize, line: &mut String) -> Result<(), AllocError> {
-    if at > 0 {
-        line.push_str(", ")?;
-    }
-    match keys.get(at) {
-        Some(key) => write!(line, "{key:?}: "),
-        None => Ok(()),
+/// The mark before an item: nothing before the first one.
+fn mark_of(at: usize) -> &'static str {
+    if at == 0 { "" } else { ", " }
+}
+
+fn say_key(line: &mut Line, key: Option<&Text>) {
+    if let Some(key) = key {
+        line.put_quoted(key);
+        line.put(": ");
     }
 }

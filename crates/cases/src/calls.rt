@@ -1,12 +1,8 @@
-use case_files::{Answers, CaseFault, Fields};
-use std::alloc::Global;
+use case_files::{Answers, Fields};
 
 /// The inputs of a call beside its main one, or None where there is no such call. No memory.
 pub fn inputs_of(call: &str) -> Option<&'static [&'static str]> {
     if let Some(inputs) = cases_yaml::inputs_of(call) {
-        return Some(inputs);
-    }
-    if let Some(inputs) = cases_ground::inputs_of(call) {
         return Some(inputs);
     }
     if let Some(inputs) = cases_reading::inputs_of(call) {
@@ -18,27 +14,15 @@ pub fn inputs_of(call: &str) -> Option<&'static [&'static str]> {
     cases_calls::inputs_of(call)
 }
 
-/// Makes the call of a case. NoCase where there is no such call.
-pub fn answer(
-    alloc: Global,
-    call: &str,
-    fields: &Fields,
-    answers: &mut Answers,
-) -> Result<(), CaseFault> {
+/// Makes the call of a case. It is no case where there is no such call.
+pub fn answer(call: &str, fields: &Fields, answers: &mut Answers) {
     if cases_yaml::inputs_of(call).is_some() {
-        return cases_yaml::answer(alloc, call, fields, answers);
+        cases_yaml::answer(call, fields, answers);
+    } else if cases_reading::inputs_of(call).is_some() {
+        cases_reading::answer(call, fields, answers);
+    } else if cases_runs::inputs_of(call).is_some() {
+        cases_runs::answer(call, fields, answers);
+    } else {
+        cases_calls::answer(call, fields, answers);
     }
-    if cases_ground::inputs_of(call).is_some() {
-        return cases_ground::answer(alloc, call, fields, answers);
-    }
-    if cases_reading::inputs_of(call).is_some() {
-        return cases_reading::answer(alloc, call, fields, answers);
-    }
-    if cases_runs::inputs_of(call).is_some() {
-        return cases_runs::answer(alloc, call, fields, answers);
-    }
-    if cases_calls::inputs_of(call).is_some() {
-        return cases_calls::answer(alloc, call, fields, answers);
-    }
-    Err(CaseFault::no_call(alloc, call))
 }

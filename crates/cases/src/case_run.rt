@@ -59,11 +59,27 @@ fn run_case(
 fn differences(alloc: Global, tree: &Tree) -> Result<Option<Text>, CaseFault> {
     let case = Case::of_tree(alloc, tree)?;
     let call = case.call()?;
-    let Some(inputs) = inputs_of(call.as_str()) else {
-        return Err(CaseFault::no_call(alloc, call.as_str()));
+    let inputs = match inputs_of(call.as_str()) {
+        Some(inputs) => {
+            case.has_wanted(call, inputs)?;
+            inputs
+        }
+        None => &[],
     };
-    case.has_wanted(call, inputs)?;
     let mut answers = Answers::new(alloc);
-    answer(alloc, call.as_str(), case.fields(), &mut answers)?;
-    case.told_differences(call, inputs, &answers)
+    answer(call.as_str(), case.fields(), &mut answers);
+    let told = told(&case, call, inputs, &mut answers);
+    drop(answers);
+    told
+}
+
+/// What a case is told to differ in, where it could be run.
+fn told(
+    case: &Case,
+    call: &Text,
+    inputs: &[&str],
+    answers: &mut Answers,
+) -> Result<Option<Text>, CaseFault> {
+    answers.reading.sound()?;
+    case.told_differences(call, inputs, answers)
 }

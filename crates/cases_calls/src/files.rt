@@ -1,4 +1,4 @@
-use case_files::{Answers, CaseFault, Fields, bytes_of};
+use case_files::{Answers, Fields, Line, Lines, Reading};
 use outside_files::{FileAnswer, Files, MemoryFiles};
 use std::alloc::Global;
 use std::str;
@@ -6,96 +6,88 @@ use tree_base::{List, Text, TextMap, Tree};
 
 /// The files of the field `files`, of which the reads of `failing_reads`, from 1, fail. A path that begins with no
 /// slash is one in the directory.
-pub fn files_of(alloc: Global, fields: &Fields, directory: &str) -> Result<MemoryFiles, CaseFault> {
-    let failing = fields.numbers("failing_reads")?;
-    let contents = contents_of(alloc, fields, directory)?;
-    Ok(MemoryFiles::new(contents, failing))
+pub fn files_of(reading: &mut Reading, fields: &Fields, directory: &str) -> MemoryFiles {
+    let failing = reading.numbers(fields, "failing_reads");
+    MemoryFiles::new(contents_of(reading, fields, directory), failing)
 }
 
 /// The files of the field `files`, of which every read goes well.
-pub fn sound_files_of(
-    alloc: Global,
-    fields: &Fields,
-    directory: &str,
-) -> Result<MemoryFiles, CaseFault> {
-    let contents = contents_of(alloc, fields, directory)?;
-    Ok(MemoryFiles::new(contents, List::new(alloc)))
+pub fn sound_files_of(reading: &mut Reading, fields: &Fields, directory: &str) -> MemoryFiles {
+    let failing = List::new(reading.alloc);
+    MemoryFiles::new(contents_of(reading, fields, directory), failing)
 }
 
-fn contents_of(
-    alloc: Global,
-    fields: &Fields,
-    directory: &str,
-) -> Result<TextMap<List<u8>>, CaseFault> {
-    let mut contents = TextMap::new(alloc);
-    if let Some(files) = fields.fields("files")? {
+fn contents_of(reading: &mut Reading, fields: &Fields, directory: &str) -> TextMap<List<u8>> {
+    let mut contents = TextMap::new(reading.alloc);
+    if let Some(files) = reading.fields(fields, "files") {
         let entries = files.entries();
         for (path, tree) in entries.keys().iter().zip(entries.values()) {
-            add_file(alloc, directory, path, tree, &mut contents)?;
+            add_file(reading, directory, path.as_str(), tree, &mut contents);
         }
     }
-    Ok(contents)
+    contents
 }
 
 fn add_file(
-    alloc: Global,
+    reading: &mut Reading,
     directory: &str,
-    path: &Text,
+    path: &str,
     tree: &Tree,
     to: &mut TextMap<List<u8>>,
-) -> Result<(), CaseFault> {
-    let bytes = bytes_of(alloc, tree, path.as_str())?;
-    let path = path_in(alloc, directory, path.as_str())?;
-    let _ = to.put(path, bytes)?;
-    Ok(())
+) {
+    let bytes = reading.bytes_of(tree, path);
+    let path = path_in(reading, directory, path);
+    let old = to.put(path, bytes);
+    if old.is_err() {
+        reading.memory();
+    }
 }
 
 /// The path itself where it begins with a slash, else the path below the directory.
-fn path_in(alloc: Global, directory: &str, path: &str) -> Result<Text, CaseFault> {
-    if path.starts_with('/') {
-        return Ok(Text::from_str(alloc, path)?);
+fn path_in(reading: &mut Reading, directory: &str, path: &str) -> Text {
+    let mut line = Line::new(reading.alloc);
+    if !path.starts_with('/') {
+        line.put(directory);
+        line.put("/");
     }
-    Ok(Text::from_string(format!(in alloc; "{directory}/{path}")?))
+    line.put(path);
+    reading.said(line)
 }
 
 /// Reads files in memory one after another: `reads` has a mapping `{path: PATH, limit: BYTES}` for each read, and
 /// `outcomes` what came of each.
-pub fn reads(alloc: Global, fields: &Fields, answers: &mut Answers) -> Result<(), CaseFault> {
-    let mut files = files_of(alloc, fields, "")?;
-    let outcomes = read_each(alloc, fields, &mut files)?;
-    answers.put_texts("outcomes", outcomes)
+pub fn reads(fields: &Fields, answers: &mut Answers) {
+    let mut files = files_of(&mut answers.reading, fields, "");
+    let outcomes = read_each(&mut answers.reading, fields, &mut files);
+    answers.put_lines("outcomes", outcomes);
 }
 
-fn read_each(
-    alloc: Global,
-    fields: &Fields,
-    files: &mut MemoryFiles,
-) -> Result<List<Text>, CaseFault> {
-    let mut outcomes = List::new(alloc);
-    for tree in fields.items("reads")? {
-        let read = Fields::of_tree(alloc, tree, "reads")?;
-        outcomes.push(read_one(alloc, &read, files)?)?;
+fn read_each(reading: &mut Reading, fields: &Fields, files: &mut MemoryFiles) -> Lines {
+    let mut outcomes = Lines::new(reading.alloc);
+    for tree in reading.items(fields, "reads") {
+        if let Some(read) = reading.fields_of(tree, "reads") {
+            outcomes.push(read_one(reading, &read, files));
+        }
     }
-    Ok(outcomes)
+    outcomes
 }
 
-fn read_one(alloc: Global, read: &Fields, files: &mut MemoryFiles) -> Result<Text, CaseFault> {
-    let path = read.text("path")?;
-    let limit = read.number("limit")?;
-    outcome_of(alloc, &files.read(alloc, &path, limit))
+fn read_one(reading: &mut Reading, read: &Fields, files: &mut MemoryFiles) -> Line {
+    let path = reading.text_at(read, "path");
+    let limit = reading.number_at(read, "limit");
+    outcome_line(reading.alloc, &files.read(reading.alloc, &path, limit))
 }
 
-fn outcome_of(alloc: Global, answer: &FileAnswer) -> Result<Text, CaseFault> {
+fn outcome_line(alloc: Global, answer: &FileAnswer) -> Line {
     match answer {
-        FileAnswer::Bytes(bytes) => words_of(alloc, bytes.as_slice()),
-        FileAnswer::Missing => Ok(Text::from_str(alloc, "missing")?),
-        FileAnswer::Longer => Ok(Text::from_str(alloc, "longer")?),
-        FileAnswer::Failed => Ok(Text::from_str(alloc, "failed")?),
-        FileAnswer::Memory => Ok(Text::from_str(alloc, "memory")?),
+        FileAnswer::Bytes(bytes) => {
+            let mut line = Line::of_word(alloc, "bytes");
+            line.word(str::from_utf8(bytes.as_slice()).unwrap_or("?"));
+            line
+        }
+        FileAnswer::Missing => Line::of_word(alloc, "missing"),
+        FileAnswer::Longer => Line::of_word(alloc, "longer"),
+        FileAnswer::Failed => Line::of_word(alloc, "failed"),
+        FileAnswer::Memory => Line::of_word(alloc, "memory"),
     }
-}
-
-fn words_of(alloc: Global, bytes: &[u8]) -> Result<Text, CaseFault> {
-    let text = str::from_utf8(bytes).unwrap_or("?");
-    Ok(Text::from_string(format!(in alloc; "bytes {text}")?))
 }

@@ -2,12 +2,12 @@ ghost use Rattle.std.specs.Prelude.{◌≡◌, ◌<◌, ◌^◌, Some};
 ghost use Rattle.outside_api.specs.Clock.{new_clock};
 
 use crate::engines::{engine_at, request_in};
-use case_files::{Answers, CaseFault, Fields};
+use case_files::{Answers, Fields, Line, Lines, Reading};
 use cases_messages::exchange_lines;
 use engine_hand::{HandClock, MemoryHand, MemoryPlug};
 use outside_api::{DialAnswer, Hand, Plug, Target};
 use std::alloc::Global;
-use tree_base::{List, Text, Tree};
+use tree_base::Tree;
 
 /// A hand in memory whose clock was never used.
 #[derive(Drop)]
@@ -18,49 +18,35 @@ struct UnusedHand {
 
 /// Makes exchanges with a hand, pauses it, and asks it: `exchanges` has what was exchanged, `now` its time after
 /// the pause, and `asked` whether it was asked to stop.
-pub fn hand(alloc: Global, fields: &Fields, answers: &mut Answers) -> Result<(), CaseFault> {
-    let pause = fields.number_or("pause", 0)?;
-    let engine = engine_at(alloc, fields)?;
-    let mut unused = UnusedHand {
-        hand: MemoryHand::new(alloc, engine),
-    };
-    let exchanged = exchange_each(alloc, fields, &mut unused);
-    put_hand(alloc, unused, pause, exchanged, answers)
+pub fn hand(fields: &Fields, answers: &mut Answers) {
+    let pause = answers.reading.number_or(fields, "pause", 0);
+    if let Some(engine) = engine_at(&mut answers.reading, fields) {
+        let mut unused = UnusedHand {
+            hand: MemoryHand::new(answers.reading.alloc, engine),
+        };
+        exchange_each(&mut answers.reading, fields, &mut unused);
+        put_hand(unused, pause, answers);
+    }
 }
 
-fn exchange_each(alloc: Global, fields: &Fields, unused: &mut UnusedHand) -> Result<(), CaseFault> {
-    for tree in fields.items("hand")? {
-        let request = request_in(alloc, tree, "hand")?;
-        let outcome = unused.hand.exchange(alloc, request);
+fn exchange_each(reading: &mut Reading, fields: &Fields, unused: &mut UnusedHand) {
+    for tree in reading.items(fields, "hand") {
+        let request = request_in(reading, tree, "hand");
+        let outcome = unused.hand.exchange(reading.alloc, request);
         drop(outcome);
     }
-    Ok(())
 }
 
-fn put_hand(
-    alloc: Global,
-    unused: UnusedHand,
-    pause: u64,
-    exchanged: Result<(), CaseFault>,
-    answers: &mut Answers,
-) -> Result<(), CaseFault> {
+fn put_hand(unused: UnusedHand, pause: u64, answers: &mut Answers) {
     let UnusedHand { mut hand } = unused;
     hand.pause(u32::try_from(pause).unwrap_or(u32::MAX));
-    let now = hand.now();
-    let asked = hand.asked();
-    let put = put_clock(now, asked, answers);
-    let said = put_exchanges(alloc, &hand, answers);
+    answers.put_number("now", hand.now());
+    answers.put_flag("asked", hand.asked());
+    answers.put_lines(
+        "exchanges",
+        exchange_lines(answers.reading.alloc, hand.log()),
+    );
     drop(hand);
-    exchanged.and(put).and(said)
-}
-
-fn put_clock(now: u64, asked: bool, answers: &mut Answers) -> Result<(), CaseFault> {
-    answers.put_number("now", now)?;
-    answers.put_flag("asked", asked)
-}
-
-fn put_exchanges(alloc: Global, hand: &MemoryHand, answers: &mut Answers) -> Result<(), CaseFault> {
-    answers.put_texts("exchanges", exchange_lines(alloc, hand.log())?)
 }
 
 /// How often a clock may be used, so that what it counts stays small.
@@ -68,47 +54,39 @@ const USES: u64 = 1 << 60;
 
 /// Uses a clock: each step of `clock` is `{pause: MILLISECONDS}`, `now`, or `{look: ANSWER}`. `times` has the readings, and
 /// `readings`, `first`, `last`, `paused`, `looks` and `yeses` what the clock counted.
-pub fn clock(alloc: Global, fields: &Fields, answers: &mut Answers) -> Result<(), CaseFault> {
+pub fn clock(fields: &Fields, answers: &mut Answers) {
     let mut clock = HandClock::new();
-    let times = use_each(alloc, fields, &mut clock);
-    put_counts(times, &clock, answers)
+    let times = use_each(&mut answers.reading, fields, &mut clock);
+    answers.put_lines("times", times);
+    put_counts(&clock, answers);
 }
 
-fn use_each(
-    alloc: Global,
-    fields: &Fields,
-    clock: &mut HandClock,
-) -> Result<List<Text>, CaseFault> {
-    let mut times = List::new(alloc);
-    for tree in fields.items("clock")? {
-        match tree {
-            Tree::Scalar(word) if word.as_str() == "now" => read(alloc, clock, &mut times)?,
-            _ => step(alloc, &Fields::of_tree(alloc, tree, "clock")?, clock)?,
+fn use_each(reading: &mut Reading, fields: &Fields, clock: &mut HandClock) -> Lines {
+    let mut times = Lines::new(reading.alloc);
+    for tree in reading.items(fields, "clock") {
+        match reading.word(tree) {
+            Some("now") => read(reading.alloc, clock, &mut times),
+            _ => step(reading, tree, clock),
         }
     }
-    Ok(times)
+    times
 }
 
-fn read(alloc: Global, clock: &mut HandClock, times: &mut List<Text>) -> Result<(), CaseFault> {
+fn read(alloc: Global, clock: &mut HandClock, times: &mut Lines) {
     if clock.readings < USES {
-        let time = clock.now();
-        times.push(Text::from_string(format!(in alloc; "{time}")?))?;
+        let mut line = Line::new(alloc);
+        line.number(clock.now());
+        times.push(line);
     }
-    Ok(())
 }
 
-fn step(alloc: Global, fields: &Fields, clock: &mut HandClock) -> Result<(), CaseFault> {
-    if fields.has("look") {
-        look(fields.is_set("look")?, clock);
-        return Ok(());
-    }
-    let pause = fields.number("pause")?;
-    match u32::try_from(pause) {
-        Ok(pause) => {
-            pause_clock(pause, clock);
-            Ok(())
+fn step(reading: &mut Reading, tree: &Tree, clock: &mut HandClock) {
+    if let Some(fields) = reading.fields_of(tree, "clock") {
+        if fields.has("look") {
+            look(reading.flag(&fields, "look"), clock);
+        } else {
+            pause_clock(reading.small_at(&fields, "pause"), clock);
         }
-        Err(_) => Err(CaseFault::wants(alloc, "pause", "a number below 2 ^ 32")),
     }
 }
 
@@ -124,31 +102,34 @@ fn pause_clock(ms: u32, clock: &mut HandClock) {
     }
 }
 
-fn put_counts(
-    times: Result<List<Text>, CaseFault>,
-    clock: &HandClock,
-    answers: &mut Answers,
-) -> Result<(), CaseFault> {
-    answers.put_texts("times", times?)?;
-    answers.put_number("readings", clock.readings)?;
-    answers.put_number("first", clock.first)?;
-    answers.put_number("last", clock.last)?;
-    answers.put_number("paused", clock.paused)?;
-    answers.put_number("looks", clock.looks)?;
-    answers.put_number("yeses", clock.yeses)
+fn put_counts(clock: &HandClock, answers: &mut Answers) {
+    answers.put_number("readings", clock.readings);
+    answers.put_number("first", clock.first);
+    answers.put_number("last", clock.last);
+    answers.put_number("paused", clock.paused);
+    answers.put_number("looks", clock.looks);
+    answers.put_number("yeses", clock.yeses);
 }
 
 /// Dials a plug for one hand twice: `first` and `second` say whether that made a hand.
-pub fn plug(alloc: Global, fields: &Fields, answers: &mut Answers) -> Result<(), CaseFault> {
-    if fields.number("plug")? != 1 {
-        return Err(CaseFault::wants(alloc, "plug", "one hand"));
+pub fn plug(fields: &Fields, answers: &mut Answers) {
+    if answers.reading.number_at(fields, "plug") != 1 {
+        answers.reading.wants("plug", "one hand");
+    } else if let Some(engine) = engine_at(&mut answers.reading, fields) {
+        let mut plug = MemoryPlug::new(engine, 1);
+        dial_twice(&mut plug, answers);
+        drop(plug);
     }
-    let engine = engine_at(alloc, fields)?;
-    let mut plug = MemoryPlug::new(engine, 1);
-    match plug.dial(alloc, &Target::InMemory, None, 0) {
+}
+
+fn dial_twice(plug: &mut MemoryPlug, answers: &mut Answers)
+    requires { ⟦<MemoryPlug as Plug>⟧.dialled plug.old ≡ Some 0 }
+{
+    match plug.dial(answers.reading.alloc, &Target::InMemory, None, 0) {
         DialAnswer::Dialled(hand) => {
             drop(hand);
-            put_dials(true, is_dialled(alloc, &mut plug, 1), answers)
+            let second = is_dialled(answers.reading.alloc, plug, 1);
+            put_dials(true, second, answers);
         }
         _ => put_dials(false, false, answers),
     }
@@ -168,7 +149,7 @@ fn is_dialled(alloc: Global, plug: &mut MemoryPlug, dialled: u64) -> bool
     }
 }
 
-fn put_dials(first: bool, second: bool, answers: &mut Answers) -> Result<(), CaseFault> {
-    answers.put_flag("first", first)?;
-    answers.put_flag("second", second)
+fn put_dials(first: bool, second: bool, answers: &mut Answers) {
+    answers.put_flag("first", first);
+    answers.put_flag("second", second);
 }

@@ -5,8 +5,7 @@ use crate::lines::{say, say_if_any, write};
 use crate::sinks::writes;
 use crate::whole_call::call;
 use crate::whole_calls::calls;
-use case_files::{Answers, CaseFault, Fields};
-use std::alloc::Global;
+use case_files::{Answers, Fields};
 
 const CALL: [&str; 9] = [
     "directory",
@@ -51,25 +50,20 @@ pub fn inputs_of(call: &str) -> Option<&'static [&'static str]> {
     }
 }
 
-/// Makes the call of a case. NoCase where `inputs_of` doesn't know the call, and where an input isn't of its form.
-pub fn answer(
-    alloc: Global,
-    name: &str,
-    fields: &Fields,
-    answers: &mut Answers,
-) -> Result<(), CaseFault> {
+/// Makes the call of a case. It is no case where `inputs_of` doesn't know the call, and where an input isn't of its form.
+pub fn answer(name: &str, fields: &Fields, answers: &mut Answers) {
     match name {
-        "call" => call(alloc, fields, answers),
-        "calls" => calls(alloc, fields, answers),
-        "config" => config(alloc, fields, answers),
-        "reads" => reads(alloc, fields, answers),
-        "write" => write(alloc, fields, answers),
-        "writes" => writes(alloc, fields, answers),
-        "say" => say(alloc, fields, answers),
-        "say_if_any" => say_if_any(alloc, fields, answers),
-        "hand" => hand(alloc, fields, answers),
-        "clock" => clock(alloc, fields, answers),
-        "plug" => plug(alloc, fields, answers),
-        _ => Err(CaseFault::wants(alloc, name, "a call that is known")),
+        "call" => call(fields, answers),
+        "calls" => calls(fields, answers),
+        "config" => config(fields, answers),
+        "reads" => reads(fields, answers),
+        "write" => write(fields, answers),
+        "writes" => writes(fields, answers),
+        "say" => say(fields, answers),
+        "say_if_any" => say_if_any(fields, answers),
+        "hand" => hand(fields, answers),
+        "clock" => clock(fields, answers),
+        "plug" => plug(fields, answers),
+        _ => answers.reading.no_call(name),
     }
 }

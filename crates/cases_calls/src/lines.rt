@@ -1,41 +1,34 @@
 use crate::piece_sink::PieceSink;
 use crate::sinks::sink_of;
-use case_files::{Answers, CaseFault, Fields};
+use case_files::{Answers, Fields};
 use refusals::{Part, Refusal, Unbuilt};
 use std::alloc::Global;
 use tree_base::Tree;
 
 /// Writes a text to a sink: `whole` says whether it was written whole, and `written` has what the sink took.
-pub fn write(alloc: Global, fields: &Fields, answers: &mut Answers) -> Result<(), CaseFault> {
-    let bytes = fields.bytes("write")?;
-    write_bytes(alloc, fields, bytes.as_slice(), answers)
-}
-
-fn write_bytes(
-    alloc: Global,
-    fields: &Fields,
-    bytes: &[u8],
-    answers: &mut Answers,
-) -> Result<(), CaseFault> {
-    let mut sink = sink_of(alloc, fields)?;
-    let whole = outside_files::write_all(&mut sink, bytes);
-    put_written(whole, &sink, answers)
-}
-
-fn put_written(whole: bool, sink: &PieceSink, answers: &mut Answers) -> Result<(), CaseFault> {
-    answers.put_flag("whole", whole)?;
-    answers.put_bytes("written", sink.written())
+pub fn write(fields: &Fields, answers: &mut Answers) {
+    let bytes = answers.reading.bytes_at(fields, "write");
+    if let Some(mut sink) = sink_of(&mut answers.reading, fields) {
+        let whole = outside_files::write_all(&mut sink, bytes.as_slice());
+        answers.put_flag("whole", whole);
+        answers.put_bytes("written", sink.written());
+    }
 }
 
 /// Writes the line of a refusal: `refusal` has the one that was said, and `written` what the sink took.
-pub fn say(alloc: Global, fields: &Fields, answers: &mut Answers) -> Result<(), CaseFault> {
-    let mut sink = sink_of(alloc, fields)?;
+pub fn say(fields: &Fields, answers: &mut Answers) {
+    if let Some(mut sink) = sink_of(&mut answers.reading, fields) {
+        say_to(fields, &mut sink, answers);
+    }
+}
+
+fn say_to(fields: &Fields, sink: &mut PieceSink, answers: &mut Answers) {
     match refusal_in(fields.find("say")) {
         Some(refusal) => {
-            let said = said(alloc, refusal, &mut sink);
-            put_said(Some(said), &sink, answers)
+            let said = said(answers.reading.alloc, refusal, sink);
+            put_said(Some(said), sink, answers);
         }
-        None => Err(CaseFault::wants(alloc, "say", "a refusal")),
+        None => answers.reading.wants("say", "a refusal"),
     }
 }
 
@@ -48,10 +41,12 @@ fn said(alloc: Global, refusal: Refusal, sink: &mut PieceSink) -> &'static str {
 }
 
 /// Writes the line of a refusal, where there is one, with the answers of `say`.
-pub fn say_if_any(alloc: Global, fields: &Fields, answers: &mut Answers) -> Result<(), CaseFault> {
-    let mut sink = sink_of(alloc, fields)?;
-    let said = said_if_any(alloc, refusal_in(fields.find("say_if_any")), &mut sink);
-    put_said(said, &sink, answers)
+pub fn say_if_any(fields: &Fields, answers: &mut Answers) {
+    if let Some(mut sink) = sink_of(&mut answers.reading, fields) {
+        let refusal = refusal_in(fields.find("say_if_any"));
+        let said = said_if_any(answers.reading.alloc, refusal, &mut sink);
+        put_said(said, &sink, answers);
+    }
 }
 
 fn said_if_any(
@@ -96,10 +91,10 @@ fn name_of(refusal: &Refusal) -> &'static str {
     }
 }
 
-fn put_said(said: Option<&str>, sink: &PieceSink, answers: &mut Answers) -> Result<(), CaseFault> {
+fn put_said(said: Option<&str>, sink: &PieceSink, answers: &mut Answers) {
     match said {
-        Some(name) => answers.put_text("refusal", name)?,
-        None => answers.put_null("refusal")?,
+        Some(name) => answers.put_text("refusal", name),
+        None => answers.put_null("refusal"),
     }
-    answers.put_bytes("written", sink.written())
+    answers.put_bytes("written", sink.written());
 }

@@ -1,5 +1,4 @@
-use case_files::{CaseFault, Fields};
-use std::alloc::Global;
+use case_files::{Fields, Reading};
 use tree_base::{Env, List, Text, Tree};
 
 /// What a call is given beside files, sinks and an Engine: its words, the variables, and the working directory.
@@ -11,29 +10,30 @@ pub struct Scene {
 }
 
 /// The scene of a case, whose words stand under the name of the call.
-pub fn scene_of(alloc: Global, fields: &Fields, call: &str) -> Result<Scene, CaseFault> {
-    Ok(Scene {
-        words: words_of(alloc, fields, call)?,
-        env: fields.variables("environment")?,
-        directory: fields.text_or("directory", "/w/shop")?,
-    })
+pub fn scene_of(reading: &mut Reading, fields: &Fields, call: &str) -> Scene {
+    Scene {
+        words: words_of(reading, fields, call),
+        env: reading.variables(fields, "environment"),
+        directory: reading.text_or(fields, "directory", "/w/shop"),
+    }
 }
 
 /// The words under the name of a call: those of a sequence, or those of a text, which spaces part.
-fn words_of(alloc: Global, fields: &Fields, call: &str) -> Result<List<Text>, CaseFault> {
+fn words_of(reading: &mut Reading, fields: &Fields, call: &str) -> List<Text> {
     match fields.find(call) {
-        Some(Tree::Seq(_)) => fields.texts(call),
+        Some(Tree::Seq(_)) => reading.texts(fields, call),
         _ => {
-            let line = fields.text(call)?;
-            split(alloc, line.as_str())
+            let line = reading.text_at(fields, call);
+            split(reading, line.as_str())
         }
     }
 }
 
-fn split(alloc: Global, line: &str) -> Result<List<Text>, CaseFault> {
-    let mut words = List::new(alloc);
+fn split(reading: &mut Reading, line: &str) -> List<Text> {
+    let mut words = List::new(reading.alloc);
     for word in line.split_whitespace() {
-        words.push(Text::from_str(alloc, word)?)?;
+        let word = reading.text(word);
+        reading.push(&mut words, word);
     }
-    Ok(words)
+    words
 }

@@ -1,9 +1,8 @@
 use crate::files::files_of;
 use crate::piece_sink::PieceSink;
 use crate::sinks::sink_at;
-use case_files::{CaseFault, Fields};
+use case_files::{Fields, Reading};
 use outside_files::MemoryFiles;
-use std::alloc::Global;
 
 /// What a call reads from and writes to.
 #[derive(Drop)]
@@ -14,11 +13,11 @@ pub struct Stage {
 }
 
 /// The stage of a case: the sinks of `out_sink` and `err_sink`, and its files, of which those without a slash stand in the
-/// directory.
-pub fn stage_of(alloc: Global, fields: &Fields, directory: &str) -> Result<Stage, CaseFault> {
-    Ok(Stage {
-        out: sink_at(alloc, fields, "out_sink")?,
-        err: sink_at(alloc, fields, "err_sink")?,
-        files: files_of(alloc, fields, directory)?,
+/// directory. None, and the want of memory is kept, where there is none for the sinks.
+pub fn stage_of(reading: &mut Reading, fields: &Fields, directory: &str) -> Option<Stage> {
+    Some(Stage {
+        out: sink_at(reading, fields, "out_sink")?,
+        err: sink_at(reading, fields, "err_sink")?,
+        files: files_of(reading, fields, directory),
     })
 }

@@ -4,94 +4,85 @@ use crate::call_answers::put_call;
 use crate::engines::engine_for;
 use crate::scene::{Scene, scene_of};
 use crate::stage::{Stage, stage_of};
-use case_files::{Answers, CaseFault, Fields};
+use case_files::{Answers, Fields, Reading};
 use compose_cli::{Ended, serial_main};
 use engine_hand::{MemoryHand, MemoryPlug};
 use memory_engine::MemoryEngine;
 use outside_api::{DialAnswer, Plug, Target};
 use std::alloc::Global;
-use tree_base::{List, Memory};
+use tree_base::List;
 
 /// Makes a whole call on an Engine in memory: `status` has its exit status, `out` and `err` what was written, `journal`
 /// the entries of its journal, `hands` how many hands it made, `exchanges` what they exchanged, `exact` whether the
 /// Engine then holds exactly what the project declares, and `engine_after` that Engine.
-pub fn call(alloc: Global, fields: &Fields, answers: &mut Answers) -> Result<(), CaseFault> {
-    let mut engines = List::new(alloc);
-    call_on(alloc, fields, &mut engines, answers)
+pub fn call(fields: &Fields, answers: &mut Answers) {
+    let mut engines = List::new(answers.reading.alloc);
+    call_on(fields, &mut engines, answers);
 }
 
 /// Makes the call of some fields on the Engine that an earlier call left, unless they have an Engine of their own, and
 /// leaves the Engine where the call made a hand. Where `no_hand_left` says so, the plug made its one hand before.
-pub fn call_on(
-    alloc: Global,
-    fields: &Fields,
-    engines: &mut List<MemoryEngine>,
-    answers: &mut Answers,
-) -> Result<(), CaseFault> {
-    let used = fields.is_set("no_hand_left")?;
-    let scene = scene_of(alloc, fields, "call")?;
-    let made = call_in(alloc, fields, &scene, used, engines, answers);
+pub fn call_on(fields: &Fields, engines: &mut List<MemoryEngine>, answers: &mut Answers) {
+    let scene = scene_of(&mut answers.reading, fields, "call");
+    call_in(fields, &scene, engines, answers);
     drop(scene);
-    made
 }
 
 fn call_in(
-    alloc: Global,
     fields: &Fields,
     scene: &Scene,
-    used: bool,
     engines: &mut List<MemoryEngine>,
     answers: &mut Answers,
-) -> Result<(), CaseFault> {
-    let engine = engine_for(alloc, fields, engines)?;
-    let mut plug = MemoryPlug::new(engine, 1);
-    let made = if used {
-        call_used(alloc, fields, scene, &mut plug, engines, answers)
-    } else {
-        call_with(alloc, fields, scene, &mut plug, 0, engines, answers)
-    };
-    drop(plug);
-    made
+) {
+    let used = answers.reading.flag(fields, "no_hand_left");
+    if let Some(engine) = engine_for(&mut answers.reading, fields, engines) {
+        let mut plug = MemoryPlug::new(engine, 1);
+        if used {
+            call_used(fields, scene, &mut plug, engines, answers);
+        } else {
+            call_with(fields, scene, &mut plug, 0, engines, answers);
+        }
+        drop(plug);
+    }
 }
 
 /// Makes a call with a plug whose one hand was made before.
 fn call_used(
-    alloc: Global,
     fields: &Fields,
     scene: &Scene,
     plug: &mut MemoryPlug,
     engines: &mut List<MemoryEngine>,
     answers: &mut Answers,
-) -> Result<(), CaseFault>
+)
     requires { ⟦<MemoryPlug as Plug>⟧.dialled plug.old ≡ Some 0 }
 {
-    match plug.dial(alloc, &Target::InMemory, None, 0) {
+    match plug.dial(answers.reading.alloc, &Target::InMemory, None, 0) {
         DialAnswer::Dialled(hand) => {
             drop(hand);
-            call_with(alloc, fields, scene, plug, 1, engines, answers)
+            call_with(fields, scene, plug, 1, engines, answers);
         }
-        _ => Err(CaseFault::Memory),
+        _ => answers.reading.memory(),
     }
 }
 
 /// Makes a call with a plug that made so many hands.
 fn call_with(
-    alloc: Global,
     fields: &Fields,
     scene: &Scene,
     plug: &mut MemoryPlug,
     dialled: u64,
     engines: &mut List<MemoryEngine>,
     answers: &mut Answers,
-) -> Result<(), CaseFault>
+)
     requires told { ⟦<MemoryPlug as Plug>⟧.dialled plug.old ≡ Some dialled }
     requires below { dialled < 2 ^ 61 }
 {
-    let mut stage = stage_of(alloc, fields, scene.directory.as_str())?;
-    let ended = top_call(alloc, scene, &mut stage, plug, dialled);
-    let put = put_call(alloc, fields, scene, &ended, &stage, answers);
-    drop(stage);
-    leave_engine(ended, engines, put)
+    if let Some(mut stage) = stage_of(&mut answers.reading, fields, scene.directory.as_str()) {
+        let ended = top_call(answers.reading.alloc, scene, &mut stage, plug, dialled);
+        put_call(fields, scene, &ended, &stage, answers);
+        drop(stage);
+        leave_engine(&mut answers.reading, ended, engines);
+    }
 }
 
 /// What came of the top call.
@@ -114,12 +105,8 @@ fn top_call(
     serial_main(alloc, words, env, directory, files, plug, out, err)
 }
 
-/// Leaves the Engine of the hand that a call handed back, and answers what came of the answers.
-fn leave_engine(
-    ended: Ended<MemoryHand>,
-    engines: &mut List<MemoryEngine>,
-    put: Result<(), CaseFault>,
-) -> Result<(), CaseFault> {
+/// Leaves the Engine of the hand that a call handed back.
+fn leave_engine(reading: &mut Reading, ended: Ended<MemoryHand>, engines: &mut List<MemoryEngine>) {
     let Ended {
         hands,
         journal,
@@ -128,9 +115,8 @@ fn leave_engine(
     } = ended;
     drop(journal);
     drop(refusal);
-    match engine_in(hands) {
-        Some(engine) => keep_engine(engine, engines, put),
-        None => put,
+    if let Some(engine) = engine_in(hands) {
+        reading.push(engines, engine);
     }
 }
 
@@ -138,15 +124,4 @@ fn leave_engine(
 fn engine_in(mut hands: List<MemoryHand>) -> Option<MemoryEngine> {
     let MemoryHand { engine, .. } = hands.pop()?;
     Some(engine)
-}
-
-fn keep_engine(
-    engine: MemoryEngine,
-    engines: &mut List<MemoryEngine>,
-    put: Result<(), CaseFault>,
-) -> Result<(), CaseFault> {
-    match engines.push(engine) {
-        Ok(()) => put,
-        Err(Memory) => Err(CaseFault::Memory),
-    }
 }

@@ -1,6 +1,6 @@
 use crate::kinds::inputs_of;
 use crate::whole_call::call_on;
-use case_files::{Answers, Case, CaseFault, Fields};
+use case_files::{Answers, Case, CaseFault, Fields, Line, Lines, Reading};
 use memory_engine::MemoryEngine;
 use std::alloc::Global;
 use tree_base::{List, Text, Tree};
@@ -10,52 +10,51 @@ use tree_base::{List, Text, Tree};
 #[derive(Drop)]
 struct Left {
     engines: List<MemoryEngine>,
-    statuses: List<Text>,
-    differences: Text,
+    statuses: Lines,
+    differences: Line,
 }
 
 /// Makes whole calls one after another on the same Engine. Each item of `calls` is itself a case of `call`, with its
 /// inputs and the answers that are wanted; `statuses` has the exit statuses. The case is refused with the differences
 /// where an answer of an item is another one than wanted.
-pub fn calls(alloc: Global, fields: &Fields, answers: &mut Answers) -> Result<(), CaseFault> {
+pub fn calls(fields: &Fields, answers: &mut Answers) {
+    let alloc = answers.reading.alloc;
     let mut left = Left {
         engines: List::new(alloc),
-        statuses: List::new(alloc),
-        differences: Text::new(alloc),
+        statuses: Lines::new(alloc),
+        differences: Line::new(alloc),
     };
-    let made = call_each(alloc, fields, &mut left);
-    put_left(left, made, answers)
+    call_each(&mut answers.reading, fields, &mut left);
+    put_left(left, answers);
 }
 
-fn put_left(
-    left: Left,
-    made: Result<(), CaseFault>,
-    answers: &mut Answers,
-) -> Result<(), CaseFault> {
+fn put_left(left: Left, answers: &mut Answers) {
     let Left {
+        engines,
         statuses,
         differences,
-        ..
     } = left;
+    drop(engines);
+    let differences = answers.reading.said(differences);
     if !differences.is_empty() {
-        answers.refuse(differences.as_str())?;
+        answers.refuse(differences.as_str());
     }
-    answers.put_texts("statuses", statuses)?;
-    made
+    answers.put_lines("statuses", statuses);
 }
 
-fn call_each(alloc: Global, fields: &Fields, left: &mut Left) -> Result<(), CaseFault> {
-    for item in fields.items("calls")? {
-        call_one(alloc, item, left)?;
+fn call_each(reading: &mut Reading, fields: &Fields, left: &mut Left) {
+    for item in reading.items(fields, "calls") {
+        if let Err(fault) = call_one(reading.alloc, item, left) {
+            reading.note(fault);
+        }
     }
-    Ok(())
 }
 
 fn call_one(alloc: Global, item: &Tree, left: &mut Left) -> Result<(), CaseFault> {
     let case = Case::of_tree(alloc, item)?;
     let name = case.call()?;
     if name.as_str() != "call" {
-        return Err(CaseFault::wants(alloc, name.as_str(), "to be `call`"));
+        return Err(CaseFault::no_case(alloc, "each of `calls` wants to be `call`"));
     }
     let inputs = inputs_of("call").unwrap_or(&[]);
     case.has_wanted(name, inputs)?;
@@ -70,24 +69,12 @@ fn make_call(
     left: &mut Left,
 ) -> Result<(), CaseFault> {
     let mut answers = Answers::new(alloc);
-    match call_on(alloc, case.fields(), &mut left.engines, &mut answers) {
-        Ok(()) => compare(alloc, case, name, inputs, &answers, left),
-        Err(fault) => Err(fault),
+    call_on(case.fields(), &mut left.engines, &mut answers);
+    case.say_differences(&mut left.differences, name, inputs, &answers);
+    if let Some(Tree::Scalar(status)) = answers.find("status") {
+        left.statuses.push_text(status.copy(alloc));
     }
-}
-
-fn compare(
-    alloc: Global,
-    case: &Case,
-    name: &Text,
-    inputs: &[&str],
-    answers: &Answers,
-    left: &mut Left,
-) -> Result<(), CaseFault> {
-    let differences = case.differences(name, inputs, answers)?;
-    left.differences.push_str(differences.as_str())?;
-    match answers.find("status") {
-        Some(Tree::Scalar(status)) => Ok(left.statuses.push(status.copy(alloc)?)?),
-        _ => Ok(()),
-    }
+    let sound = answers.reading.sound();
+    drop(answers);
+    sound
 }

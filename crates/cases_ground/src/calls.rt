@@ -1,6 +1,5 @@
 use crate::{lists, maps, reserved_lists, texts, trees, values};
-use case_files::{Answers, CaseFault, Fields};
-use std::alloc::Global;
+use case_files::{Answers, Fields};
 
 /// The inputs of a call beside its main one; None where the call isn't one of this crate. No memory.
 pub fn inputs_of(call: &str) -> Option<&'static [&'static str]> {
@@ -21,25 +20,20 @@ pub fn inputs_of(call: &str) -> Option<&'static [&'static str]> {
     }
 }
 
-/// Makes the call of a case. NoCase where an input isn't of its form, and where the call isn't one of this crate.
-pub fn answer(
-    alloc: Global,
-    call: &str,
-    fields: &Fields,
-    answers: &mut Answers,
-) -> Result<(), CaseFault> {
+/// Makes the call of a case. It is no case where an input isn't of its form, and where the call isn't one of this crate.
+pub fn answer(call: &str, fields: &Fields, answers: &mut Answers) {
     match call {
-        "text" => texts::text(alloc, fields, answers),
-        "printed_text" => texts::printed_text(alloc, fields, answers),
-        "compare" => texts::compare(alloc, fields, answers),
-        "list" => lists::list(alloc, fields, answers),
-        "reserved_list" => reserved_lists::reserved_list(alloc, fields, answers),
-        "map" => maps::map(alloc, fields, answers),
-        "tree" => trees::tree(alloc, fields, answers),
-        "boxed" => values::value_in_box(alloc, fields, answers),
-        "copy" => values::copy(alloc, fields, answers),
-        "copy_variables" => values::copy_variables(alloc, fields, answers),
-        "place" => values::place(alloc, fields, answers),
-        _ => Err(CaseFault::no_case(alloc, "there is no such call")),
+        "text" => texts::text(fields, answers),
+        "printed_text" => texts::printed_text(fields, answers),
+        "compare" => texts::compare(fields, answers),
+        "list" => lists::list(fields, answers),
+        "reserved_list" => reserved_lists::reserved_list(fields, answers),
+        "map" => maps::map(fields, answers),
+        "tree" => trees::tree(fields, answers),
+        "boxed" => values::value_in_box(fields, answers),
+        "copy" => values::copy(fields, answers),
+        "copy_variables" => values::copy_variables(fields, answers),
+        "place" => values::place(fields, answers),
+        _ => answers.reading.no_call(call),
     }
 }

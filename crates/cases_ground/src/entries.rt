@@ -1,5 +1,5 @@
 use crate::items::{number_tree, scalar_tree};
-use case_files::CaseFault;
+use case_files::Reading;
 use std::alloc::Global;
 use tree_base::{Env, List, Map, Memory, Text, TextMap, Tree};
 
@@ -90,15 +90,18 @@ pub fn variables_tree(alloc: Global, variables: &Env) -> Result<Tree, Memory> {
     entries.whole()
 }
 
-/// Other values under the same keys. NoCase where there isn't one for each.
+/// Other values under the same keys; none, which is kept, where there isn't one for each.
 pub fn under_keys<U, V: Drop>(
-    alloc: Global,
+    reading: &mut Reading,
     entries: &TextMap<U>,
     values: List<V>,
-) -> Result<TextMap<V>, CaseFault> {
+) -> TextMap<V> {
+    let empty = TextMap::new(reading.alloc);
     if values.len() == entries.len() {
-        Ok(entries.with_values(alloc, values)?)
+        let made = entries.with_values(reading.alloc, values);
+        reading.given(made, empty)
     } else {
-        Err(CaseFault::no_case(alloc, "each key wants a value"))
+        reading.refuse("each key wants a value");
+        empty
     }
 }

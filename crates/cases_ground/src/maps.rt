@@ -1,108 +1,67 @@
 use crate::case_step::CaseStep;
 use crate::entries::{under_keys, variables_tree};
 use crate::items::{Items, numbers_tree, texts_tree};
-use case_files::{Answers, CaseFault, Fields};
+use case_files::{Answers, Fields, Reading};
 use std::alloc::Global;
 use std::mem;
-use tree_base::{Env, List, Memory, Text, TextMap, Tree, TryCopy};
+use tree_base::{Env, Memory, Text, Tree, TryCopy};
 
 /// `map: VARIABLES` with `steps`: what the steps `gave`, and what the map `becomes`.
-pub(crate) fn map(alloc: Global, fields: &Fields, answers: &mut Answers) -> Result<(), CaseFault> {
-    let mut map = fields.variables("map")?;
-    let answered = put_answers(alloc, fields, &mut map, answers);
-    drop(map);
-    answered
+pub(crate) fn map(fields: &Fields, answers: &mut Answers) {
+    let mut map = answers.reading.variables(fields, "map");
+    let mut gave = Items::new(answers.reading.alloc);
+    take_steps(&mut answers.reading, fields, &mut map, &mut gave);
+    answers.put_made("gave", gave.whole());
+    let becomes = variables_tree(answers.reading.alloc, &map);
+    answers.put_made("becomes", becomes);
 }
 
-fn put_answers(
-    alloc: Global,
-    fields: &Fields,
-    map: &mut Env,
-    answers: &mut Answers,
-) -> Result<(), CaseFault> {
-    put_gave(alloc, fields, map, answers)?;
-    answers.put("becomes", variables_tree(alloc, map)?)
-}
-
-fn put_gave(
-    alloc: Global,
-    fields: &Fields,
-    map: &mut Env,
-    answers: &mut Answers,
-) -> Result<(), CaseFault> {
-    let mut gave = Items::new(alloc);
-    take_steps(alloc, fields.items("steps")?, map, &mut gave)?;
-    answers.put("gave", gave.whole()?)
-}
-
-fn take_steps(
-    alloc: Global,
-    steps: &[Tree],
-    map: &mut Env,
-    gave: &mut Items,
-) -> Result<(), CaseFault> {
-    for step in steps {
-        take_step(alloc, CaseStep::of_tree(alloc, step)?, map, gave)?;
+fn take_steps(reading: &mut Reading, fields: &Fields, map: &mut Env, gave: &mut Items) {
+    for tree in reading.items(fields, "steps") {
+        take_step(reading, &CaseStep::of_tree(tree), map, gave);
     }
-    Ok(())
 }
 
-fn take_step(
-    alloc: Global,
-    step: CaseStep,
-    map: &mut Env,
-    gave: &mut Items,
-) -> Result<(), CaseFault> {
+fn take_step(reading: &mut Reading, step: &CaseStep, map: &mut Env, gave: &mut Items) {
     match step.name() {
-        "copy" => Ok(put_copy(alloc, map)?),
-        "put" => put(alloc, step, map, gave),
-        "remove" => Ok(remove(map, step.text()?, gave)),
-        "get_mut" => write_over(alloc, step, map, gave),
-        "into_parts" => Ok(give_parts(alloc, map, gave)),
-        "with_values" => give_with_values(alloc, map, step.numbers()?, gave),
-        _ => ask(alloc, step, map, gave),
+        "copy" => put_copy(reading, map),
+        "put" => put(reading, step, map, gave),
+        "remove" => remove(reading, step, map, gave),
+        "get_mut" => write_over(reading, step, map, gave),
+        "into_parts" => give_parts(reading.alloc, map, gave),
+        "with_values" => give_with_values(reading, step, map, gave),
+        _ => ask(reading, step, map, gave),
     }
 }
 
 /// Puts a copy in place of the map.
-fn put_copy(alloc: Global, map: &mut Env) -> Result<(), Memory> {
-    let copy = map.copy(alloc)?;
-    drop(mem::replace(map, copy));
-    Ok(())
+fn put_copy(reading: &mut Reading, map: &mut Env) {
+    let copy = map.copy(reading.alloc);
+    if let Some(copy) = reading.made(copy) {
+        drop(mem::replace(map, copy));
+    }
 }
 
-fn put(alloc: Global, step: CaseStep, map: &mut Env, gave: &mut Items) -> Result<(), CaseFault> {
-    let key = step.text_at(0)?;
-    let value = step.text_at(1)?;
-    let old = put_copies(alloc, key, value, map)?;
-    Ok(gave.text_or_null(old.as_ref()))
+fn put(reading: &mut Reading, step: &CaseStep, map: &mut Env, gave: &mut Items) {
+    let key = step.text_at(reading, 0);
+    let value = step.text_at(reading, 1);
+    match map.put(key, value) {
+        Ok(old) => gave.text_or_null(old.as_ref()),
+        Err(Memory) => reading.memory(),
+    }
 }
 
-fn put_copies(
-    alloc: Global,
-    key: &Text,
-    value: &Text,
-    map: &mut Env,
-) -> Result<Option<Text>, Memory> {
-    map.put(key.copy(alloc)?, value.copy(alloc)?)
-}
-
-fn remove(map: &mut Env, key: &Text, gave: &mut Items) {
-    let removed = map.remove(key);
+fn remove(reading: &mut Reading, step: &CaseStep, map: &mut Env, gave: &mut Items) {
+    let removed = map.remove(&step.text(reading));
     gave.text_or_null(removed.as_ref());
 }
 
 /// Writes over the value under a key, and gives what stood there.
-fn write_over(
-    alloc: Global,
-    step: CaseStep,
-    map: &mut Env,
-    gave: &mut Items,
-) -> Result<(), CaseFault> {
-    let key = step.text_at(0)?;
-    let value = step.text_at(1)?.copy(alloc)?;
-    let old = written_over(map, key, value);
-    Ok(gave.text_or_null(old.as_ref()))
+fn write_over(reading: &mut Reading, step: &CaseStep, map: &mut Env, gave: &mut Items) {
+    let key = step.text_at(reading, 0);
+    let value = step.text_at(reading, 1);
+    let old = written_over(map, &key, value);
+    gave.text_or_null(old.as_ref());
 }
 
 fn written_over(map: &mut Env, key: &Text, value: Text) -> Option<Text> {
@@ -125,15 +84,15 @@ fn both_tree(alloc: Global, keys: &[Text], values: &[Text]) -> Result<Tree, Memo
     both.whole()
 }
 
-fn ask(alloc: Global, step: CaseStep, map: &Env, gave: &mut Items) -> Result<(), CaseFault> {
+fn ask(reading: &mut Reading, step: &CaseStep, map: &Env, gave: &mut Items) {
     match step.name() {
-        "pair" => Ok(give_pair(alloc, map.pair(step.count()?), gave)),
-        "get" => Ok(gave.text_or_null(map.get(step.text()?))),
-        "find" => Ok(gave.text_or_null(map.find(step.text()?.as_str()))),
-        "value" => Ok(gave.text_or_null(map.value(step.text()?))),
-        "is_empty" => Ok(gave.flag(map.is_empty())),
-        "length" => Ok(gave.number(map.len() as u64)),
-        _ => Err(step.unknown()),
+        "pair" => give_pair(reading.alloc, map.pair(step.count(reading)), gave),
+        "get" => gave.text_or_null(map.get(&step.text(reading))),
+        "find" => gave.text_or_null(map.find(step.text(reading).as_str())),
+        "value" => gave.text_or_null(map.value(&step.text(reading))),
+        "is_empty" => gave.flag(map.is_empty()),
+        "length" => gave.number(map.len() as u64),
+        _ => step.unknown(reading),
     }
 }
 
@@ -152,17 +111,9 @@ fn pair_tree(alloc: Global, key: &Text, value: &Text) -> Result<Tree, Memory> {
 }
 
 /// Gives the numbers that stand under the same keys, and how many keys there are.
-fn give_with_values(
-    alloc: Global,
-    map: &Env,
-    numbers: List<u64>,
-    gave: &mut Items,
-) -> Result<(), CaseFault> {
-    let counts = under_keys(alloc, map, numbers)?;
-    Ok(give_counts(alloc, &counts, gave))
-}
-
-fn give_counts(alloc: Global, counts: &TextMap<u64>, gave: &mut Items) {
-    gave.tree(numbers_tree(alloc, counts.values()));
+fn give_with_values(reading: &mut Reading, step: &CaseStep, map: &Env, gave: &mut Items) {
+    let numbers = step.numbers(reading);
+    let counts = under_keys(reading, map, numbers);
+    gave.tree(numbers_tree(reading.alloc, counts.values()));
     gave.number(counts.keys().len() as u64);
 }

@@ -1,8 +1,8 @@
 use crate::items::Items;
-use crate::parts::{items_in, scalar_in};
-use case_files::CaseFault;
+use crate::values::within_u32;
+use case_files::Reading;
 use std::alloc::Global;
-use tree_base::{Memory, Path, Step, Text, Tree};
+use tree_base::{Memory, Path, Step, Tree};
 
 /// A path as a case has it: keys as scalars, and each place as a sequence of its number.
 pub fn path_tree(alloc: Global, path: &Path) -> Result<Tree, Memory> {
@@ -27,36 +27,29 @@ fn place_tree(alloc: Global, at: u32) -> Result<Tree, Memory> {
 }
 
 /// The path of a case.
-pub(crate) fn path_of(alloc: Global, steps: &[Tree]) -> Result<Path, CaseFault> {
-    let mut path = Path::new(alloc);
-    for step in steps {
-        path.push(step_of(alloc, step)?)?;
+pub(crate) fn path_of(reading: &mut Reading, steps: &[Tree]) -> Path {
+    let mut path = Path::new(reading.alloc);
+    for tree in steps {
+        let step = step_of(reading, tree);
+        reading.push(&mut path, step);
     }
-    Ok(path)
+    path
 }
 
 /// A step of a case: a key, or a place in brackets.
-pub(crate) fn step_of(alloc: Global, tree: &Tree) -> Result<Step, CaseFault> {
-    if let Some(key) = scalar_in(tree) {
-        return Ok(Step::Key(key.copy(alloc)?));
-    }
-    match items_in(tree) {
-        Some([place]) => place_of(alloc, place),
-        Some(_) => Err(CaseFault::no_case(alloc, "a place wants one number")),
-        None => Err(CaseFault::no_case(alloc, "a step wants a key or a place")),
+pub(crate) fn step_of(reading: &mut Reading, tree: &Tree) -> Step {
+    match tree {
+        Tree::Seq(items) => Step::Index(place_in(reading, items.as_slice())),
+        _ => Step::Key(reading.text_of(tree, "step")),
     }
 }
 
-fn place_of(alloc: Global, tree: &Tree) -> Result<Step, CaseFault> {
-    match scalar_in(tree) {
-        Some(digits) => place_at(alloc, digits),
-        None => Err(CaseFault::no_case(alloc, "a place wants one number")),
-    }
-}
-
-fn place_at(alloc: Global, digits: &Text) -> Result<Step, CaseFault> {
-    match digits.as_str().parse::<u32>() {
-        Ok(at) => Ok(Step::Index(at)),
-        Err(_) => Err(CaseFault::no_case(alloc, "a place wants a number")),
+fn place_in(reading: &mut Reading, items: &[Tree]) -> u32 {
+    match items {
+        [place] => within_u32(reading.number_of(place, "step")),
+        _ => {
+            reading.wants("step", "one number in brackets");
+            0
+        }
     }
 }

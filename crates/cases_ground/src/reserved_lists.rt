@@ -1,59 +1,52 @@
 use crate::case_step::CaseStep;
 use crate::items::{Items, numbers_tree};
-use case_files::{Answers, CaseFault, Fields};
+use case_files::{Answers, Fields, Reading};
 use std::alloc::Global;
 use std::mem;
-use tree_base::{ReservedList, Tree};
+use tree_base::ReservedList;
 
 /// `reserved_list: NUMBERS` with `steps`: what the steps `gave`, and what the list `becomes`.
-pub(crate) fn reserved_list(
-    alloc: Global,
-    fields: &Fields,
-    answers: &mut Answers,
-) -> Result<(), CaseFault> {
-    let mut list = ReservedList::from_list(fields.numbers("reserved_list")?);
-    put_gave(alloc, fields, &mut list, answers)?;
-    answers.put("becomes", numbers_tree(alloc, list.as_slice())?)
-}
-
-fn put_gave(
-    alloc: Global,
-    fields: &Fields,
-    list: &mut ReservedList<u64>,
-    answers: &mut Answers,
-) -> Result<(), CaseFault> {
-    let mut gave = Items::new(alloc);
-    take_steps(alloc, fields.items("steps")?, list, &mut gave)?;
-    answers.put("gave", gave.whole()?)
+pub(crate) fn reserved_list(fields: &Fields, answers: &mut Answers) {
+    let mut list = ReservedList::from_list(answers.reading.numbers(fields, "reserved_list"));
+    let mut gave = Items::new(answers.reading.alloc);
+    take_steps(&mut answers.reading, fields, &mut list, &mut gave);
+    answers.put_made("gave", gave.whole());
+    let becomes = numbers_tree(answers.reading.alloc, list.as_slice());
+    answers.put_made("becomes", becomes);
 }
 
 fn take_steps(
-    alloc: Global,
-    steps: &[Tree],
+    reading: &mut Reading,
+    fields: &Fields,
     list: &mut ReservedList<u64>,
     gave: &mut Items,
-) -> Result<(), CaseFault> {
-    for step in steps {
-        take_step(alloc, CaseStep::of_tree(alloc, step)?, list, gave)?;
+) {
+    for tree in reading.items(fields, "steps") {
+        take_step(reading, &CaseStep::of_tree(tree), list, gave);
     }
-    Ok(())
 }
 
 fn take_step(
-    alloc: Global,
-    step: CaseStep,
+    reading: &mut Reading,
+    step: &CaseStep,
     list: &mut ReservedList<u64>,
     gave: &mut Items,
-) -> Result<(), CaseFault> {
+) {
     match step.name() {
-        "reserve" => Ok(list.reserve(step.count()?)?),
-        "push" => Ok(list.push(step.number()?)?),
-        "pop" => Ok(gave.number_or_null(list.pop())),
-        "through_a_list" => Ok(through_a_list(alloc, list)),
-        "is_empty" => Ok(gave.flag(list.is_empty())),
-        "length" => Ok(gave.number(list.len() as u64)),
-        "get" => Ok(gave.number_or_null(list.get(step.count()?).copied())),
-        _ => Err(step.unknown()),
+        "reserve" => {
+            let reserved = list.reserve(step.count(reading));
+            reading.done(reserved);
+        }
+        "push" => {
+            let pushed = list.push(step.number(reading));
+            reading.done(pushed);
+        }
+        "pop" => gave.number_or_null(list.pop()),
+        "through_a_list" => through_a_list(reading.alloc, list),
+        "is_empty" => gave.flag(list.is_empty()),
+        "length" => gave.number(list.len() as u64),
+        "get" => gave.number_or_null(list.get(step.count(reading)).copied()),
+        _ => step.unknown(reading),
     }
 }
 

@@ -1,104 +1,63 @@
 use crate::case_step::CaseStep;
 use crate::items::Items;
-use case_files::{Answers, CaseFault, Fields};
-use std::alloc::Global;
+use case_files::{Answers, Fields, Reading};
 use std::cmp::Ordering;
-use tree_base::{Text, Tree};
+use tree_base::Text;
 
 /// `text: TEXT` with `steps`: what the steps `gave`, and what it `becomes`.
-pub(crate) fn text(alloc: Global, fields: &Fields, answers: &mut Answers) -> Result<(), CaseFault> {
-    let mut text = fields.text("text")?;
-    put_gave(alloc, fields, &mut text, answers)?;
-    put_whole(text, answers)
+pub(crate) fn text(fields: &Fields, answers: &mut Answers) {
+    let mut text = answers.reading.text_at(fields, "text");
+    let mut gave = Items::new(answers.reading.alloc);
+    take_steps(&mut answers.reading, fields, &mut text, &mut gave);
+    answers.put_made("gave", gave.whole());
+    answers.put_said("becomes", Ok(Text::from_string(text.into_string())));
 }
 
-fn put_gave(
-    alloc: Global,
-    fields: &Fields,
-    text: &mut Text,
-    answers: &mut Answers,
-) -> Result<(), CaseFault> {
-    let mut gave = Items::new(alloc);
-    take_steps(alloc, fields.items("steps")?, text, &mut gave)?;
-    answers.put("gave", gave.whole()?)
-}
-
-fn take_steps(
-    alloc: Global,
-    steps: &[Tree],
-    text: &mut Text,
-    gave: &mut Items,
-) -> Result<(), CaseFault> {
-    for step in steps {
-        take_step(CaseStep::of_tree(alloc, step)?, text, gave)?;
+fn take_steps(reading: &mut Reading, fields: &Fields, text: &mut Text, gave: &mut Items) {
+    for tree in reading.items(fields, "steps") {
+        take_step(reading, &CaseStep::of_tree(tree), text, gave);
     }
-    Ok(())
 }
 
-fn take_step(step: CaseStep, text: &mut Text, gave: &mut Items) -> Result<(), CaseFault> {
+fn take_step(reading: &mut Reading, step: &CaseStep, text: &mut Text, gave: &mut Items) {
     match step.name() {
-        "push_str" => Ok(text.push_str(step.text()?.as_str())?),
-        "push" => push_first(text, step.text()?.as_str()),
-        "is_empty" => Ok(gave.flag(text.is_empty())),
-        "length" => Ok(gave.number(text.len() as u64)),
-        _ => Err(step.unknown()),
+        "push_str" => push_all(reading, step, text),
+        "push" => push_first(reading, step, text),
+        "is_empty" => gave.flag(text.is_empty()),
+        "length" => gave.number(text.len() as u64),
+        _ => step.unknown(reading),
     }
 }
 
-fn push_first(text: &mut Text, from: &str) -> Result<(), CaseFault> {
-    match from.chars().next() {
-        Some(c) => Ok(text.push(c)?),
-        None => Ok(()),
-    }
+fn push_all(reading: &mut Reading, step: &CaseStep, text: &mut Text) {
+    let pushed = text.push_str(step.text(reading).as_str());
+    reading.done(pushed);
 }
 
-fn put_whole(text: Text, answers: &mut Answers) -> Result<(), CaseFault> {
-    let whole = Text::from_string(text.into_string());
-    answers.put_text("becomes", whole.as_str())
+fn push_first(reading: &mut Reading, step: &CaseStep, text: &mut Text) {
+    let from = step.text(reading);
+    if let Some(c) = from.as_str().chars().next() {
+        let pushed = text.push(c);
+        reading.done(pushed);
+    }
 }
 
 /// `printed_text: TEXT`: how it is printed for `display` and for `debug`.
-pub(crate) fn printed_text(
-    alloc: Global,
-    fields: &Fields,
-    answers: &mut Answers,
-) -> Result<(), CaseFault> {
-    let text = fields.text("printed_text")?;
-    put_display(alloc, &text, answers)?;
-    put_debug(alloc, &text, answers)
-}
-
-fn put_display(alloc: Global, text: &Text, answers: &mut Answers) -> Result<(), CaseFault> {
-    let shown = format!(in alloc; "{text}")?;
-    answers.put_text("display", shown.as_str())
-}
-
-fn put_debug(alloc: Global, text: &Text, answers: &mut Answers) -> Result<(), CaseFault> {
-    let shown = format!(in alloc; "{text:?}")?;
-    answers.put_text("debug", shown.as_str())
+pub(crate) fn printed_text(fields: &Fields, answers: &mut Answers) {
+    let text = answers.reading.text_at(fields, "printed_text");
+    answers.put_printed("display", format!(in answers.reading.alloc; "{text}"));
+    answers.put_printed("debug", format!(in answers.reading.alloc; "{text:?}"));
 }
 
 /// `compare: TEXT` `with` another: their `order`, and that of the other and `itself`.
-pub(crate) fn compare(
-    alloc: Global,
-    fields: &Fields,
-    answers: &mut Answers,
-) -> Result<(), CaseFault> {
-    let text = fields.text("compare")?;
-    let other = fields.text("with")?;
-    put_order("order", alloc, &text, &other, answers)?;
-    put_order("itself", alloc, &other, &other, answers)
-}
-
-fn put_order(
-    name: &str,
-    alloc: Global,
-    text: &Text,
-    other: &Text,
-    answers: &mut Answers,
-) -> Result<(), CaseFault> {
-    let copy = other.copy(alloc)?;
-    answers.put_text(name, order_word(text.cmp(&copy)))
+pub(crate) fn compare(fields: &Fields, answers: &mut Answers) {
+    let text = answers.reading.text_at(fields, "compare");
+    let other = answers.reading.text_at(fields, "with");
+    answers.put_text("order", order_word(text.cmp(&other)));
+    let copy = other.copy(answers.reading.alloc);
+    if let Some(copy) = answers.reading.made(copy) {
+        answers.put_text("itself", order_word(other.cmp(&copy)));
+    }
 }
 
 fn order_word(order: Ordering) -> &'static str {

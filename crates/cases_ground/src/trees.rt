@@ -2,113 +2,74 @@ use crate::entries::under_keys;
 use crate::parts::is_word;
 use crate::paths::{path_of, step_of};
 use crate::values::within_u32;
-use case_files::{Answers, CaseFault, Fields};
-use std::alloc::Global;
-use tree_base::{Boxed, List, Map, Tree};
+use case_files::{Answers, Fields, Reading};
+use tree_base::{Boxed, List, Map, Memory, Tree};
 
 /// `tree: TREE`: what stands under `step` or at `path`, as `child` and `found`, where they lead to something, which
 /// `leads` says; whether it is the `same` as an `other`; how many `nodes` and `text_bytes` it has, where they are at most
 /// `most_nodes` and `most_text`; and whether it `is_within_depth` of `most_levels`. In a sequence `{mark: reset}` is a
 /// `!reset`.
-pub(crate) fn tree(alloc: Global, fields: &Fields, answers: &mut Answers) -> Result<(), CaseFault> {
-    let copy = copy_with_marks(alloc, fields)?;
-    let answered = put_answers(alloc, &copy, fields, answers);
-    drop(copy);
-    answered
+pub(crate) fn tree(fields: &Fields, answers: &mut Answers) {
+    if let Some(copy) = copy_with_marks(&mut answers.reading, fields) {
+        put_child(&copy, fields, answers);
+        put_found(&copy, fields, answers);
+        put_same(&copy, fields, answers);
+        put_size(&copy, fields, answers);
+        drop(copy);
+    }
 }
 
 /// A copy of the tree, which is dropped by a call: a drop in place is proved variant by variant.
-fn copy_with_marks(alloc: Global, fields: &Fields) -> Result<Tree, CaseFault> {
-    let tree = tree_with_marks(fields.tree("tree")?, alloc)?;
-    let copy = tree.copy(alloc);
+fn copy_with_marks(reading: &mut Reading, fields: &Fields) -> Option<Tree> {
+    let tree = reading.tree_at(fields, "tree")?;
+    let tree = tree_with_marks(reading, tree);
+    let copy = tree.copy(reading.alloc);
     drop(tree);
-    Ok(copy?)
+    reading.made(copy)
 }
 
-fn put_answers(
-    alloc: Global,
-    tree: &Tree,
-    fields: &Fields,
-    answers: &mut Answers,
-) -> Result<(), CaseFault> {
-    put_child(alloc, tree, fields, answers)?;
-    put_found(alloc, tree, fields, answers)?;
-    put_same(alloc, tree, fields, answers)?;
-    put_size(tree, fields, answers)
-}
-
-fn put_child(
-    alloc: Global,
-    tree: &Tree,
-    fields: &Fields,
-    answers: &mut Answers,
-) -> Result<(), CaseFault> {
-    match fields.find("step") {
-        Some(step) => {
-            let step = step_of(alloc, step)?;
-            put_where(alloc, "child", tree.child(&step), answers)
-        }
-        None => Ok(()),
+fn put_child(tree: &Tree, fields: &Fields, answers: &mut Answers) {
+    if let Some(step) = fields.find("step") {
+        let step = step_of(&mut answers.reading, step);
+        put_where("child", tree.child(&step), answers);
     }
 }
 
-fn put_found(
-    alloc: Global,
-    tree: &Tree,
-    fields: &Fields,
-    answers: &mut Answers,
-) -> Result<(), CaseFault> {
+fn put_found(tree: &Tree, fields: &Fields, answers: &mut Answers) {
     if fields.has("path") {
-        let path = path_of(alloc, fields.items("path")?)?;
-        put_where(alloc, "found", tree.at(&path), answers)
-    } else {
-        Ok(())
+        let steps = answers.reading.items(fields, "path");
+        let path = path_of(&mut answers.reading, steps);
+        put_where("found", tree.at(&path), answers);
     }
 }
 
-fn put_where(
-    alloc: Global,
-    name: &str,
-    found: Option<&Tree>,
-    answers: &mut Answers,
-) -> Result<(), CaseFault> {
-    answers.put_flag("leads", found.is_some())?;
-    match found {
-        Some(found) => answers.put(name, found.copy(alloc)?),
-        None => Ok(()),
+fn put_where(name: &str, found: Option<&Tree>, answers: &mut Answers) {
+    answers.put_flag("leads", found.is_some());
+    if let Some(found) = found {
+        let copy = found.copy(answers.reading.alloc);
+        answers.put_made(name, copy);
     }
 }
 
-fn put_same(
-    alloc: Global,
-    tree: &Tree,
-    fields: &Fields,
-    answers: &mut Answers,
-) -> Result<(), CaseFault> {
-    match fields.find("other") {
-        Some(other) => {
-            let other = tree_with_marks(other, alloc)?;
-            let same = tree.same(&other);
-            drop(other);
-            answers.put_flag("same", same)
-        }
-        None => Ok(()),
+fn put_same(tree: &Tree, fields: &Fields, answers: &mut Answers) {
+    if let Some(other) = fields.find("other") {
+        let other = tree_with_marks(&mut answers.reading, other);
+        let same = tree.same(&other);
+        drop(other);
+        answers.put_flag("same", same);
     }
 }
 
-fn put_size(tree: &Tree, fields: &Fields, answers: &mut Answers) -> Result<(), CaseFault> {
-    let most_nodes = fields.number_or("most_nodes", u64::MAX)?;
-    put_or_null("nodes", tree.nodes_within(most_nodes), answers)?;
-    let most_text = fields.number_or("most_text", u64::MAX)?;
-    put_or_null("text_bytes", tree.text_within(most_text), answers)?;
-    let most_levels = fields.number_or("most_levels", 64)?;
-    answers.put_flag(
-        "is_within_depth",
-        tree.is_within_depth(within_u32(most_levels)),
-    )
+fn put_size(tree: &Tree, fields: &Fields, answers: &mut Answers) {
+    let most_nodes = answers.reading.number_or(fields, "most_nodes", u64::MAX);
+    put_or_null("nodes", tree.nodes_within(most_nodes), answers);
+    let most_text = answers.reading.number_or(fields, "most_text", u64::MAX);
+    put_or_null("text_bytes", tree.text_within(most_text), answers);
+    let most_levels = within_u32(answers.reading.number_or(fields, "most_levels", 64));
+    answers.put_flag("is_within_depth", tree.is_within_depth(most_levels));
 }
 
-fn put_or_null(name: &str, number: Option<u64>, answers: &mut Answers) -> Result<(), CaseFault> {
+fn put_or_null(name: &str, number: Option<u64>, answers: &mut Answers) {
     match number {
         Some(number) => answers.put_number(name, number),
         None => answers.put_null(name),
@@ -117,38 +78,55 @@ fn put_or_null(name: &str, number: Option<u64>, answers: &mut Answers) -> Result
 
 /// The tree in which each `{mark: reset}` is a `!reset`.
 #[cycle(marks)]
-fn tree_with_marks(tree: &Tree, alloc: Global) -> Result<Tree, CaseFault> {
+fn tree_with_marks(reading: &mut Reading, tree: &Tree) -> Tree {
     match tree {
-        Tree::Map(entries) => map_with_marks(entries.get(), alloc),
+        Tree::Map(entries) => map_with_marks(reading, entries.get()),
         Tree::Seq(items) => {
-            let items = trees_with_marks(items.as_slice(), alloc)?;
-            Ok(Tree::sequence(alloc, items)?)
+            let items = trees_with_marks(reading, items.as_slice());
+            let made = Tree::sequence(reading.alloc, items);
+            reading.given(made, Tree::Null)
         }
         Tree::Override(inner) => {
-            let inner = tree_with_marks(inner.get(), alloc)?;
-            Ok(Tree::Override(Boxed::new(alloc, inner)?))
+            let inner = tree_with_marks(reading, inner.get());
+            overriding(reading, inner)
         }
-        _ => Ok(tree.copy(alloc)?),
+        _ => {
+            let copy = tree.copy(reading.alloc);
+            reading.given(copy, Tree::Null)
+        }
+    }
+}
+
+fn overriding(reading: &mut Reading, inner: Tree) -> Tree {
+    match Boxed::new(reading.alloc, inner) {
+        Ok(inner) => Tree::Override(inner),
+        Err(Memory) => {
+            reading.memory();
+            Tree::Null
+        }
     }
 }
 
 #[cycle(marks)]
-fn map_with_marks(entries: &Map, alloc: Global) -> Result<Tree, CaseFault> {
+fn map_with_marks(reading: &mut Reading, entries: &Map) -> Tree {
     if is_reset(entries) {
-        Ok(Tree::Reset)
+        Tree::Reset
     } else {
-        let values = trees_with_marks(entries.values(), alloc)?;
-        Ok(Tree::mapping(alloc, under_keys(alloc, entries, values)?)?)
+        let values = trees_with_marks(reading, entries.values());
+        let entries = under_keys(reading, entries, values);
+        let made = Tree::mapping(reading.alloc, entries);
+        reading.given(made, Tree::Null)
     }
 }
 
 #[cycle(marks)]
-fn trees_with_marks(trees: &[Tree], alloc: Global) -> Result<List<Tree>, CaseFault> {
-    let mut copies = List::new(alloc);
+fn trees_with_marks(reading: &mut Reading, trees: &[Tree]) -> List<Tree> {
+    let mut copies = List::new(reading.alloc);
     for tree in trees {
-        copies.push(tree_with_marks(tree, alloc)?)?;
+        let copy = tree_with_marks(reading, tree);
+        reading.push(&mut copies, copy);
     }
-    Ok(copies)
+    copies
 }
 
 fn is_reset(entries: &Map) -> bool {

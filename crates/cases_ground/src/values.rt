@@ -1,100 +1,70 @@
 use crate::entries::Entries;
-use case_files::{Answers, CaseFault, Fields};
+use case_files::{Answers, Fields, Reading};
 use std::alloc::Global;
 use std::fmt;
-use tree_base::{Boxed, Env, List, Memory, Place, Text, Tree, TryCopy, Var, copy_slice};
+use tree_base::{Boxed, Env, List, Memory, Place, Tree, TryCopy, Var, copy_slice};
 
 /// `boxed: NUMBER`: the `value` in the box, and what is `taken_out`.
-pub(crate) fn value_in_box(
-    alloc: Global,
-    fields: &Fields,
-    answers: &mut Answers,
-) -> Result<(), CaseFault> {
-    let number = fields.number("boxed")?;
-    let boxed = Boxed::new(alloc, number)?;
-    answers.put_number("value", *boxed.get())?;
-    answers.put_number("taken_out", boxed.into_inner())
+pub(crate) fn value_in_box(fields: &Fields, answers: &mut Answers) {
+    let number = answers.reading.number_at(fields, "boxed");
+    let boxed = Boxed::new(answers.reading.alloc, number);
+    if let Some(boxed) = answers.reading.made(boxed) {
+        answers.put_number("value", *boxed.get());
+        answers.put_number("taken_out", boxed.into_inner());
+    }
 }
 
 /// `copy: VALUE` `as` a type: what is `copied`, of the value as an option.
-pub(crate) fn copy(alloc: Global, fields: &Fields, answers: &mut Answers) -> Result<(), CaseFault> {
-    let text = fields.text("copy")?;
-    let kind = fields.text("as")?;
-    put_copy_as(alloc, kind.as_str(), text.as_str(), answers)
+pub(crate) fn copy(fields: &Fields, answers: &mut Answers) {
+    let text = answers.reading.text_at(fields, "copy");
+    let kind = answers.reading.text_at(fields, "as");
+    put_copy_as(kind.as_str(), text.as_str(), answers);
 }
 
-fn put_copy_as(
-    alloc: Global,
-    kind: &str,
-    text: &str,
-    answers: &mut Answers,
-) -> Result<(), CaseFault> {
+fn put_copy_as(kind: &str, text: &str, answers: &mut Answers) {
     match kind {
-        "u8" => put_copy(alloc, &text.parse::<u8>().ok(), answers),
-        "u16" => put_copy(alloc, &text.parse::<u16>().ok(), answers),
-        "u32" => put_copy(alloc, &text.parse::<u32>().ok(), answers),
-        "u64" => put_copy(alloc, &text.parse::<u64>().ok(), answers),
-        "i64" => put_copy(alloc, &text.parse::<i64>().ok(), answers),
-        "bool" => put_copy(alloc, &text.parse::<bool>().ok(), answers),
-        _ => Err(CaseFault::no_case(alloc, "there is no such type")),
+        "u8" => put_copy(&text.parse::<u8>().ok(), answers),
+        "u16" => put_copy(&text.parse::<u16>().ok(), answers),
+        "u32" => put_copy(&text.parse::<u32>().ok(), answers),
+        "u64" => put_copy(&text.parse::<u64>().ok(), answers),
+        "i64" => put_copy(&text.parse::<i64>().ok(), answers),
+        "bool" => put_copy(&text.parse::<bool>().ok(), answers),
+        _ => answers.reading.refuse("there is no such type"),
     }
 }
 
-fn put_copy<T: TryCopy + Drop + fmt::Display>(
-    alloc: Global,
-    value: &Option<T>,
-    answers: &mut Answers,
-) -> Result<(), CaseFault> {
-    match value.copy(alloc)? {
-        Some(copy) => put_shown(alloc, &copy, answers),
-        None => Err(CaseFault::no_case(alloc, "the type has no such value")),
+fn put_copy<T: TryCopy + Drop + fmt::Display>(value: &Option<T>, answers: &mut Answers) {
+    match value.copy(answers.reading.alloc) {
+        Ok(Some(copy)) => {
+            answers.put_printed("copied", format!(in answers.reading.alloc; "{copy}"));
+        }
+        Ok(None) => answers.reading.refuse("the type has no such value"),
+        Err(Memory) => answers.reading.memory(),
     }
-}
-
-fn put_shown(
-    alloc: Global,
-    value: &impl fmt::Display,
-    answers: &mut Answers,
-) -> Result<(), CaseFault> {
-    let shown = format!(in alloc; "{value}")?;
-    answers.put_text("copied", shown.as_str())
 }
 
 /// `copy_variables: VARIABLES`: the records that are `copied`, and whether they are `equal` to their copies.
-pub(crate) fn copy_variables(
-    alloc: Global,
-    fields: &Fields,
-    answers: &mut Answers,
-) -> Result<(), CaseFault> {
-    let records = records_in(alloc, fields)?;
-    put_copies(alloc, records.as_slice(), answers)
+pub(crate) fn copy_variables(fields: &Fields, answers: &mut Answers) {
+    let variables = answers.reading.variables(fields, "copy_variables");
+    let records = records_of(&mut answers.reading, &variables);
+    put_copies(records.as_slice(), answers);
 }
 
-fn put_copies(alloc: Global, records: &[Var], answers: &mut Answers) -> Result<(), CaseFault> {
-    let copies = copy_slice(alloc, records)?;
-    answers.put_flag("equal", copies.as_slice() == records)?;
-    answers.put("copied", records_tree(alloc, copies.as_slice())?)
-}
-
-fn records_in(alloc: Global, fields: &Fields) -> Result<List<Var>, CaseFault> {
-    let variables = fields.variables("copy_variables")?;
-    let records = records_of(alloc, &variables);
-    drop(variables);
-    Ok(records?)
-}
-
-fn records_of(alloc: Global, variables: &Env) -> Result<List<Var>, Memory> {
-    let mut records = List::new(alloc);
-    for (name, value) in variables.keys().iter().zip(variables.values()) {
-        records.push(record_of(alloc, name, value)?)?;
+fn put_copies(records: &[Var], answers: &mut Answers) {
+    let copies = copy_slice(answers.reading.alloc, records);
+    if let Some(copies) = answers.reading.made(copies) {
+        answers.put_flag("equal", copies.as_slice() == records);
+        let copied = records_tree(answers.reading.alloc, copies.as_slice());
+        answers.put_made("copied", copied);
     }
-    Ok(records)
 }
 
-fn record_of(alloc: Global, name: &Text, value: &Text) -> Result<Var, Memory> {
-    let name = name.copy(alloc)?;
-    let value = value.copy(alloc)?;
-    Ok(Var { name, value })
+fn records_of(reading: &mut Reading, variables: &Env) -> List<Var> {
+    let mut records = List::new(reading.alloc);
+    for (name, value) in variables.keys().iter().zip(variables.values()) {
+        reading.push_pair(&mut records, name.as_str(), value.as_str());
+    }
+    records
 }
 
 fn records_tree(alloc: Global, records: &[Var]) -> Result<Tree, Memory> {
@@ -106,23 +76,19 @@ fn records_tree(alloc: Global, records: &[Var]) -> Result<Tree, Memory> {
 }
 
 /// `place: {file: NUMBER, line: NUMBER, column: NUMBER}`: how it is printed for `debug`.
-pub(crate) fn place(
-    alloc: Global,
-    fields: &Fields,
-    answers: &mut Answers,
-) -> Result<(), CaseFault> {
-    let parts = Fields::of_tree(alloc, fields.tree("place")?, "place")?;
-    let place = Place {
-        file: part_of(&parts, "file")?,
-        line: part_of(&parts, "line")?,
-        column: part_of(&parts, "column")?,
-    };
-    let shown = format!(in alloc; "{place:?}")?;
-    answers.put_text("debug", shown.as_str())
+pub(crate) fn place(fields: &Fields, answers: &mut Answers) {
+    if let Some(parts) = answers.reading.fields_at(fields, "place") {
+        let place = Place {
+            file: part_of(&mut answers.reading, &parts, "file"),
+            line: part_of(&mut answers.reading, &parts, "line"),
+            column: part_of(&mut answers.reading, &parts, "column"),
+        };
+        answers.put_printed("debug", format!(in answers.reading.alloc; "{place:?}"));
+    }
 }
 
-fn part_of(parts: &Fields, key: &str) -> Result<u32, CaseFault> {
-    Ok(within_u32(parts.number(key)?))
+fn part_of(reading: &mut Reading, parts: &Fields, key: &str) -> u32 {
+    within_u32(reading.number_at(parts, key))
 }
 
 /// The number, or the greatest one of its type where it is greater. No memory.

@@ -1,21 +1,10 @@
-use crate::line::Line;
-use crate::reading::Reading;
 use crate::reply::{read_reply, say_reply};
 use crate::request::say_request;
-use case_files::CaseFault;
+use case_files::{Line, Lines, Reading};
 use engine_types::{Exchange, Outcome, WireEnd};
 use std::alloc::Global;
-use tree_base::{List, Memory, Text};
 
-/// What came of a request, of a line: a reply, `lost CAUSE` (`lost Malformed PLACE`), `not sent`, `memory`. NoCase where
-/// the line is of no such form.
-pub fn outcome_of(alloc: Global, line: &str) -> Result<Outcome, CaseFault> {
-    let mut reading = Reading::new(alloc);
-    let outcome = read_outcome(&mut reading, line);
-    reading.whole(outcome)
-}
-
-/// The same in a reading.
+/// What came of a request, of a line: a reply, `lost CAUSE` (`lost Malformed PLACE`), `not sent`, `memory`.
 pub fn read_outcome(reading: &mut Reading, line: &str) -> Outcome {
     if let Some(cause) = line.strip_prefix("lost ") {
         return Outcome::Lost(cause_of(reading, cause));
@@ -48,10 +37,10 @@ pub fn cause_of(reading: &mut Reading, words: &str) -> WireEnd {
 }
 
 /// The line of what came of a request.
-pub fn outcome_line(alloc: Global, outcome: &Outcome) -> Result<Text, Memory> {
+pub fn outcome_line(alloc: Global, outcome: &Outcome) -> Line {
     let mut line = Line::new(alloc);
     say_outcome(&mut line, outcome);
-    line.end()
+    line
 }
 
 /// The same on a line.
@@ -85,18 +74,18 @@ fn cause_word(cause: WireEnd) -> &'static str {
 }
 
 /// The lines of exchanges, as of a hand's log, each as `REQUEST -> OUTCOME`.
-pub fn exchange_lines(alloc: Global, exchanges: &[Exchange]) -> Result<List<Text>, Memory> {
-    let mut lines = List::new(alloc);
+pub fn exchange_lines(alloc: Global, exchanges: &[Exchange]) -> Lines {
+    let mut lines = Lines::new(alloc);
     for exchange in exchanges {
-        lines.push(exchange_line(alloc, exchange)?)?;
+        lines.push(exchange_line(alloc, exchange));
     }
-    Ok(lines)
+    lines
 }
 
-fn exchange_line(alloc: Global, exchange: &Exchange) -> Result<Text, Memory> {
+fn exchange_line(alloc: Global, exchange: &Exchange) -> Line {
     let mut line = Line::new(alloc);
     say_request(&mut line, &exchange.request);
     line.word("->");
     say_outcome(&mut line, &exchange.outcome);
-    line.end()
+    line
 }

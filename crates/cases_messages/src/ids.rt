@@ -1,6 +1,4 @@
-use crate::line::Line;
-use crate::reading::Reading;
-use case_files::Fields;
+use case_files::{Fields, Line, Reading};
 use tree_base::Text;
 
 /// How many hexadecimal digits an id has that an Engine in memory gives.

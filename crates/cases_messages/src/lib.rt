@@ -1,30 +1,23 @@
 //! The Engine's messages as cases write them: readers of requests, replies and outcomes from the words of a line, and
 //! what says them in words again, so that a case states what is wanted as a list of lines.
 //!
-//! `Reading` reads values of any kind, and `Line` says them: both keep that something went wrong and go on, so that a
-//! value has one exit however many parts it has.
-//!
 //! A line reads back as the value that it was said of, but where the page of its function says what it leaves out.
 #![tactic(auto)]
 
 mod exchange;
 mod ids;
-mod line;
 mod names;
-mod reading;
 mod reply;
 mod request;
 mod resource;
 mod spec;
 
-pub use exchange::{cause_of, exchange_lines, outcome_line, outcome_of, read_outcome, say_outcome};
+pub use exchange::{cause_of, exchange_lines, outcome_line, read_outcome, say_outcome};
 pub use ids::{id_at, id_of, say_id};
-pub use line::Line;
 pub use names::{
     code_of, condition_of, health_of, kind_of, policy_of, purpose_of, report_of, state_at,
 };
-pub use reading::Reading;
 pub use reply::{read_bytes, read_report, reply_line, say_report};
-pub use request::{read_request, request_line, request_of};
+pub use request::{read_request, request_line};
 pub use resource::{network_named, volume_named};
 pub use spec::spec_of;

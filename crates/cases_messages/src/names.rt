@@ -1,5 +1,4 @@
-use crate::reading::Reading;
-use case_files::Fields;
+use case_files::{Fields, Reading};
 use engine_types::{Condition, ContainerState, Health, Kind, Policy, Purpose, Report};
 
 /// The report of a container, by its `state`, `exit_code` and `health`.

@@ -1,11 +1,10 @@
 use crate::ids::{id_of, say_id};
-use crate::line::Line;
 use crate::names::{code_of, health_of, health_word, state_of, state_word};
-use crate::reading::Reading;
 use crate::request::{say_of, say_of_id};
+use case_files::{Line, Reading};
 use engine_types::{Health, Listed, NetRow, Reply, Report};
 use std::alloc::Global;
-use tree_base::{List, Memory, Text};
+use tree_base::{List, Text};
 
 /// The reply of a line: `state STATE [CODE] [HEALTH]`, `bytes [NUMBER]..`, `made ID`, `done`, `already`, `image ID`,
 /// `pulled`, `pull failed MESSAGE`, `refused STATUS MESSAGE`; and `containers`, `networks` and `volumes` of nothing.
@@ -92,10 +91,10 @@ fn is_code(word: &str) -> bool {
 }
 
 /// The line of a reply: listings with their rows, behind commas.
-pub fn reply_line(alloc: Global, reply: &Reply) -> Result<Text, Memory> {
+pub fn reply_line(alloc: Global, reply: &Reply) -> Line {
     let mut line = Line::new(alloc);
     say_reply(&mut line, reply);
-    line.end()
+    line
 }
 
 /// The same on a line.

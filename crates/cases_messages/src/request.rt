@@ -1,26 +1,16 @@
 use crate::ids::{id_of, say_id};
-use crate::line::Line;
-use crate::reading::Reading;
 use crate::resource::{network_named, volume_named};
 use crate::spec::{boxed, spec_with};
-use case_files::CaseFault;
+use case_files::{Line, Reading};
 use engine_types::{ContainerSpec, Endpoint, Request};
 use std::alloc::Global;
 use std::str::SplitWhitespace;
-use tree_base::{Boxed, List, Memory, Text};
+use tree_base::{Boxed, List, Text};
 
 /// The request of a line: `containers PROJECT`, `inspect ID`, `logs ID`, `create NAME IMAGE [NETWORK | +VOLUME]..` (a
 /// volume is bound at `/data`), `start ID`, `stop ID SECONDS` (10), `remove ID`, `networks`, `network NAME`,
 /// `connect NETWORK CONTAINER [ALIAS]..` by ids, `remove-network ID`, `volumes`, `volume NAME`, `remove-volume NAME`,
-/// `image NAME`, `pull NAME`. An id may be `0..1f`, the one of 64 digits which ends so. NoCase where the line is of no
-/// such form.
-pub fn request_of(alloc: Global, line: &str) -> Result<Request, CaseFault> {
-    let mut reading = Reading::new(alloc);
-    let request = read_request(&mut reading, line);
-    reading.whole(request)
-}
-
-/// The same in a reading.
+/// `image NAME`, `pull NAME`. An id may be `0..1f`, the one of 64 digits which ends so.
 pub fn read_request(reading: &mut Reading, line: &str) -> Request {
     let mut words = line.split_whitespace();
     let verb = words.next().unwrap_or("");
@@ -162,11 +152,11 @@ fn push_endpoint(reading: &mut Reading, endpoints: &mut List<Endpoint>, network:
     reading.push(endpoints, endpoint);
 }
 
-/// The line of a request, as `request_of` reads it; of a create the name alone.
-pub fn request_line(alloc: Global, request: &Request) -> Result<Text, Memory> {
+/// The line of a request, as `read_request` reads it; of a create the name alone.
+pub fn request_line(alloc: Global, request: &Request) -> Line {
     let mut line = Line::new(alloc);
     say_request(&mut line, request);
-    line.end()
+    line
 }
 
 /// The same on a line.

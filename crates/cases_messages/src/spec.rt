@@ -1,5 +1,4 @@
-use crate::reading::Reading;
-use case_files::Fields;
+use case_files::{Fields, Reading};
 use engine_types::{ContainerSpec, Endpoint, Healthcheck, Pairs};
 use std::alloc::Global;
 use tree_base::{Boxed, List, Memory, Text};

@@ -1,6 +1,5 @@
 use crate::{env_files, forms, laws, mounts, pages, ports, projects, variables, words};
-use case_files::{Answers, CaseFault, Fields};
-use std::alloc::Global;
+use case_files::{Answers, Fields};
 
 /// The inputs of a call beside its main one; None where the call isn't one of the reading side. No memory.
 pub fn inputs_of(call: &str) -> Option<&'static [&'static str]> {
@@ -18,45 +17,36 @@ pub fn inputs_of(call: &str) -> Option<&'static [&'static str]> {
     }
 }
 
-/// Makes the call of a case. NoCase where an input isn't of its form, and where the call isn't one of the reading side.
-pub fn answer(
-    alloc: Global,
-    call: &str,
-    fields: &Fields,
-    answers: &mut Answers,
-) -> Result<(), CaseFault> {
+/// Makes the call of a case. It is no case where an input isn't of its form, and where the call isn't one of the reading
+/// side.
+pub fn answer(call: &str, fields: &Fields, answers: &mut Answers) {
     match call {
-        "substitute" => variables::substitute(alloc, fields, answers),
-        "substitute_tree" => variables::substitute_tree(alloc, fields, answers),
-        "env_file" => env_files::env_file(alloc, fields, answers),
-        "command_line" => words::command_line(alloc, fields, answers),
-        "question" => words::question(alloc, fields, answers),
-        "usage" => words::usage(alloc, fields, answers),
-        "page" => pages::page(alloc, fields, answers),
-        "page_scalar" => pages::page_scalar(alloc, fields, answers),
-        "command_of" => projects::command_of(alloc, fields, answers),
-        "load" => projects::load(alloc, fields, answers),
-        "law" => laws::law(alloc, fields, answers),
-        _ => answer_of_form(alloc, call, fields, answers),
+        "substitute" => variables::substitute(fields, answers),
+        "substitute_tree" => variables::substitute_tree(fields, answers),
+        "env_file" => env_files::env_file(fields, answers),
+        "command_line" => words::command_line(fields, answers),
+        "question" => words::question(fields, answers),
+        "usage" => words::usage(fields, answers),
+        "page" => pages::page(fields, answers),
+        "page_scalar" => pages::page_scalar(fields, answers),
+        "command_of" => projects::command_of(fields, answers),
+        "load" => projects::load(fields, answers),
+        "law" => laws::law(fields, answers),
+        _ => answer_of_form(call, fields, answers),
     }
 }
 
 /// The calls of short forms, and those of the ground.
-fn answer_of_form(
-    alloc: Global,
-    call: &str,
-    fields: &Fields,
-    answers: &mut Answers,
-) -> Result<(), CaseFault> {
+fn answer_of_form(call: &str, fields: &Fields, answers: &mut Answers) {
     match call {
-        "duration" => forms::duration(alloc, fields, answers),
-        "size" => forms::size(alloc, fields, answers),
-        "decimal" => forms::decimal(alloc, fields, answers),
-        "key_value" => forms::key_value(alloc, fields, answers),
-        "shell_words" => forms::shell_words(alloc, fields, answers),
-        "port" => ports::port(alloc, fields, answers),
-        "mount" => mounts::mount(alloc, fields, answers),
-        "out_of_memory" => forms::out_of_memory(alloc, fields, answers),
-        _ => cases_ground::answer(alloc, call, fields, answers),
+        "duration" => forms::duration(fields, answers),
+        "size" => forms::size(fields, answers),
+        "decimal" => forms::decimal(fields, answers),
+        "key_value" => forms::key_value(fields, answers),
+        "shell_words" => forms::shell_words(fields, answers),
+        "port" => ports::port(fields, answers),
+        "mount" => mounts::mount(fields, answers),
+        "out_of_memory" => forms::out_of_memory(fields, answers),
+        _ => cases_ground::answer(call, fields, answers),
     }
 }

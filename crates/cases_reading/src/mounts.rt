@@ -1,32 +1,28 @@
 use crate::forms::refuse_form;
-use case_files::{Answers, CaseFault, Fields};
+use case_files::{Answers, Fields};
 use cases_ground::Entries;
 use short_forms::{Mount, MountKind, read_mount};
 use std::alloc::Global;
 use tree_base::{Memory, Tree, TryCopy};
 
 /// `mount: TEXT`: its `long_form`.
-pub(crate) fn mount(
-    alloc: Global,
-    fields: &Fields,
-    answers: &mut Answers,
-) -> Result<(), CaseFault> {
-    let text = fields.text("mount")?;
-    match read_mount(alloc, &text) {
+pub(crate) fn mount(fields: &Fields, answers: &mut Answers) {
+    let text = answers.reading.text_at(fields, "mount");
+    match read_mount(answers.reading.alloc, &text) {
         Ok(mount) => {
-            let answered = put_mount(alloc, &mount, answers);
+            let tree = copied_tree(answers.reading.alloc, &mount);
             drop(mount);
-            answered
+            answers.put_made("long_form", tree);
         }
-        Err(refusal) => refuse_form(alloc, refusal, answers),
+        Err(refusal) => refuse_form(refusal, answers),
     }
 }
 
-fn put_mount(alloc: Global, mount: &Mount, answers: &mut Answers) -> Result<(), CaseFault> {
+fn copied_tree(alloc: Global, mount: &Mount) -> Result<Tree, Memory> {
     let copy = mount.copy(alloc)?;
     let tree = mount_tree(alloc, &copy);
     drop(copy);
-    answers.put("long_form", tree?)
+    tree
 }
 
 fn mount_tree(alloc: Global, mount: &Mount) -> Result<Tree, Memory> {

@@ -1,82 +1,79 @@
-use case_files::CaseFault;
+use case_files::Line;
 use compose_words::{Command, Options};
-use std::alloc::{AllocError, Global};
+use std::alloc::Global;
 use tree_base::Text;
 
 /// A command with its options as one line, in one fixed order; four workers, the usual number, aren't told.
-pub(crate) fn options_line(alloc: Global, options: &Options) -> Result<String, CaseFault> {
-    let mut line = String::new(alloc);
-    push_options(&mut line, options)?;
-    Ok(line)
-}
-
-fn push_options(line: &mut String, options: &Options) -> Result<(), AllocError> {
-    push_command(line, options.command)?;
-    push_texts(line, " --file", options.files.as_slice())?;
-    push_text(line, " --project-name", options.project.as_ref())?;
-    push_text(line, " --project-directory", options.directory.as_ref())?;
-    push_texts(line, " --profile", options.profiles.as_slice())?;
-    push_texts(line, " --env-file", options.env_files.as_slice())?;
+pub(crate) fn options_line(alloc: Global, options: &Options) -> Line {
+    let mut line = Line::new(alloc);
+    say_command(&mut line, options.command);
+    say_texts(&mut line, "--file", options.files.as_slice());
+    say_text(&mut line, "--project-name", options.project.as_ref());
+    say_text(&mut line, "--project-directory", options.directory.as_ref());
+    say_texts(&mut line, "--profile", options.profiles.as_slice());
+    say_texts(&mut line, "--env-file", options.env_files.as_slice());
     if options.parallel != 4 {
-        push_number(line, " --parallel", Some(options.parallel))?;
+        say_number(&mut line, "--parallel", Some(options.parallel));
     }
-    push_text(line, " --socket", options.socket.as_ref())?;
-    push_flag(line, " --memory", options.in_memory)?;
-    push_text(line, " --stop-file", options.stop_file.as_ref())
+    say_text(&mut line, "--socket", options.socket.as_ref());
+    say_flag(&mut line, "--memory", options.in_memory);
+    say_text(&mut line, "--stop-file", options.stop_file.as_ref());
+    line
 }
 
-fn push_command(line: &mut String, command: Command) -> Result<(), AllocError> {
+fn say_command(line: &mut Line, command: Command) {
     match command {
         Command::Config { json, quiet } => {
-            line.push_str("config")?;
-            push_flag(line, " --format json", json)?;
-            push_flag(line, " --quiet", quiet)
+            line.word("config");
+            say_flag(line, "--format json", json);
+            say_flag(line, "--quiet", quiet);
         }
         Command::Up {
             orphans,
             wait,
             wait_seconds,
         } => {
-            line.push_str("up")?;
-            push_flag(line, " --remove-orphans", orphans)?;
-            push_flag(line, " --wait", wait)?;
-            push_number(line, " --wait-timeout", wait_seconds)
+            line.word("up");
+            say_flag(line, "--remove-orphans", orphans);
+            say_flag(line, "--wait", wait);
+            say_number(line, "--wait-timeout", wait_seconds);
         }
         Command::Down {
             orphans,
             volumes,
             seconds,
         } => {
-            line.push_str("down")?;
-            push_flag(line, " --remove-orphans", orphans)?;
-            push_flag(line, " --volumes", volumes)?;
-            push_number(line, " --timeout", seconds)
+            line.word("down");
+            say_flag(line, "--remove-orphans", orphans);
+            say_flag(line, "--volumes", volumes);
+            say_number(line, "--timeout", seconds);
         }
-        Command::Simulate { number } => push_number(line, "simulate", Some(number)),
+        Command::Simulate { number } => say_number(line, "simulate", Some(number)),
     }
 }
 
-fn push_flag(line: &mut String, name: &str, given: bool) -> Result<(), AllocError> {
-    if given { line.push_str(name) } else { Ok(()) }
-}
-
-fn push_number(line: &mut String, name: &str, number: Option<u32>) -> Result<(), AllocError> {
-    match number {
-        Some(number) => write!(line, "{name} {number}"),
-        None => Ok(()),
+fn say_flag(line: &mut Line, name: &str, given: bool) {
+    if given {
+        line.word(name);
     }
 }
 
-fn push_texts(line: &mut String, name: &str, texts: &[Text]) -> Result<(), AllocError> {
+fn say_number(line: &mut Line, name: &str, number: Option<u32>) {
+    if let Some(number) = number {
+        line.word(name);
+        line.number(u64::from(number));
+    }
+}
+
+fn say_texts(line: &mut Line, name: &str, texts: &[Text]) {
     for text in texts {
-        push_text(line, name, Some(text))?;
+        say_text(line, name, Some(text));
     }
-    Ok(())
 }
 
-fn push_text(line: &mut String, name: &str, text: Option<&Text>) -> Result<(), AllocError> {
-    match text {
-        Some(text) => write!(line, "{name} {text}"),
-        None => Ok(()),
+fn say_text(line: &mut Line, name: &str, text: Option<&Text>) {
+    if let Some(text) = text {
+        line.word(name);
+        line.word(text.as_str());
     }
 }

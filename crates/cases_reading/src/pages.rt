@@ -1,44 +1,39 @@
-use case_files::{Answers, CaseFault, Fields};
+use case_files::{Answers, Fields, Reading};
 use cases_ground::{scalar_in, under_keys};
 use project_print::{Dollars, Node, json_text, node_page, node_page_json};
 use std::alloc::Global;
-use tree_base::{List, Map, Text, Tree};
+use tree_base::{List, Map, Memory, Text, Tree};
 use yaml_lines::{YamlRefusal, scan};
 use yaml_tree::read;
 
 /// `page: NODE`: its page as `yaml`, the same as `json`, the `hash_text`, which is JSON with dollars once, and the tree
 /// that is `read_back` from the page. A scalar is a text, and `{word: TEXT}` a word that is printed as it is.
-pub(crate) fn page(alloc: Global, fields: &Fields, answers: &mut Answers) -> Result<(), CaseFault> {
-    let node = node_of(fields.tree("page")?, alloc)?;
-    let answered = put_pages(alloc, &node, answers);
-    drop(node);
-    answered
+pub(crate) fn page(fields: &Fields, answers: &mut Answers) {
+    if let Some(tree) = answers.reading.tree_at(fields, "page") {
+        let node = node_of(&mut answers.reading, tree);
+        put_pages(&node, answers);
+        drop(node);
+    }
 }
 
-fn put_pages(alloc: Global, node: &Node, answers: &mut Answers) -> Result<(), CaseFault> {
-    put_yaml(alloc, node, answers)?;
-    put_json(alloc, node, answers)?;
-    put_hash_text(alloc, node, answers)
+fn put_pages(node: &Node, answers: &mut Answers) {
+    put_yaml(node, answers);
+    let json = node_page_json(answers.reading.alloc, node);
+    answers.put_said("json", json);
+    let hash_text = json_text(answers.reading.alloc, node, Dollars::Once);
+    answers.put_said("hash_text", hash_text);
 }
 
-fn put_yaml(alloc: Global, node: &Node, answers: &mut Answers) -> Result<(), CaseFault> {
-    let page = node_page(alloc, node)?;
-    answers.put_text("yaml", page.as_str())?;
-    put_read_back(alloc, page.as_str(), answers)
+fn put_yaml(node: &Node, answers: &mut Answers) {
+    let page = node_page(answers.reading.alloc, node);
+    if let Some(page) = answers.reading.made(page) {
+        answers.put_text("yaml", page.as_str());
+        put_read_back(page.as_str(), answers);
+    }
 }
 
-fn put_json(alloc: Global, node: &Node, answers: &mut Answers) -> Result<(), CaseFault> {
-    let json = node_page_json(alloc, node)?;
-    answers.put_text("json", json.as_str())
-}
-
-fn put_hash_text(alloc: Global, node: &Node, answers: &mut Answers) -> Result<(), CaseFault> {
-    let json = json_text(alloc, node, Dollars::Once)?;
-    answers.put_text("hash_text", json.as_str())
-}
-
-fn put_read_back(alloc: Global, page: &str, answers: &mut Answers) -> Result<(), CaseFault> {
-    match tree_in(alloc, page.as_bytes()) {
+fn put_read_back(page: &str, answers: &mut Answers) {
+    match tree_in(answers.reading.alloc, page.as_bytes()) {
         Ok(tree) => answers.put("read_back", tree),
         Err(_) => answers.refuse("the page isn't read back"),
     }
@@ -50,61 +45,59 @@ fn tree_in(alloc: Global, bytes: &[u8]) -> Result<Tree, YamlRefusal> {
 }
 
 /// `page_scalar: TEXT`: how it is spelled in a page as `yaml`, and as `json`, both without their line's end.
-pub(crate) fn page_scalar(
-    alloc: Global,
-    fields: &Fields,
-    answers: &mut Answers,
-) -> Result<(), CaseFault> {
-    let node = Node::Text(fields.text("page_scalar")?);
-    let answered = put_spelling(alloc, &node, answers);
+pub(crate) fn page_scalar(fields: &Fields, answers: &mut Answers) {
+    let node = Node::Text(answers.reading.text_at(fields, "page_scalar"));
+    put_line("yaml", node_page(answers.reading.alloc, &node), answers);
+    put_line(
+        "json",
+        node_page_json(answers.reading.alloc, &node),
+        answers,
+    );
     drop(node);
-    answered
 }
 
-fn put_spelling(alloc: Global, node: &Node, answers: &mut Answers) -> Result<(), CaseFault> {
-    let page = node_page(alloc, node)?;
-    put_line(alloc, "yaml", page.as_str(), answers)?;
-    let json = node_page_json(alloc, node)?;
-    put_line(alloc, "json", json.as_str(), answers)
-}
-
-fn put_line(alloc: Global, name: &str, line: &str, answers: &mut Answers) -> Result<(), CaseFault> {
-    match line.strip_suffix('\n') {
-        Some(line) => answers.put_text(name, line),
-        None => Err(CaseFault::no_case(alloc, "the line has no end")),
-    }
-}
-
-#[cycle(nodes)]
-fn node_of(tree: &Tree, alloc: Global) -> Result<Node, CaseFault> {
-    match tree {
-        Tree::Null => Ok(Node::Null),
-        Tree::Scalar(text) => Ok(Node::Text(text.copy(alloc)?)),
-        Tree::Map(entries) => node_of_map(entries.get(), alloc),
-        Tree::Seq(items) => Ok(Node::Seq(nodes_of(items.as_slice(), alloc)?)),
-        Tree::Reset => Err(CaseFault::no_case(alloc, "a page has no marks")),
-        Tree::Override(_) => Err(CaseFault::no_case(alloc, "a page has no marks")),
-    }
-}
-
-#[cycle(nodes)]
-fn node_of_map(entries: &Map, alloc: Global) -> Result<Node, CaseFault> {
-    match word_in(entries) {
-        Some(word) => Ok(Node::Word(word.copy(alloc)?)),
-        None => {
-            let nodes = nodes_of(entries.values(), alloc)?;
-            Ok(Node::Map(under_keys(alloc, entries, nodes)?))
+fn put_line(name: &str, line: Result<Text, Memory>, answers: &mut Answers) {
+    if let Some(line) = answers.reading.made(line) {
+        match line.as_str().strip_suffix('\n') {
+            Some(line) => answers.put_text(name, line),
+            None => answers.reading.refuse("the line has no end"),
         }
     }
 }
 
 #[cycle(nodes)]
-fn nodes_of(trees: &[Tree], alloc: Global) -> Result<List<Node>, CaseFault> {
-    let mut nodes = List::new(alloc);
-    for tree in trees {
-        nodes.push(node_of(tree, alloc)?)?;
+fn node_of(reading: &mut Reading, tree: &Tree) -> Node {
+    match tree {
+        Tree::Null => Node::Null,
+        Tree::Scalar(text) => Node::Text(reading.text(text.as_str())),
+        Tree::Map(entries) => node_of_map(reading, entries.get()),
+        Tree::Seq(items) => Node::Seq(nodes_of(reading, items.as_slice())),
+        _ => {
+            reading.refuse("a page has no marks");
+            Node::Null
+        }
     }
-    Ok(nodes)
+}
+
+#[cycle(nodes)]
+fn node_of_map(reading: &mut Reading, entries: &Map) -> Node {
+    match word_in(entries) {
+        Some(word) => Node::Word(reading.text(word.as_str())),
+        None => {
+            let nodes = nodes_of(reading, entries.values());
+            Node::Map(under_keys(reading, entries, nodes))
+        }
+    }
+}
+
+#[cycle(nodes)]
+fn nodes_of(reading: &mut Reading, trees: &[Tree]) -> List<Node> {
+    let mut nodes = List::new(reading.alloc);
+    for tree in trees {
+        let node = node_of(reading, tree);
+        reading.push(&mut nodes, node);
+    }
+    nodes
 }
 
 /// The word of `{word: TEXT}`.

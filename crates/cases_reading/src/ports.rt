@@ -1,23 +1,26 @@
 use crate::forms::refuse_form;
-use case_files::{Answers, CaseFault, Fields};
+use case_files::{Answers, Fields};
 use cases_ground::{Entries, Items};
 use short_forms::{Port, read_port};
 use std::alloc::Global;
 use tree_base::{List, Memory, Tree, TryCopy};
 
 /// `port: TEXT`: its `ports`, and their `count`.
-pub(crate) fn port(alloc: Global, fields: &Fields, answers: &mut Answers) -> Result<(), CaseFault> {
-    let text = fields.text("port")?;
-    match read_port(alloc, &text) {
-        Ok(ports) => put_ports(alloc, &ports, answers),
-        Err(refusal) => refuse_form(alloc, refusal, answers),
+pub(crate) fn port(fields: &Fields, answers: &mut Answers) {
+    let text = answers.reading.text_at(fields, "port");
+    match read_port(answers.reading.alloc, &text) {
+        Ok(ports) => put_ports(&ports, answers),
+        Err(refusal) => refuse_form(refusal, answers),
     }
 }
 
-fn put_ports(alloc: Global, ports: &List<Port>, answers: &mut Answers) -> Result<(), CaseFault> {
-    answers.put_number("count", ports.len() as u64)?;
-    let copies = ports.copy(alloc)?;
-    answers.put("ports", ports_tree(alloc, copies.as_slice())?)
+fn put_ports(ports: &List<Port>, answers: &mut Answers) {
+    answers.put_number("count", ports.len() as u64);
+    let copies = ports.copy(answers.reading.alloc);
+    if let Some(copies) = answers.reading.made(copies) {
+        let tree = ports_tree(answers.reading.alloc, copies.as_slice());
+        answers.put_made("ports", tree);
+    }
 }
 
 fn ports_tree(alloc: Global, ports: &[Port]) -> Result<Tree, Memory> {

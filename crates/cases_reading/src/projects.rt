@@ -2,7 +2,7 @@ ghost use Rattle.std.specs.Prelude.{IfOk};
 ghost use Rattle.service_attrs.specs.Projects.{IsInOrder};
 
 use crate::words::words_of;
-use case_files::{Answers, CaseFault, Fields};
+use case_files::{Answers, Fields, Reading};
 use cases_ground::Entries;
 use outside_files::MemoryFiles;
 use plain_services::{Command, PlainRefusal, refusal_status, refusal_words};
@@ -12,20 +12,16 @@ use std::alloc::Global;
 use tree_base::{List, Memory, Text, TextMap, Tree};
 
 /// `command_of: WORDS`: the `command`, or null, and whether `orphans` go.
-pub(crate) fn command_of(
-    alloc: Global,
-    fields: &Fields,
-    answers: &mut Answers,
-) -> Result<(), CaseFault> {
-    let line = fields.text("command_of")?;
-    let words = words_of(alloc, line.as_str())?;
+pub(crate) fn command_of(fields: &Fields, answers: &mut Answers) {
+    let line = answers.reading.text_at(fields, "command_of");
+    let words = words_of(&mut answers.reading, line.as_str());
     match plain_services::command_of(&words) {
         Some(command) => put_command(command, answers),
         None => answers.put_null("command"),
     }
 }
 
-fn put_command(command: Command, answers: &mut Answers) -> Result<(), CaseFault> {
+fn put_command(command: Command, answers: &mut Answers) {
     match command {
         Command::Config => answers.put_text("command", "Config"),
         Command::Up { orphans } => put_with_orphans("Up", orphans, answers),
@@ -33,102 +29,82 @@ fn put_command(command: Command, answers: &mut Answers) -> Result<(), CaseFault>
     }
 }
 
-fn put_with_orphans(name: &str, orphans: bool, answers: &mut Answers) -> Result<(), CaseFault> {
-    answers.put_text("command", name)?;
-    answers.put_flag("orphans", orphans)
+fn put_with_orphans(name: &str, orphans: bool, answers: &mut Answers) {
+    answers.put_text("command", name);
+    answers.put_flag("orphans", orphans);
 }
 
 /// `load: TEXT` by `words` (`config`) in a `directory` (`/w/shop`), where the text stands in `file`
 /// (`/w/shop/compose.yaml`) and the reads with the numbers `failing` fail, so many `times` (once): the `project` that the
 /// last one gives, with the `count` of its services, the `bytes` of their keys and images, and its page as `yaml` and as
 /// `json`; or the exit `status` of its refusal.
-pub(crate) fn load(alloc: Global, fields: &Fields, answers: &mut Answers) -> Result<(), CaseFault> {
-    let mut files = files_of(alloc, fields)?;
-    let answered = load_words(alloc, fields, &mut files, answers);
+pub(crate) fn load(fields: &Fields, answers: &mut Answers) {
+    let mut files = files_of(&mut answers.reading, fields);
+    load_words(fields, &mut files, answers);
     drop(files);
-    answered
 }
 
-fn load_words(
-    alloc: Global,
-    fields: &Fields,
-    files: &mut MemoryFiles,
-    answers: &mut Answers,
-) -> Result<(), CaseFault> {
-    let line = fields.text_or("words", "config")?;
-    let words = words_of(alloc, line.as_str())?;
-    let directory = fields.text_or("directory", "/w/shop")?;
-    for _ in 1..fields.number_or("times", 1)? {
-        drop(plain_services::load(alloc, &words, &directory, files));
+fn load_words(fields: &Fields, files: &mut MemoryFiles, answers: &mut Answers) {
+    let line = answers.reading.text_or(fields, "words", "config");
+    let words = words_of(&mut answers.reading, line.as_str());
+    let directory = answers.reading.text_or(fields, "directory", "/w/shop");
+    for _ in 1..answers.reading.number_or(fields, "times", 1) {
+        drop(plain_services::load(answers.reading.alloc, &words, &directory, files));
     }
     put_loaded(
-        alloc,
-        plain_services::load(alloc, &words, &directory, files),
+        plain_services::load(answers.reading.alloc, &words, &directory, files),
         answers,
-    )
+    );
 }
 
 /// What was loaded is dropped by a call: a drop in place is proved variant by variant.
-fn put_loaded(
-    alloc: Global,
-    loaded: Result<Project, PlainRefusal>,
-    answers: &mut Answers,
-) -> Result<(), CaseFault>
+fn put_loaded(loaded: Result<Project, PlainRefusal>, answers: &mut Answers)
     requires order { IfOk loaded (λ project. IsInOrder project.services) }
 {
-    let answered = match &loaded {
-        Ok(project) => put_project(alloc, project, answers),
-        Err(refusal) => refuse_load(alloc, refusal, answers),
-    };
-    drop(loaded);
-    answered
-}
-
-fn files_of(alloc: Global, fields: &Fields) -> Result<MemoryFiles, CaseFault> {
-    let path = fields.text_or("file", "/w/shop/compose.yaml")?;
-    let bytes = fields.bytes("load")?;
-    let failing = fields.numbers("failing")?;
-    Ok(MemoryFiles::new(only_file(alloc, path, bytes)?, failing))
-}
-
-fn only_file(alloc: Global, path: Text, bytes: List<u8>) -> Result<TextMap<List<u8>>, Memory> {
-    let mut files = TextMap::new(alloc);
-    let put = files.put(path, bytes);
-    if put.is_ok() {
-        Ok(files)
-    } else {
-        drop(files);
-        Err(Memory)
+    match &loaded {
+        Ok(project) => put_project(project, answers),
+        Err(refusal) => refuse_load(refusal, answers),
     }
+    drop(loaded);
 }
 
-fn refuse_load(
-    alloc: Global,
-    refusal: &PlainRefusal,
-    answers: &mut Answers,
-) -> Result<(), CaseFault> {
-    answers.put_number("status", u64::from(refusal_status(refusal)))?;
-    let words = refusal_words(alloc, refusal)?;
-    answers.refuse(words.as_str())
+fn files_of(reading: &mut Reading, fields: &Fields) -> MemoryFiles {
+    let path = reading.text_or(fields, "file", "/w/shop/compose.yaml");
+    let bytes = reading.bytes_at(fields, "load");
+    let failing = reading.numbers(fields, "failing");
+    MemoryFiles::new(only_file(reading, path, bytes), failing)
 }
 
-fn put_project(alloc: Global, project: &Project, answers: &mut Answers) -> Result<(), CaseFault>
+fn only_file(reading: &mut Reading, path: Text, bytes: List<u8>) -> TextMap<List<u8>> {
+    let mut files = TextMap::new(reading.alloc);
+    let put = files.put(path, bytes);
+    if put.is_err() {
+        reading.memory();
+    }
+    files
+}
+
+fn refuse_load(refusal: &PlainRefusal, answers: &mut Answers) {
+    answers.put_number("status", u64::from(refusal_status(refusal)));
+    let words = refusal_words(answers.reading.alloc, refusal);
+    answers.put_said("refused", words);
+}
+
+fn put_project(project: &Project, answers: &mut Answers)
     requires order { IsInOrder project.now.services }
 {
-    put_pages(alloc, project, answers)?;
+    let alloc = answers.reading.alloc;
+    answers.put_said("yaml", page(alloc, project));
+    answers.put_said("json", page_json(alloc, project));
+    put_services(project, answers);
+}
+
+fn put_services(project: &Project, answers: &mut Answers) {
     let services = project.services.as_slice();
-    answers.put_number("count", services.len() as u64)?;
-    answers.put_number("bytes", bytes_in(services))?;
-    answers.put("project", project_tree(alloc, &project.name, services)?)
-}
-
-fn put_pages(alloc: Global, project: &Project, answers: &mut Answers) -> Result<(), CaseFault>
-    requires order { IsInOrder project.now.services }
-{
-    let yaml = page(alloc, project)?;
-    answers.put_text("yaml", yaml.as_str())?;
-    let json = page_json(alloc, project)?;
-    answers.put_text("json", json.as_str())
+    answers.put_number("count", services.len() as u64);
+    answers.put_number("bytes", bytes_in(services));
+    let tree = project_tree(answers.reading.alloc, &project.name, services);
+    answers.put_made("project", tree);
 }
 
 fn bytes_in(services: &[Service]) -> u64 {

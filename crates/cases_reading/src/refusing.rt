@@ -1,13 +1,7 @@
-use case_files::{Answers, CaseFault};
-use std::alloc::Global;
+use case_files::Answers;
 use std::fmt;
 
 /// Puts a refusal, in the words that it prints.
-pub(crate) fn refuse(
-    alloc: Global,
-    refusal: &impl fmt::Display,
-    answers: &mut Answers,
-) -> Result<(), CaseFault> {
-    let words = format!(in alloc; "{refusal}")?;
-    answers.refuse(words.as_str())
+pub(crate) fn refuse(refusal: &impl fmt::Display, answers: &mut Answers) {
+    answers.put_printed("refused", format!(in answers.reading.alloc; "{refusal}"));
 }

@@ -1,120 +1,84 @@
-use case_files::{Answers, CaseFault, Fields};
+use case_files::{Answers, Fields, Line};
 use cases_ground::path_tree;
 use interpolate::{SubstRefusal, SubstTreeRefusal, subst, subst_tree};
-use std::alloc::Global;
-use tree_base::{Env, Path, Text, Tree};
+use tree_base::{Path, Tree};
 
-/// `substitute: TEXT` under `variables`: its value as `text`, with so many `bytes`.
-pub(crate) fn substitute(
-    alloc: Global,
-    fields: &Fields,
-    answers: &mut Answers,
-) -> Result<(), CaseFault> {
-    let variables = fields.variables("variables")?;
-    let answered = put_substituted(alloc, fields, &variables, answers);
-    drop(variables);
-    answered
-}
-
-/// What was substituted is dropped by a call: a drop in place is proved variant by variant.
-fn put_substituted(
-    alloc: Global,
-    fields: &Fields,
-    variables: &Env,
-    answers: &mut Answers,
-) -> Result<(), CaseFault> {
-    let text = fields.text("substitute")?;
-    let substituted = subst(alloc, &text, variables);
-    let answered = match &substituted {
-        Ok(value) => put_value(value, answers),
-        Err(refusal) => refuse_text(alloc, refusal, answers),
-    };
-    drop(substituted);
-    answered
-}
-
-fn put_value(value: &Text, answers: &mut Answers) -> Result<(), CaseFault> {
-    answers.put_number("bytes", value.len() as u64)?;
-    answers.put_text("text", value.as_str())
-}
-
-fn refuse_text(
-    alloc: Global,
-    refusal: &SubstRefusal,
-    answers: &mut Answers,
-) -> Result<(), CaseFault> {
-    let words = refusal_words(alloc, refusal)?;
-    answers.refuse(words.as_str())
-}
-
-/// Why a text isn't substituted, in words.
-pub(crate) fn refusal_words(alloc: Global, refusal: &SubstRefusal) -> Result<String, CaseFault> {
-    match refusal {
-        SubstRefusal::Unclosed { at } => Ok(format!(in alloc; "Unclosed {at}")?),
-        SubstRefusal::BadForm { at } => Ok(format!(in alloc; "BadForm {at}")?),
-        SubstRefusal::RequiredVariable { name, message } => {
-            Ok(format!(in alloc; "RequiredVariable {name}: {message}")?)
+/// `substitute: TEXT` under `variables`: its value as `text`, with so many `bytes`. What was substituted is dropped by a
+/// call: a drop in place is proved variant by variant.
+pub(crate) fn substitute(fields: &Fields, answers: &mut Answers) {
+    let variables = answers.reading.variables(fields, "variables");
+    let text = answers.reading.text_at(fields, "substitute");
+    let substituted = subst(answers.reading.alloc, &text, &variables);
+    match &substituted {
+        Ok(value) => {
+            answers.put_number("bytes", value.len() as u64);
+            answers.put_text("text", value.as_str());
         }
-        SubstRefusal::Memory => Err(CaseFault::Memory),
+        Err(refusal) => refuse_text(refusal, answers),
     }
+    drop(substituted);
+}
+
+fn refuse_text(refusal: &SubstRefusal, answers: &mut Answers) {
+    let mut words = Line::new(answers.reading.alloc);
+    say_refusal(&mut words, refusal);
+    answers.put_line("refused", words);
+}
+
+/// Says why a text isn't substituted.
+pub(crate) fn say_refusal(words: &mut Line, refusal: &SubstRefusal) {
+    match refusal {
+        SubstRefusal::Unclosed { at } => say_at(words, "Unclosed", *at),
+        SubstRefusal::BadForm { at } => say_at(words, "BadForm", *at),
+        SubstRefusal::RequiredVariable { name, message } => {
+            words.word("RequiredVariable");
+            words.word(name.as_str());
+            words.put(": ");
+            words.put(message.as_str());
+        }
+        SubstRefusal::Memory => words.fail(),
+    }
+}
+
+/// Says a fault and its place.
+pub(crate) fn say_at(words: &mut Line, fault: &str, at: u32) {
+    words.word(fault);
+    words.number(u64::from(at));
 }
 
 /// `substitute_tree: TREE` under `variables`: the `tree` that it gives, with so many `bytes` of keys and scalars; the
 /// refusal of a scalar has the path to it as `at`.
-pub(crate) fn substitute_tree(
-    alloc: Global,
-    fields: &Fields,
-    answers: &mut Answers,
-) -> Result<(), CaseFault> {
-    let variables = fields.variables("variables")?;
-    let answered = put_substituted_tree(alloc, fields, &variables, answers);
-    drop(variables);
-    answered
-}
-
-fn put_substituted_tree(
-    alloc: Global,
-    fields: &Fields,
-    variables: &Env,
-    answers: &mut Answers,
-) -> Result<(), CaseFault> {
-    match subst_tree(alloc, fields.tree("substitute_tree")?, variables) {
-        Ok(tree) => put_tree(tree, answers),
-        Err(refusal) => {
-            let answered = refuse_tree(alloc, &refusal, answers);
-            drop(refusal);
-            answered
+pub(crate) fn substitute_tree(fields: &Fields, answers: &mut Answers) {
+    let variables = answers.reading.variables(fields, "variables");
+    if let Some(tree) = answers.reading.tree_at(fields, "substitute_tree") {
+        match subst_tree(answers.reading.alloc, tree, &variables) {
+            Ok(tree) => put_tree(tree, answers),
+            Err(refusal) => {
+                refuse_tree(&refusal, answers);
+                drop(refusal);
+            }
         }
     }
 }
 
-fn put_tree(tree: Tree, answers: &mut Answers) -> Result<(), CaseFault> {
+fn put_tree(tree: Tree, answers: &mut Answers) {
     let bytes = tree.text_within(u64::MAX);
-    answers.put("tree", tree)?;
-    match bytes {
-        Some(bytes) => answers.put_number("bytes", bytes),
-        None => Ok(()),
+    answers.put("tree", tree);
+    if let Some(bytes) = bytes {
+        answers.put_number("bytes", bytes);
     }
 }
 
-fn refuse_tree(
-    alloc: Global,
-    refusal: &SubstTreeRefusal,
-    answers: &mut Answers,
-) -> Result<(), CaseFault> {
+fn refuse_tree(refusal: &SubstTreeRefusal, answers: &mut Answers) {
     match refusal {
-        SubstTreeRefusal::At { path, cause } => refuse_at(alloc, path, cause, answers),
+        SubstTreeRefusal::At { path, cause } => refuse_at(path, cause, answers),
         SubstTreeRefusal::TooMuchText => answers.refuse("TooMuchText"),
-        SubstTreeRefusal::Memory => Err(CaseFault::Memory),
+        SubstTreeRefusal::Memory => answers.reading.memory(),
     }
 }
 
-fn refuse_at(
-    alloc: Global,
-    path: &Path,
-    cause: &SubstRefusal,
-    answers: &mut Answers,
-) -> Result<(), CaseFault> {
-    refuse_text(alloc, cause, answers)?;
-    answers.put("at", path_tree(alloc, path)?)
+fn refuse_at(path: &Path, cause: &SubstRefusal, answers: &mut Answers) {
+    refuse_text(cause, answers);
+    let at = path_tree(answers.reading.alloc, path);
+    answers.put_made("at", at);
 }

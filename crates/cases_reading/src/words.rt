@@ -1,73 +1,60 @@
 use crate::options::options_line;
 use crate::refusing::refuse;
-use case_files::{Answers, CaseFault, Fields};
-use cases_ground::{is_word, scalar_in};
+use case_files::{Answers, Fields, Reading};
+use cases_ground::is_word;
 use compose_words::{
     Notice, Options, WordsRefusal, help_text, notice_of, read_words, version_text,
 };
-use std::alloc::Global;
-use tree_base::{List, Text};
+use tree_base::{List, Memory, Text, Tree};
 
 /// How many words a case may have.
 const MOST_WORDS: usize = 100_000;
 
 /// The words of a case: a sequence, or one text with a space between words.
-pub(crate) fn words_in(alloc: Global, fields: &Fields, key: &str) -> Result<List<Text>, CaseFault> {
-    match line_in(fields, key) {
-        Some(line) => words_of(alloc, line.as_str()),
-        None => fields.texts(key),
+pub(crate) fn words_in(reading: &mut Reading, fields: &Fields, key: &str) -> List<Text> {
+    match fields.find(key) {
+        Some(Tree::Scalar(line)) => words_of(reading, line.as_str()),
+        _ => reading.texts(fields, key),
     }
-}
-
-fn line_in<'c>(fields: &Fields<'c>, key: &str) -> Option<&'c Text> {
-    scalar_in(fields.find(key)?)
 }
 
 /// The words of a line; none where it is empty.
-pub(crate) fn words_of(alloc: Global, line: &str) -> Result<List<Text>, CaseFault> {
-    let mut words = List::new(alloc);
+pub(crate) fn words_of(reading: &mut Reading, line: &str) -> List<Text> {
+    let mut words = List::new(reading.alloc);
     if !line.is_empty() {
         for word in line.split(' ') {
-            words.push(Text::from_str(alloc, word)?)?;
+            let word = reading.text(word);
+            reading.push(&mut words, word);
         }
     }
-    Ok(words)
+    words
 }
 
 /// `command_line: WORDS`: the command with its `options`, in one fixed order.
-pub(crate) fn command_line(
-    alloc: Global,
-    fields: &Fields,
-    answers: &mut Answers,
-) -> Result<(), CaseFault> {
-    let words = words_in(alloc, fields, "command_line")?;
+pub(crate) fn command_line(fields: &Fields, answers: &mut Answers) {
+    let words = words_in(&mut answers.reading, fields, "command_line");
     if words.len() < MOST_WORDS {
-        match read_words(alloc, &words) {
-            Ok(options) => {
-                let answered = put_options(alloc, &options, answers);
-                drop(options);
-                answered
-            }
-            Err(WordsRefusal::Memory) => Err(CaseFault::Memory),
-            Err(refusal) => refuse(alloc, &refusal, answers),
-        }
+        let read = read_words(answers.reading.alloc, &words);
+        put_options(&read, answers);
+        drop(read);
     } else {
-        Err(CaseFault::no_case(alloc, "there are too many words"))
+        answers.reading.refuse("there are too many words");
     }
 }
 
-fn put_options(alloc: Global, options: &Options, answers: &mut Answers) -> Result<(), CaseFault> {
-    let line = options_line(alloc, options)?;
-    answers.put_text("options", line.as_str())
+fn put_options(read: &Result<Options, WordsRefusal>, answers: &mut Answers) {
+    match read {
+        Ok(options) => {
+            answers.put_line("options", options_line(answers.reading.alloc, options));
+        }
+        Err(WordsRefusal::Memory) => answers.reading.memory(),
+        Err(refusal) => refuse(refusal, answers),
+    }
 }
 
 /// `question: WORDS`: the `notice` that they ask for, or null.
-pub(crate) fn question(
-    alloc: Global,
-    fields: &Fields,
-    answers: &mut Answers,
-) -> Result<(), CaseFault> {
-    let words = words_in(alloc, fields, "question")?;
+pub(crate) fn question(fields: &Fields, answers: &mut Answers) {
+    let words = words_in(&mut answers.reading, fields, "question");
     match notice_of(&words) {
         Some(Notice::Help) => answers.put_text("notice", "Help"),
         Some(Notice::Version) => answers.put_text("notice", "Version"),
@@ -76,50 +63,40 @@ pub(crate) fn question(
 }
 
 /// `usage: help` or `version`: of the `pieces` those that the text `lacks`, and whether it `begins` with the `beginning`.
-pub(crate) fn usage(
-    alloc: Global,
-    fields: &Fields,
-    answers: &mut Answers,
-) -> Result<(), CaseFault> {
-    let text = usage_text(alloc, fields)?;
-    put_pieces(alloc, text.as_str(), fields, answers)?;
-    put_beginning(text.as_str(), fields, answers)
+pub(crate) fn usage(fields: &Fields, answers: &mut Answers) {
+    let text = usage_text(&mut answers.reading, fields);
+    put_pieces(text.as_str(), fields, answers);
+    let beginning = answers.reading.text_or(fields, "beginning", "");
+    answers.put_flag("begins", text.as_str().starts_with(beginning.as_str()));
 }
 
-fn usage_text(alloc: Global, fields: &Fields) -> Result<Text, CaseFault> {
-    let which = fields.tree("usage")?;
-    if is_word(which, "help") {
-        Ok(help_text(alloc)?)
-    } else if is_word(which, "version") {
-        Ok(version_text(alloc)?)
-    } else {
-        Err(CaseFault::no_case(alloc, "`usage` wants help or version"))
-    }
+fn usage_text(reading: &mut Reading, fields: &Fields) -> Text {
+    let text = match fields.find("usage") {
+        Some(which) if is_word(which, "help") => help_text(reading.alloc),
+        Some(which) if is_word(which, "version") => version_text(reading.alloc),
+        _ => {
+            reading.wants("usage", "help or version");
+            Err(Memory)
+        }
+    };
+    let empty = Text::new(reading.alloc);
+    reading.given(text, empty)
 }
 
-fn put_pieces(
-    alloc: Global,
-    text: &str,
-    fields: &Fields,
-    answers: &mut Answers,
-) -> Result<(), CaseFault> {
-    let pieces = fields.texts("pieces")?;
-    let missing = missing_pieces(alloc, text, pieces.as_slice())?;
-    answers.put_texts("lacks", missing)
+fn put_pieces(text: &str, fields: &Fields, answers: &mut Answers) {
+    let pieces = answers.reading.texts(fields, "pieces");
+    let missing = missing_pieces(&mut answers.reading, text, pieces.as_slice());
+    answers.put_texts("lacks", missing);
 }
 
 /// The pieces that a text doesn't have.
-fn missing_pieces(alloc: Global, text: &str, pieces: &[Text]) -> Result<List<Text>, CaseFault> {
-    let mut missing = List::new(alloc);
+fn missing_pieces(reading: &mut Reading, text: &str, pieces: &[Text]) -> List<Text> {
+    let mut missing = List::new(reading.alloc);
     for piece in pieces {
         if !text.contains(piece.as_str()) {
-            missing.push(piece.copy(alloc)?)?;
+            let piece = reading.text(piece.as_str());
+            reading.push(&mut missing, piece);
         }
     }
-    Ok(missing)
-}
-
-fn put_beginning(text: &str, fields: &Fields, answers: &mut Answers) -> Result<(), CaseFault> {
-    let beginning = fields.text_or("beginning", "")?;
-    answers.put_flag("begins", text.starts_with(beginning.as_str()))
+    missing
 }

@@ -1,6 +1,5 @@
 use crate::{declaring, ending, exactness, labelled, planning, refused, running, serving, values};
-use case_files::{Answers, CaseFault, Fields};
-use std::alloc::Global;
+use case_files::{Answers, Fields};
 
 /// The inputs of a call beside its main one, or None where the call isn't one of this crate.
 pub fn inputs_of(call: &str) -> Option<&'static [&'static str]> {
@@ -17,22 +16,17 @@ pub fn inputs_of(call: &str) -> Option<&'static [&'static str]> {
     }
 }
 
-/// Makes the call of a case. Only where `inputs_of` knows the call.
-pub fn answer(
-    alloc: Global,
-    call: &str,
-    fields: &Fields,
-    answers: &mut Answers,
-) -> Result<(), CaseFault> {
+/// Makes the call of a case.
+pub fn answer(call: &str, fields: &Fields, answers: &mut Answers) {
     match call {
-        "serve" => serving::serve(alloc, fields, answers),
-        "plan" => planning::plan(alloc, fields, answers),
-        "ending" => ending::ending(alloc, fields, answers),
-        "run" => running::run(alloc, fields, answers),
-        "exact" => exactness::exact(alloc, fields, answers),
-        "membership" => labelled::membership(alloc, fields, answers),
-        "refusal" => refused::refusal(alloc, fields, answers),
-        "declare" => declaring::declare(alloc, fields, answers),
-        _ => values::answer(alloc, call, fields, answers),
+        "serve" => serving::serve(fields, answers),
+        "plan" => planning::plan(fields, answers),
+        "ending" => ending::ending(fields, answers),
+        "run" => running::run(fields, answers),
+        "exact" => exactness::exact(fields, answers),
+        "membership" => labelled::membership(fields, answers),
+        "refusal" => refused::refusal(fields, answers),
+        "declare" => declaring::declare(fields, answers),
+        _ => values::answer(call, fields, answers),
     }
 }

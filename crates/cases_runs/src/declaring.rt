@@ -1,52 +1,55 @@
-use case_files::{Answers, CaseFault, Fields};
+use case_files::{Answers, Fields, Line, Lines, Reading};
 use engine_types::{Declared, Slot, label, labels};
 use identity::declare as declare_project;
 use service_attrs::{Project, Service};
 use std::alloc::Global;
-use tree_base::{Env, List, Memory, Text};
+use tree_base::{Env, List};
 
 /// What a project with these services, images under names in their order, declares: its `slots`, each as `NAME HASH` by
 /// the label of the hash.
-pub(crate) fn declare(
-    alloc: Global,
-    fields: &Fields,
-    answers: &mut Answers,
-) -> Result<(), CaseFault> {
-    let services = services_of(alloc, &fields.variables("declare")?)?;
-    let name = fields.text("project")?;
-    let declared = declare_project(alloc, &Project { name, services })?;
-    answers.put_texts("slots", slot_lines(alloc, &declared)?)
+pub(crate) fn declare(fields: &Fields, answers: &mut Answers) {
+    let project = project_at(&mut answers.reading, fields);
+    let declared = declare_project(answers.reading.alloc, &project);
+    if let Some(declared) = answers.reading.made(declared) {
+        answers.put_lines("slots", slot_lines(answers.reading.alloc, &declared));
+    }
 }
 
-fn services_of(alloc: Global, images: &Env) -> Result<List<Service>, Memory> {
-    let mut services = List::new(alloc);
+fn project_at(reading: &mut Reading, fields: &Fields) -> Project {
+    let images = reading.variables(fields, "declare");
+    Project {
+        services: services_of(reading, &images),
+        name: reading.text_at(fields, "project"),
+    }
+}
+
+fn services_of(reading: &mut Reading, images: &Env) -> List<Service> {
+    let mut services = List::new(reading.alloc);
     for (name, image) in images.keys().iter().zip(images.values()) {
-        services.push(service_of(alloc, name, image)?)?;
+        let service = Service {
+            key: reading.text(name.as_str()),
+            image: reading.text(image.as_str()),
+        };
+        reading.push(&mut services, service);
     }
-    Ok(services)
+    services
 }
 
-fn service_of(alloc: Global, name: &Text, image: &Text) -> Result<Service, Memory> {
-    Ok(Service {
-        key: name.copy(alloc)?,
-        image: image.copy(alloc)?,
-    })
-}
-
-fn slot_lines(alloc: Global, declared: &Declared) -> Result<List<Text>, Memory> {
-    let mut lines = List::new(alloc);
+fn slot_lines(alloc: Global, declared: &Declared) -> Lines {
+    let mut lines = Lines::new(alloc);
     for slot in declared.slots.as_slice() {
-        lines.push(slot_line(alloc, slot)?)?;
+        lines.push(slot_line(alloc, slot));
     }
-    Ok(lines)
+    lines
 }
 
-fn slot_line(alloc: Global, slot: &Slot) -> Result<Text, Memory> {
-    let name = &slot.name;
+fn slot_line(alloc: Global, slot: &Slot) -> Line {
     let hash = match label(&slot.spec.get().labels, labels::HASH) {
         Some(hash) => hash.as_str(),
         None => "none",
     };
-    let line = format!(in alloc; "{name} {hash}")?;
-    Ok(Text::from_string(line))
+    let mut line = Line::new(alloc);
+    line.word(slot.name.as_str());
+    line.word(hash);
+    line
 }

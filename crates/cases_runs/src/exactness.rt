@@ -1,45 +1,32 @@
-use case_files::{Answers, CaseFault, Fields};
+use case_files::{Answers, Fields};
 use cases_values::{declared_of, engine_of};
 use engine_types::{Declared, Engine};
-use std::alloc::Global;
 use world_laws::exact as is_exact;
 
 /// Whether an Engine holds exactly what is declared: where orphans may stay, `with_orphans`, and where they may not,
 /// `without_orphans`.
-pub(crate) fn exact(
-    alloc: Global,
-    fields: &Fields,
-    answers: &mut Answers,
-) -> Result<(), CaseFault> {
-    match fields.fields("exact")? {
-        Some(of) => exact_of(alloc, fields, &declared_of(alloc, &of)?, answers),
-        None => Err(CaseFault::missing(alloc, "exact")),
+pub(crate) fn exact(fields: &Fields, answers: &mut Answers) {
+    if let Some(of) = answers.reading.fields_at(fields, "exact") {
+        let declared = declared_of(&mut answers.reading, &of);
+        exact_of(fields, &declared, answers);
     }
 }
 
-fn exact_of(
-    alloc: Global,
-    fields: &Fields,
-    declared: &Declared,
-    answers: &mut Answers,
-) -> Result<(), CaseFault> {
-    match fields.fields("engine")? {
-        Some(of) => {
-            let engine = engine_of(alloc, &of, &declared.project)?;
-            put_exact(alloc, declared, &engine, answers)
-        }
-        None => Err(CaseFault::missing(alloc, "engine")),
+fn exact_of(fields: &Fields, declared: &Declared, answers: &mut Answers) {
+    if let Some(of) = answers.reading.fields_at(fields, "engine") {
+        let engine = engine_of(&mut answers.reading, &of, &declared.project);
+        put_exact("with_orphans", declared, &engine, false, answers);
+        put_exact("without_orphans", declared, &engine, true, answers);
     }
 }
 
 fn put_exact(
-    alloc: Global,
+    name: &str,
     declared: &Declared,
     engine: &Engine,
+    orphans: bool,
     answers: &mut Answers,
-) -> Result<(), CaseFault> {
-    let stay = is_exact(alloc, declared, engine, false)?;
-    answers.put_flag("with_orphans", stay)?;
-    let go = is_exact(alloc, declared, engine, true)?;
-    answers.put_flag("without_orphans", go)
+) {
+    let told = is_exact(answers.reading.alloc, declared, engine, orphans);
+    answers.put_told(name, told);
 }

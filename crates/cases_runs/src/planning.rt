@@ -1,7 +1,7 @@
-use case_files::{Answers, CaseFault, Fields};
+use case_files::{Answers, Fields, Lines, Reading};
 use cases_messages::purpose_of;
 use cases_values::{declared_of, plan_lines, seen_of};
-use engine_types::{Declared, Plan, Purpose, Seen};
+use engine_types::{Declared, Plan, Purpose, Seen, Slot};
 use plan_core::{PlanRefusal, plan_down, plan_up};
 use run_lookups::kept_of;
 use serial_run::Aim;
@@ -10,39 +10,19 @@ use tree_base::{List, Memory, Text};
 
 /// The plan of `up` or `down` for what is declared and what was seen: its `actions`, and the ids of the containers that
 /// slots keep, `kept` (`none` of a slot that keeps none).
-pub(crate) fn plan(alloc: Global, fields: &Fields, answers: &mut Answers) -> Result<(), CaseFault> {
-    let aim = aim_of(alloc, fields, "plan")?;
-    let declared = declared_at(alloc, fields)?;
-    plan_of(alloc, fields, &declared, aim, answers)
-}
-
-fn plan_of(
-    alloc: Global,
-    fields: &Fields,
-    declared: &Declared,
-    aim: Aim,
-    answers: &mut Answers,
-) -> Result<(), CaseFault> {
-    let seen = seen_at(alloc, fields, &declared.project)?;
-    plan_for(alloc, declared, &seen, aim, answers)
-}
-
-fn plan_for(
-    alloc: Global,
-    declared: &Declared,
-    seen: &Seen,
-    aim: Aim,
-    answers: &mut Answers,
-) -> Result<(), CaseFault> {
-    answers.put_texts("kept", kept_ids(alloc, declared, seen)?)?;
-    put_plan(alloc, planned(alloc, declared, seen, aim), answers)
+pub(crate) fn plan(fields: &Fields, answers: &mut Answers) {
+    let aim = aim_of(&mut answers.reading, fields, "plan");
+    let declared = declared_at(&mut answers.reading, fields);
+    let seen = seen_at(&mut answers.reading, fields, &declared.project);
+    answers.put_lines("kept", kept_ids(answers.reading.alloc, &declared, &seen));
+    put_plan(&declared, &seen, aim, answers);
 }
 
 /// What is declared, the empty project where the case doesn't say.
-pub(crate) fn declared_at(alloc: Global, fields: &Fields) -> Result<Declared, CaseFault> {
-    match fields.fields("declared")? {
-        Some(fields) => declared_of(alloc, &fields),
-        None => Ok(nothing_declared(alloc)),
+pub(crate) fn declared_at(reading: &mut Reading, fields: &Fields) -> Declared {
+    match reading.fields(fields, "declared") {
+        Some(fields) => declared_of(reading, &fields),
+        None => nothing_declared(reading.alloc),
     }
 }
 
@@ -57,10 +37,10 @@ fn nothing_declared(alloc: Global) -> Declared {
 }
 
 /// What was seen, nothing where the case doesn't say.
-pub(crate) fn seen_at(alloc: Global, fields: &Fields, project: &Text) -> Result<Seen, CaseFault> {
-    match fields.fields("seen")? {
-        Some(fields) => seen_of(alloc, &fields, project),
-        None => Ok(nothing_seen(alloc)),
+pub(crate) fn seen_at(reading: &mut Reading, fields: &Fields, project: &Text) -> Seen {
+    match reading.fields(fields, "seen") {
+        Some(fields) => seen_of(reading, &fields, project),
+        None => nothing_seen(reading.alloc),
     }
 }
 
@@ -74,16 +54,22 @@ fn nothing_seen(alloc: Global) -> Seen {
 }
 
 /// What a run is for: the word under a key, with `orphans` and `volumes`.
-pub(crate) fn aim_of(alloc: Global, fields: &Fields, key: &str) -> Result<Aim, CaseFault> {
-    let orphans = fields.is_set("orphans")?;
-    let volumes = fields.is_set("volumes")?;
-    match purpose_of(fields.text(key)?.as_str()) {
-        Some(purpose) => Ok(Aim {
-            purpose,
-            orphans,
-            volumes,
-        }),
-        None => Err(CaseFault::wants(alloc, key, "up or down")),
+pub(crate) fn aim_of(reading: &mut Reading, fields: &Fields, key: &str) -> Aim {
+    Aim {
+        purpose: purpose_at(reading, fields, key),
+        orphans: reading.flag(fields, "orphans"),
+        volumes: reading.flag(fields, "volumes"),
+    }
+}
+
+fn purpose_at(reading: &mut Reading, fields: &Fields, key: &str) -> Purpose {
+    let word = reading.text_at(fields, key);
+    match purpose_of(word.as_str()) {
+        Some(purpose) => purpose,
+        None => {
+            reading.wants(key, "up or down");
+            Purpose::Up
+        }
     }
 }
 
@@ -94,30 +80,29 @@ fn planned(alloc: Global, declared: &Declared, seen: &Seen, aim: Aim) -> Result<
     }
 }
 
-fn put_plan(
-    alloc: Global,
-    plan: Result<Plan, PlanRefusal>,
-    answers: &mut Answers,
-) -> Result<(), CaseFault> {
-    match plan {
-        Ok(plan) => answers.put_texts("actions", plan_lines(alloc, &plan)?),
+fn put_plan(declared: &Declared, seen: &Seen, aim: Aim, answers: &mut Answers) {
+    let alloc = answers.reading.alloc;
+    match planned(alloc, declared, seen, aim) {
+        Ok(plan) => answers.put_lines("actions", plan_lines(alloc, &plan)),
         Err(PlanRefusal::TooManyActions { count }) => {
-            let words = format!(in alloc; "too many actions {count}")?;
-            answers.refuse(words.as_str())
+            answers.put_printed("refused", format!(in alloc; "too many actions {count}"));
         }
-        Err(PlanRefusal::Memory) => Err(CaseFault::Memory),
+        Err(PlanRefusal::Memory) => answers.reading.memory(),
     }
 }
 
 /// The ids of the containers that slots keep.
-fn kept_ids(alloc: Global, declared: &Declared, seen: &Seen) -> Result<List<Text>, Memory> {
-    let mut ids = List::new(alloc);
+fn kept_ids(alloc: Global, declared: &Declared, seen: &Seen) -> Lines {
+    let mut ids = Lines::new(alloc);
     for slot in declared.slots.as_slice() {
-        let id = match kept_of(alloc, declared, seen, slot)? {
-            Some(row) => row.id.as_str(),
-            None => "none",
-        };
-        ids.push(Text::from_str(alloc, id)?)?;
+        ids.push_text(kept_id(alloc, declared, seen, slot));
     }
-    Ok(ids)
+    ids
+}
+
+fn kept_id(alloc: Global, declared: &Declared, seen: &Seen, slot: &Slot) -> Result<Text, Memory> {
+    match kept_of(alloc, declared, seen, slot)? {
+        Some(row) => row.id.copy(alloc),
+        None => Text::from_str(alloc, "none"),
+    }
 }

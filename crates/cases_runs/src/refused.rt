@@ -1,8 +1,7 @@
 use crate::ending::put_refusal_line;
-use case_files::{Answers, CaseFault, Fields, text_of};
+use case_files::{Answers, Fields, Reading};
 use cases_values::run_fault_of;
 use refusals::{LoadRefusal, Part, ProjectRefusal, Refusal, Unbuilt, refusal_of, status_of};
-use std::alloc::Global;
 use tree_base::{List, Path, Place, Step, Text, Tree};
 use yaml_lines::{YamlFault, YamlRefusal};
 
@@ -10,99 +9,88 @@ use yaml_lines::{YamlFault, YamlRefusal};
 /// keys of `run_fault_of`, or another one: `not_built: words`, or `not_built` with the steps of a path, `[12]` for a place;
 /// `load` with the fault's name and a `path`, and `line` and `column` where it is one of a text; `name`, a project's
 /// name that is none; `services`, how many there are too many; `outside: Plug` or `Out`.
-pub(crate) fn refusal(
-    alloc: Global,
-    fields: &Fields,
-    answers: &mut Answers,
-) -> Result<(), CaseFault> {
-    match fields.fields("refusal")? {
-        Some(fields) => {
-            let refusal = refusal_where(alloc, &fields)?;
-            let put = put_refusal(alloc, &refusal, answers);
-            drop(refusal);
-            put
-        }
-        None => Err(CaseFault::missing(alloc, "refusal")),
+pub(crate) fn refusal(fields: &Fields, answers: &mut Answers) {
+    if let Some(fields) = answers.reading.fields_at(fields, "refusal") {
+        let refusal = refusal_where(&mut answers.reading, &fields);
+        put_refusal(&refusal, answers);
+        drop(refusal);
     }
 }
 
 /// The refusal of a mapping, None where it says so.
-fn refusal_where(alloc: Global, fields: &Fields) -> Result<Option<Refusal>, CaseFault> {
+fn refusal_where(reading: &mut Reading, fields: &Fields) -> Option<Refusal> {
     if fields.has("none") {
-        Ok(None)
+        None
     } else {
-        Ok(Some(refusal_by(alloc, fields)?))
+        Some(refusal_by(reading, fields))
     }
 }
 
-fn put_refusal(
-    alloc: Global,
-    refusal: &Option<Refusal>,
-    answers: &mut Answers,
-) -> Result<(), CaseFault> {
-    answers.put_number("status", u64::from(status_of(refusal)))?;
-    match refusal {
-        Some(refusal) => put_refusal_line(alloc, "line", refusal, answers),
-        None => Ok(()),
+fn put_refusal(refusal: &Option<Refusal>, answers: &mut Answers) {
+    answers.put_number("status", u64::from(status_of(refusal)));
+    if let Some(refusal) = refusal {
+        put_refusal_line("line", refusal, answers);
     }
 }
 
 /// The refusal of a mapping: that of a run's fault, else one of its own.
-fn refusal_by(alloc: Global, fields: &Fields) -> Result<Refusal, CaseFault> {
-    match run_fault_of(alloc, fields)? {
-        Some(fault) => Ok(refusal_of(fault)),
-        None => other_refusal(alloc, fields),
+fn refusal_by(reading: &mut Reading, fields: &Fields) -> Refusal {
+    match run_fault_of(reading, fields) {
+        Some(fault) => refusal_of(fault),
+        None => other_refusal(reading, fields),
     }
 }
 
-fn other_refusal(alloc: Global, fields: &Fields) -> Result<Refusal, CaseFault> {
+fn other_refusal(reading: &mut Reading, fields: &Fields) -> Refusal {
     if let Some(tree) = fields.find("not_built") {
-        return Ok(Refusal::NotBuilt(unbuilt_of(alloc, tree)?));
-    }
-    if fields.has("load") {
-        return load_refusal(alloc, fields);
-    }
-    if fields.has("name") {
-        let name = fields.text("name")?;
-        return Ok(Refusal::Name(ProjectRefusal::BadName { name }));
-    }
-    if fields.has("services") {
-        return services_refusal(alloc, fields);
-    }
-    outside_refusal(alloc, fields)
-}
-
-fn services_refusal(alloc: Global, fields: &Fields) -> Result<Refusal, CaseFault> {
-    match u32::try_from(fields.number("services")?) {
-        Ok(count) => Ok(Refusal::Project(ProjectRefusal::TooManyServices { count })),
-        Err(_) => Err(CaseFault::wants(alloc, "services", "a number of 32 bits")),
+        Refusal::NotBuilt(unbuilt_of(reading, tree))
+    } else if fields.has("load") {
+        Refusal::Load(load_refusal(reading, fields))
+    } else if fields.has("name") {
+        Refusal::Name(ProjectRefusal::BadName {
+            name: reading.text_at(fields, "name"),
+        })
+    } else if fields.has("services") {
+        Refusal::Project(ProjectRefusal::TooManyServices {
+            count: reading.small_at(fields, "services"),
+        })
+    } else {
+        Refusal::Outside(part_at(reading, fields))
     }
 }
 
-fn outside_refusal(alloc: Global, fields: &Fields) -> Result<Refusal, CaseFault> {
-    match fields.text("outside")?.as_str() {
-        "Plug" => Ok(Refusal::Outside(Part::Plug)),
-        "Out" => Ok(Refusal::Outside(Part::Out)),
-        _ => Err(CaseFault::wants(alloc, "outside", "Plug or Out")),
+fn part_at(reading: &mut Reading, fields: &Fields) -> Part {
+    let word = reading.text_at(fields, "outside");
+    match word.as_str() {
+        "Plug" => Part::Plug,
+        "Out" => Part::Out,
+        _ => {
+            reading.wants("outside", "Plug or Out");
+            Part::Out
+        }
     }
 }
 
-fn unbuilt_of(alloc: Global, tree: &Tree) -> Result<Unbuilt, CaseFault> {
+fn unbuilt_of(reading: &mut Reading, tree: &Tree) -> Unbuilt {
     match tree {
-        Tree::Seq(steps) => Ok(Unbuilt::Attribute {
-            path: path_of(alloc, steps.as_slice())?,
-        }),
-        Tree::Scalar(text) if text.as_str() == "words" => Ok(Unbuilt::Words),
-        _ => Err(CaseFault::wants(alloc, "not_built", "`words` or steps")),
+        Tree::Seq(steps) => Unbuilt::Attribute {
+            path: path_of(reading, steps.as_slice()),
+        },
+        Tree::Scalar(text) if text.as_str() == "words" => Unbuilt::Words,
+        _ => {
+            reading.wants("not_built", "`words` or steps");
+            Unbuilt::Words
+        }
     }
 }
 
-fn path_of(alloc: Global, steps: &[Tree]) -> Result<Path, CaseFault> {
-    let mut path = List::new(alloc);
+fn path_of(reading: &mut Reading, steps: &[Tree]) -> Path {
+    let mut path = List::new(reading.alloc);
     for tree in steps {
-        path.push(step_of(text_of(alloc, tree, "not_built")?))?;
+        let text = reading.text_of(tree, "not_built");
+        reading.push(&mut path, step_of(text));
     }
-    Ok(path)
+    path
 }
 
 /// The step of a text: `[12]` is a place.
@@ -120,60 +108,56 @@ fn place_of(text: &str) -> Option<u32> {
         .ok()
 }
 
-fn load_refusal(alloc: Global, fields: &Fields) -> Result<Refusal, CaseFault> {
-    let word = fields.text("load")?;
-    let path = fields.text("path")?;
+fn load_refusal(reading: &mut Reading, fields: &Fields) -> LoadRefusal {
+    let word = reading.text_at(fields, "load");
+    let path = reading.text_at(fields, "path");
     match word.as_str() {
-        "NotFound" => Ok(Refusal::Load(LoadRefusal::NotFound { path })),
-        "ReadFault" => Ok(Refusal::Load(LoadRefusal::ReadFault { path })),
-        "FileTooLarge" => Ok(Refusal::Load(LoadRefusal::FileTooLarge { path })),
-        word => {
-            let refusal = yaml_refusal(alloc, fields, word)?;
-            Ok(Refusal::Load(LoadRefusal::Yaml { path, refusal }))
-        }
+        "NotFound" => LoadRefusal::NotFound { path },
+        "ReadFault" => LoadRefusal::ReadFault { path },
+        "FileTooLarge" => LoadRefusal::FileTooLarge { path },
+        word => LoadRefusal::Yaml {
+            path,
+            refusal: yaml_refusal(reading, fields, word),
+        },
     }
 }
 
-fn yaml_refusal(alloc: Global, fields: &Fields, word: &str) -> Result<YamlRefusal, CaseFault> {
-    let place = text_place(alloc, fields)?;
+fn yaml_refusal(reading: &mut Reading, fields: &Fields, word: &str) -> YamlRefusal {
+    let place = text_place(reading, fields);
     match word {
-        "TooDeep" => Ok(YamlRefusal::TooDeep { place }),
-        "TooManyNodes" => Ok(YamlRefusal::TooManyNodes { place }),
-        "TooMuchText" => Ok(YamlRefusal::TooMuchText { place }),
-        word => Ok(YamlRefusal::Bad {
-            which: yaml_fault(alloc, word)?,
+        "TooDeep" => YamlRefusal::TooDeep { place },
+        "TooManyNodes" => YamlRefusal::TooManyNodes { place },
+        "TooMuchText" => YamlRefusal::TooMuchText { place },
+        word => YamlRefusal::Bad {
+            which: yaml_fault(reading, word),
             place,
-        }),
+        },
     }
 }
 
-fn text_place(alloc: Global, fields: &Fields) -> Result<Place, CaseFault> {
-    Ok(Place {
+fn text_place(reading: &mut Reading, fields: &Fields) -> Place {
+    Place {
         file: 0,
-        line: small_at(alloc, fields, "line")?,
-        column: small_at(alloc, fields, "column")?,
-    })
-}
-
-fn small_at(alloc: Global, fields: &Fields, key: &str) -> Result<u32, CaseFault> {
-    match u32::try_from(fields.number(key)?) {
-        Ok(number) => Ok(number),
-        Err(_) => Err(CaseFault::wants(alloc, key, "a number of 32 bits")),
+        line: reading.small_at(fields, "line"),
+        column: reading.small_at(fields, "column"),
     }
 }
 
-fn yaml_fault(alloc: Global, word: &str) -> Result<YamlFault, CaseFault> {
+fn yaml_fault(reading: &mut Reading, word: &str) -> YamlFault {
     match word {
-        "BadUtf8" => Ok(YamlFault::BadUtf8),
-        "TabIndent" => Ok(YamlFault::TabIndent),
-        "BadScalar" => Ok(YamlFault::BadScalar),
-        "BadIndent" => Ok(YamlFault::BadIndent),
-        "BadFlow" => Ok(YamlFault::BadFlow),
-        "RepeatedKey" => Ok(YamlFault::RepeatedKey),
-        "UnknownAlias" => Ok(YamlFault::UnknownAlias),
-        "BadMerge" => Ok(YamlFault::BadMerge),
-        "BadTag" => Ok(YamlFault::BadTag),
-        "Unsupported" => Ok(YamlFault::Unsupported),
-        _ => Err(CaseFault::wants(alloc, "load", "the name of a fault")),
+        "BadUtf8" => YamlFault::BadUtf8,
+        "TabIndent" => YamlFault::TabIndent,
+        "BadScalar" => YamlFault::BadScalar,
+        "BadIndent" => YamlFault::BadIndent,
+        "BadFlow" => YamlFault::BadFlow,
+        "RepeatedKey" => YamlFault::RepeatedKey,
+        "UnknownAlias" => YamlFault::UnknownAlias,
+        "BadMerge" => YamlFault::BadMerge,
+        "BadTag" => YamlFault::BadTag,
+        "Unsupported" => YamlFault::Unsupported,
+        _ => {
+            reading.wants("load", "the name of a fault");
+            YamlFault::Unsupported
+        }
     }
 }

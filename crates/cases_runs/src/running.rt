@@ -2,11 +2,11 @@ use crate::ending::put_fault;
 use crate::planning::{aim_of, declared_at};
 use crate::serving::memory_at;
 use crate::whole::is_serial;
-use case_files::{Answers, CaseFault, Fields};
+use case_files::{Answers, Fields};
 use cases_messages::exchange_lines;
 use cases_values::{engine_lines, journal_lines};
 use engine_hand::MemoryHand;
-use engine_types::{Declared, Entry};
+use engine_types::Declared;
 use project_run::{Aim, Ran, run_project};
 use std::alloc::Global;
 use world_laws::exact;
@@ -14,36 +14,23 @@ use world_laws::exact;
 /// A run of `up` or `down` of one worker for what is declared, on an Engine in memory: its `journal`, the `exchanges`
 /// of its hand, its `report`, its `status` and the line of its `fault`, what the Engine holds `after` it, and whether
 /// that is `exact`.
-pub(crate) fn run(alloc: Global, fields: &Fields, answers: &mut Answers) -> Result<(), CaseFault> {
-    let aim = aim_of(alloc, fields, "run")?;
-    let declared = declared_at(alloc, fields)?;
-    run_of(alloc, fields, &declared, aim, answers)
-}
-
-fn run_of(
-    alloc: Global,
-    fields: &Fields,
-    declared: &Declared,
-    aim: Aim,
-    answers: &mut Answers,
-) -> Result<(), CaseFault> {
-    let memory = memory_at(alloc, fields, &declared.project)?;
-    let mut hand = MemoryHand::new(alloc, memory);
-    run_on(alloc, &mut hand, declared, aim, answers)
-}
-
-fn run_on(
-    alloc: Global,
-    hand: &mut MemoryHand,
-    declared: &Declared,
-    aim: Aim,
-    answers: &mut Answers,
-) -> Result<(), CaseFault> {
-    match run_with(alloc, hand, declared, aim) {
-        Some(ran) => put_ran(alloc, ran, answers)?,
-        None => return answers.refuse("the declared set is not whole, or something in it waits"),
+pub(crate) fn run(fields: &Fields, answers: &mut Answers) {
+    let aim = aim_of(&mut answers.reading, fields, "run");
+    let declared = declared_at(&mut answers.reading, fields);
+    if let Some(memory) = memory_at(&mut answers.reading, fields, &declared.project) {
+        let mut hand = MemoryHand::new(answers.reading.alloc, memory);
+        run_on(&mut hand, &declared, aim, answers);
     }
-    put_hand(alloc, hand, declared, aim, answers)
+}
+
+fn run_on(hand: &mut MemoryHand, declared: &Declared, aim: Aim, answers: &mut Answers) {
+    match run_with(answers.reading.alloc, hand, declared, aim) {
+        Some(ran) => {
+            put_ran(ran, answers);
+            put_hand(hand, declared, aim, answers);
+        }
+        None => answers.refuse("the declared set is not whole, or something in it waits"),
+    }
 }
 
 /// The run, where the declared set is one that a single worker can carry out.
@@ -55,35 +42,24 @@ fn run_with(alloc: Global, hand: &mut MemoryHand, declared: &Declared, aim: Aim)
     }
 }
 
-fn put_ran(alloc: Global, ran: Ran, answers: &mut Answers) -> Result<(), CaseFault> {
+fn put_ran(ran: Ran, answers: &mut Answers) {
     let Ran {
         journal,
         report,
         fault,
     } = ran;
-    let told = put_told(alloc, journal.as_slice(), report.as_str(), answers);
-    put_fault(alloc, fault, told, answers)
+    answers.put_lines(
+        "journal",
+        journal_lines(answers.reading.alloc, journal.as_slice()),
+    );
+    answers.put_text("report", report.as_str());
+    put_fault(fault, answers);
 }
 
-fn put_told(
-    alloc: Global,
-    journal: &[Entry],
-    report: &str,
-    answers: &mut Answers,
-) -> Result<(), CaseFault> {
-    answers.put_texts("journal", journal_lines(alloc, journal)?)?;
-    answers.put_text("report", report)
-}
-
-fn put_hand(
-    alloc: Global,
-    hand: &MemoryHand,
-    declared: &Declared,
-    aim: Aim,
-    answers: &mut Answers,
-) -> Result<(), CaseFault> {
-    answers.put_texts("exchanges", exchange_lines(alloc, hand.log())?)?;
-    answers.put_texts("after", engine_lines(alloc, &hand.engine.engine)?)?;
-    let exact = exact(alloc, declared, &hand.engine.engine, aim.orphans)?;
-    answers.put_flag("exact", exact)
+fn put_hand(hand: &MemoryHand, declared: &Declared, aim: Aim, answers: &mut Answers) {
+    let alloc = answers.reading.alloc;
+    let engine = &hand.engine.engine;
+    answers.put_lines("exchanges", exchange_lines(alloc, hand.log()));
+    answers.put_lines("after", engine_lines(alloc, engine));
+    answers.put_told("exact", exact(alloc, declared, engine, aim.orphans));
 }

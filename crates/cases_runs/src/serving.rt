@@ -1,73 +1,70 @@
-use case_files::{Answers, CaseFault, Fields, text_of};
-use cases_messages::{reply_line, request_of};
+use case_files::{Answers, Fields, Line, Lines, Reading};
+use cases_messages::{read_request, reply_line};
 use cases_values::{engine_lines, memory_engine_of};
+use engine_types::Reply;
 use memory_engine::MemoryEngine;
 use std::alloc::Global;
-use tree_base::{List, Memory, Text, Tree};
+use tree_base::{Memory, Text};
 
 /// Serves requests one after another on an Engine in memory (absent: a fresh one), where `tick` is a tick of its script:
 /// `replies`, a line each, what the Engine holds `after` them, and how many ticks are `left`.
-pub(crate) fn serve(
-    alloc: Global,
-    fields: &Fields,
-    answers: &mut Answers,
-) -> Result<(), CaseFault> {
-    let mut memory = memory_at(alloc, fields, &Text::new(alloc))?;
-    serve_on(alloc, fields, &mut memory, answers)
+pub(crate) fn serve(fields: &Fields, answers: &mut Answers) {
+    let project = Text::new(answers.reading.alloc);
+    if let Some(mut memory) = memory_at(&mut answers.reading, fields, &project) {
+        serve_on(fields, &mut memory, answers);
+    }
 }
 
-fn serve_on(
-    alloc: Global,
-    fields: &Fields,
-    memory: &mut MemoryEngine,
-    answers: &mut Answers,
-) -> Result<(), CaseFault> {
-    let replies = replies_of(alloc, memory, fields.items("serve")?)?;
-    answers.put_texts("replies", replies)?;
-    answers.put_texts("after", engine_lines(alloc, &memory.engine)?)?;
-    answers.put_number("left", memory.script.len() as u64)
+fn serve_on(fields: &Fields, memory: &mut MemoryEngine, answers: &mut Answers) {
+    let replies = replies_of(&mut answers.reading, fields, memory);
+    answers.put_lines("replies", replies);
+    let after = engine_lines(answers.reading.alloc, &memory.engine);
+    answers.put_lines("after", after);
+    answers.put_number("left", memory.script.len() as u64);
 }
 
-/// The Engine in memory of a case, a fresh one where the case has none.
+/// The Engine in memory of a case, a fresh one where the case has none; None, which is kept, where there can be none.
 pub(crate) fn memory_at(
-    alloc: Global,
+    reading: &mut Reading,
     fields: &Fields,
     project: &Text,
-) -> Result<MemoryEngine, CaseFault> {
-    match fields.fields("engine")? {
-        Some(fields) => memory_engine_of(alloc, &fields, project),
-        None => Ok(MemoryEngine::fresh(alloc)?),
+) -> Option<MemoryEngine> {
+    match reading.fields(fields, "engine") {
+        Some(fields) => memory_engine_of(reading, &fields, project),
+        None => {
+            let fresh = MemoryEngine::fresh(reading.alloc);
+            reading.made(fresh)
+        }
     }
 }
 
-fn replies_of(
-    alloc: Global,
-    memory: &mut MemoryEngine,
-    lines: &[Tree],
-) -> Result<List<Text>, CaseFault> {
-    let mut replies = List::new(alloc);
-    for tree in lines {
-        let line = text_of(alloc, tree, "serve")?;
-        replies.push(reply_to(alloc, memory, line.as_str())?)?;
+fn replies_of(reading: &mut Reading, fields: &Fields, memory: &mut MemoryEngine) -> Lines {
+    let mut replies = Lines::new(reading.alloc);
+    for tree in reading.items(fields, "serve") {
+        let line = reading.text_of(tree, "serve");
+        replies.push(reply_to(reading, memory, line.as_str()));
     }
-    Ok(replies)
+    replies
 }
 
 /// What a line is answered.
-fn reply_to(alloc: Global, memory: &mut MemoryEngine, line: &str) -> Result<Text, CaseFault> {
+fn reply_to(reading: &mut Reading, memory: &mut MemoryEngine, line: &str) -> Line {
     if line == "tick" {
         memory.tick();
-        return Ok(Text::from_str(alloc, "ticked")?);
+        Line::of_word(reading.alloc, "ticked")
+    } else {
+        let request = read_request(reading, line);
+        let served = memory.serve(reading.alloc, &request);
+        drop(request);
+        served_line(reading.alloc, served)
     }
-    let request = request_of(alloc, line)?;
-    let served = memory.serve(alloc, &request);
-    drop(request);
-    match served {
-        Ok(reply) => {
-            let line = reply_line(alloc, &reply);
-            drop(reply);
-            Ok(line?)
-        }
-        Err(Memory) => Ok(Text::from_str(alloc, "memory")?),
-    }
+}
+
+fn served_line(alloc: Global, served: Result<Reply, Memory>) -> Line {
+    let line = match &served {
+        Ok(reply) => reply_line(alloc, reply),
+        Err(Memory) => Line::of_word(alloc, "memory"),
+    };
+    drop(served);
+    line
 }

@@ -1,23 +1,24 @@
-use case_files::{CaseFault, Fields};
-use cases_messages::{Line, Reading};
+use case_files::{Fields, Line, Lines, Reading};
 use engine_types::{Action, ActionKind, Plan};
 use std::alloc::Global;
 use std::str::SplitWhitespace;
-use tree_base::{List, Memory, Text};
+use tree_base::List;
 
 /// The plan of the lines under a key, each an action with the numbers that it needs: `volume 0`, `network 0`, `stop 1`,
 /// `remove 1 <0`, `create 0 <1`, `connect 0.1 <2`, `stop-kept 0 <1`, `start 0 <2 <3`, `no-network 0`, `no-volume 0`.
-/// It tells no kept containers. NoCase where a line is of no such form.
-pub fn plan_of(alloc: Global, fields: &Fields, key: &str) -> Result<Plan, CaseFault> {
-    let mut reading = Reading::new(alloc);
+/// It tells no kept containers.
+pub fn plan_of(reading: &mut Reading, fields: &Fields, key: &str) -> Plan {
+    let alloc = reading.alloc;
     let mut actions = List::new(alloc);
     for tree in reading.items(fields, key) {
         let line = reading.text_of(tree, key);
-        let action = action(&mut reading, line.as_str());
+        let action = action(reading, line.as_str());
         reading.push(&mut actions, action);
     }
-    let kept = List::new(alloc);
-    reading.whole(Plan { actions, kept })
+    Plan {
+        actions,
+        kept: List::new(alloc),
+    }
 }
 
 fn action(reading: &mut Reading, line: &str) -> Action {
@@ -85,16 +86,16 @@ fn words_of(kind: ActionKind) -> (&'static str, u64, Option<u32>) {
 }
 
 /// The lines of a plan, as `plan_of` reads them.
-pub fn plan_lines(alloc: Global, plan: &Plan) -> Result<List<Text>, Memory> {
-    let mut lines = List::new(alloc);
+pub fn plan_lines(alloc: Global, plan: &Plan) -> Lines {
+    let mut lines = Lines::new(alloc);
     for action in plan.actions.as_slice() {
-        lines.push(action_line(alloc, action)?)?;
+        lines.push(action_line(alloc, action));
     }
-    Ok(lines)
+    lines
 }
 
 /// The line of an action with the numbers that it needs.
-fn action_line(alloc: Global, action: &Action) -> Result<Text, Memory> {
+fn action_line(alloc: Global, action: &Action) -> Line {
     let mut line = Line::new(alloc);
     let (word, number, attach) = words_of(action.kind);
     line.word(word);
@@ -104,7 +105,7 @@ fn action_line(alloc: Global, action: &Action) -> Result<Text, Memory> {
         line.put_number(u64::from(attach));
     }
     say_needs(&mut line, action.needs.as_slice());
-    line.end()
+    line
 }
 
 fn say_needs(line: &mut Line, needs: &[u32]) {

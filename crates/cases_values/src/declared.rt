@@ -1,13 +1,10 @@
 use crate::labels::{container_labels, resource_labels};
-use case_files::{CaseFault, Fields};
-use cases_messages::{
-    Line, Reading, condition_of, network_named, policy_of, spec_of, volume_named,
-};
+use case_files::{Fields, Line, Reading};
+use cases_messages::{condition_of, network_named, policy_of, spec_of, volume_named};
 use engine_types::{
     Attach, Condition, ContainerSpec, Declared, DeclaredService, Endpoint, Need, NetworkSpec,
     Policy, Slot, VolumeSpec, labels,
 };
-use std::alloc::Global;
 use tree_base::{Boxed, List, Text, Tree, TryCopy};
 
 /// What a project declares, by `project`, `slots`, `services`, `networks` and `volumes`.
@@ -18,14 +15,8 @@ use tree_base::{Boxed, List, Text, Tree, TryCopy};
 /// and what its container is made with: `labels` (those by which it is known), `binds`, `network_mode`, `healthcheck`. A
 /// network or a volume is a name, or has `name`, `key` or `labels`, and `external`; of a network `times` says how many
 /// there are. A service has its `key`, `depends_on`, and `roll`; where none is given, they are those of the slots, each
-/// of which depends on the services of the slots that it needs. NoCase where something isn't so.
-pub fn declared_of(alloc: Global, fields: &Fields) -> Result<Declared, CaseFault> {
-    let mut reading = Reading::new(alloc);
-    let declared = declared(&mut reading, fields);
-    reading.whole(declared)
-}
-
-fn declared(reading: &mut Reading, fields: &Fields) -> Declared {
+/// of which depends on the services of the slots that it needs.
+pub fn declared_of(reading: &mut Reading, fields: &Fields) -> Declared {
     let project = reading.text_or(fields, "project", "");
     let networks = networks_of(reading, fields, &project);
     let volumes = volumes_of(reading, fields, &project);
@@ -169,15 +160,10 @@ fn slots_of(
     slots
 }
 
-/// A slot of a project, which attaches to no network, by the fields that `declared_of` names. NoCase where something
-/// isn't so.
-pub fn slot_of(alloc: Global, fields: &Fields, project: &Text) -> Result<Slot, CaseFault> {
-    let mut reading = Reading::new(alloc);
-    let slot = slot_with(&mut reading, fields, project, &[]);
-    match reading.whole(slot)? {
-        Some(slot) => Ok(slot),
-        None => Err(CaseFault::Memory),
-    }
+/// A slot of a project, which attaches to no network, by the fields that `declared_of` names. None, and the want of memory
+/// is kept, where there is none for what its container is made with.
+pub fn slot_of(reading: &mut Reading, fields: &Fields, project: &Text) -> Option<Slot> {
+    slot_with(reading, fields, project, &[])
 }
 
 /// The slot of a mapping, for a project with these networks.

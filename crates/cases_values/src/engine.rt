@@ -1,24 +1,16 @@
 use crate::labels::container_labels;
 use crate::seen::{images_of, networks_of};
-use case_files::{CaseFault, Fields};
-use cases_messages::{Reading, id_at, read_bytes, report_of, spec_of};
+use case_files::{Fields, Reading};
+use cases_messages::{id_at, read_bytes, report_of, spec_of};
 use engine_types::{ContainerRow, Engine};
-use std::alloc::Global;
 use tree_base::{List, Text};
 
 /// An Engine, by `containers`, `networks`, `volumes`, `images` (ids under names) and `next` (1).
 ///
 /// A container has what one has that was seen, but for the ids of its `networks`, its `exit_code` (0) and
 /// `health` (absent), what it was made with: `binds` and `healthcheck`, and the bytes that it has written: `logs`, as
-/// numbers. NoCase where something isn't so.
-pub fn engine_of(alloc: Global, fields: &Fields, project: &Text) -> Result<Engine, CaseFault> {
-    let mut reading = Reading::new(alloc);
-    let engine = engine(&mut reading, fields, project);
-    reading.whole(engine)
-}
-
-/// The same in a reading.
-pub(crate) fn engine(reading: &mut Reading, fields: &Fields, project: &Text) -> Engine {
+/// numbers.
+pub fn engine_of(reading: &mut Reading, fields: &Fields, project: &Text) -> Engine {
     Engine {
         containers: containers_of(reading, fields, project),
         networks: networks_of(reading, fields, project),

@@ -1,21 +1,20 @@
-use case_files::{CaseFault, Fields};
-use cases_messages::{Line, Reading, read_outcome, say_outcome};
+use case_files::{Fields, Line, Lines, Reading};
+use cases_messages::{read_outcome, say_outcome};
 use engine_types::{Entry, LateWhy, Observed, Outcome, Seen, SeenEnd};
 use std::alloc::Global;
-use tree_base::{List, Memory, Text};
+use tree_base::List;
 
 /// The entries of a journal, oldest first, by the lines under a key: `seen` (of nothing), `claim ACTION`, `poll SLOT`,
 /// `ended OUTCOME`, `idle`, `leave`, `stop`, `late entries`, `late CLOCK`, `short`. A line of another worker than 0
-/// begins with its number, as `1 claim 3`. NoCase where a line is of no such form.
-pub fn journal_of(alloc: Global, fields: &Fields, key: &str) -> Result<List<Entry>, CaseFault> {
-    let mut reading = Reading::new(alloc);
-    let mut journal = List::new(alloc);
+/// begins with its number, as `1 claim 3`.
+pub fn journal_of(reading: &mut Reading, fields: &Fields, key: &str) -> List<Entry> {
+    let mut journal = List::new(reading.alloc);
     for tree in reading.items(fields, key) {
         let line = reading.text_of(tree, key);
-        let entry = worker_entry(&mut reading, line.as_str());
+        let entry = worker_entry(reading, line.as_str());
         reading.push(&mut journal, entry);
     }
-    reading.whole(journal)
+    journal
 }
 
 /// The entry of a line, of worker 0 where it names no other.
@@ -86,18 +85,14 @@ fn nothing_observed(alloc: Global) -> Observed {
 }
 
 /// The lines of a journal, as `journal_of` reads them: `seen` of an observation that ended well, `seen badly` of another.
-pub fn journal_lines(alloc: Global, journal: &[Entry]) -> Result<List<Text>, Memory> {
-    let mut lines = List::new(alloc);
+pub fn journal_lines(alloc: Global, journal: &[Entry]) -> Lines {
+    let mut lines = Lines::new(alloc);
     for entry in journal {
-        lines.push(entry_line(alloc, entry)?)?;
+        let mut line = Line::new(alloc);
+        say_entry(&mut line, entry);
+        lines.push(line);
     }
-    Ok(lines)
-}
-
-fn entry_line(alloc: Global, entry: &Entry) -> Result<Text, Memory> {
-    let mut line = Line::new(alloc);
-    say_entry(&mut line, entry);
-    line.end()
+    lines
 }
 
 fn say_entry(line: &mut Line, entry: &Entry) {

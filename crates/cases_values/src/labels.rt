@@ -1,18 +1,9 @@
-use case_files::{CaseFault, Fields};
-use cases_messages::Reading;
+use case_files::{Fields, Reading};
 use engine_types::{Pairs, labels};
-use std::alloc::Global;
 use tree_base::{List, Text};
 
-/// The pairs of the mapping under a key, in its order. NoCase where it is no mapping of texts.
-pub fn pairs_of(alloc: Global, fields: &Fields, key: &str) -> Result<Pairs, CaseFault> {
-    let mut reading = Reading::new(alloc);
-    let pairs = pairs_at(&mut reading, fields, key);
-    reading.whole(pairs)
-}
-
-/// The same in a reading.
-pub(crate) fn pairs_at(reading: &mut Reading, fields: &Fields, key: &str) -> Pairs {
+/// The pairs of the mapping under a key, in its order.
+pub fn pairs_at(reading: &mut Reading, fields: &Fields, key: &str) -> Pairs {
     let mut pairs = List::new(reading.alloc);
     if let Some(entries) = reading.fields(fields, key) {
         let entries = entries.entries();

@@ -20,7 +20,7 @@ pub use declared::{declared_of, slot_of};
 pub use engine::engine_of;
 pub use entry::{journal_lines, journal_of};
 pub use held::engine_lines;
-pub use labels::pairs_of;
+pub use labels::pairs_at;
 pub use memory::memory_engine_of;
 pub use run_fault::run_fault_of;
 pub use seen::{listed_of, seen_of};

@@ -1,30 +1,28 @@
-use crate::engine::engine;
-use case_files::{CaseFault, Fields};
-use cases_messages::{Reading, code_of, health_of};
+use crate::engine::engine_of;
+use case_files::{Fields, Reading};
+use cases_messages::{code_of, health_of};
 use engine_holding::engine_that_holds;
 use memory_engine::{Catalogue, Change, FaultPlan, LostAt, MemoryEngine, Tick};
-use std::alloc::Global;
 use tree_base::{List, Text};
 
 /// An Engine in memory: what it holds, as `engine_of` reads it; `catalogue`, the names of the images that can be
 /// pulled (absent: all); `script`, each tick as `NAME exits CODE` or `NAME HEALTH`; and what goes wrong with its
-/// exchanges, which count from 1: `lost`, each as `4 before` or `4 after` its effect, `unsent`, and `asked_from`. NoCase
-/// where something isn't so, and where `engine_that_holds` refuses what it is to hold.
+/// exchanges, which count from 1: `lost`, each as `4 before` or `4 after` its effect, `unsent`, and `asked_from`. None,
+/// which is kept, where `engine_that_holds` refuses what it is to hold.
 pub fn memory_engine_of(
-    alloc: Global,
+    reading: &mut Reading,
     fields: &Fields,
     project: &Text,
-) -> Result<MemoryEngine, CaseFault> {
-    let mut reading = Reading::new(alloc);
-    let engine = engine(&mut reading, fields, project);
-    let script = script_of(&mut reading, fields);
-    let faults = faults_of(&mut reading, fields);
-    let catalogue = catalogue_of(&mut reading, fields);
+) -> Option<MemoryEngine> {
+    let engine = engine_of(reading, fields, project);
+    let script = script_of(reading, fields);
+    let faults = faults_of(reading, fields);
+    let catalogue = catalogue_of(reading, fields);
     let held = engine_that_holds(engine, script, faults, catalogue);
-    match reading.whole(held)? {
-        Some(memory) => Ok(memory),
-        None => Err(CaseFault::no_case(alloc, "an Engine in memory can't hold this")),
+    if held.is_none() {
+        reading.refuse("an Engine in memory can't hold this");
     }
+    held
 }
 
 fn catalogue_of(reading: &mut Reading, fields: &Fields) -> Catalogue {
@@ -59,7 +57,7 @@ pub(crate) fn tick_of(reading: &mut Reading, words: &str) -> Tick {
 fn faults_of(reading: &mut Reading, fields: &Fields) -> FaultPlan {
     FaultPlan {
         lost: lost_of(reading, fields),
-        unsent: numbers_of(reading, fields, "unsent"),
+        unsent: reading.numbers(fields, "unsent"),
         asked_from: asked_from(reading, fields),
     }
 }
@@ -86,16 +84,6 @@ fn lost_at(reading: &mut Reading, words: &str) -> LostAt {
         }
     };
     LostAt { exchange, effect }
-}
-
-fn numbers_of(reading: &mut Reading, fields: &Fields, key: &str) -> List<u64> {
-    let mut numbers = List::new(reading.alloc);
-    for tree in reading.items(fields, key) {
-        let word = reading.text_of(tree, key);
-        let number = reading.number(word.as_str());
-        reading.push(&mut numbers, number);
-    }
-    numbers
 }
 
 fn asked_from(reading: &mut Reading, fields: &Fields) -> Option<u64> {

@@ -1,24 +1,15 @@
 use crate::entry::late_why;
-use case_files::{CaseFault, Fields};
-use cases_messages::{
-    Reading, cause_of, condition_of, kind_of, read_outcome, read_report, read_request,
-};
+use case_files::{Fields, Reading};
+use cases_messages::{cause_of, condition_of, kind_of, read_outcome, read_report, read_request};
 use engine_types::{Request, RunFault, SeenFault};
-use std::alloc::Global;
 
 /// The fault of a run, by its first key: `request` with an `outcome`; `condition` with a `slot` and a `report`; `late`;
 /// `stopped: true`; `memory: true`; or `seen`, the fault of an observation in words: `request failed` with a
 /// `request`, a `status` and a `message`, `pull failed` with an `image` and a `message`, `lost` with a `request` and a
 /// `cause`, `not sent` with a `request`, `network twice` with `name`, `first` and `second`, `foreign network` with
 /// `name` and `id`, `external missing` with `kind` and `name`, `needs build` with `service`, `too many actions` with
-/// `count`, `memory`. None where the fields have no such key, and NoCase where something else isn't so.
-pub fn run_fault_of(alloc: Global, fields: &Fields) -> Result<Option<RunFault>, CaseFault> {
-    let mut reading = Reading::new(alloc);
-    let fault = run_fault(&mut reading, fields);
-    reading.whole(fault)
-}
-
-fn run_fault(reading: &mut Reading, fields: &Fields) -> Option<RunFault> {
+/// `count`, `memory`. None where the fields have no such key.
+pub fn run_fault_of(reading: &mut Reading, fields: &Fields) -> Option<RunFault> {
     if fields.has("seen") {
         Some(RunFault::Seen(seen_fault(reading, fields)))
     } else if fields.has("condition") {

@@ -1,45 +1,36 @@
 use crate::labels::{container_labels, resource_labels};
-use case_files::{CaseFault, Fields};
-use cases_messages::{Reading, id_at, state_at};
+use case_files::{Fields, Reading};
+use cases_messages::{id_at, state_at};
 use engine_types::{ImageRow, Listed, NetRow, Seen, labels};
-use std::alloc::Global;
 use tree_base::{List, Text, Tree};
 
 /// What an observation saw, by `containers`, `networks`, `volumes` and `images` (ids under names).
 ///
 /// A container has its `id`, `name`, `image` (an id), `state`, the names of its `networks`, and `labels`, or in their
 /// place `service`, `number` (1), `hash`, `oneoff` (False) and `project` (the one that is given). A network has
-/// `id`, `name`, and `labels` or `key`. NoCase where something isn't so.
-pub fn seen_of(alloc: Global, fields: &Fields, project: &Text) -> Result<Seen, CaseFault> {
-    let mut reading = Reading::new(alloc);
-    let seen = Seen {
-        containers: containers_of(&mut reading, fields, project),
-        networks: networks_of(&mut reading, fields, project),
+/// `id`, `name`, and `labels` or `key`.
+pub fn seen_of(reading: &mut Reading, fields: &Fields, project: &Text) -> Seen {
+    Seen {
+        containers: containers_of(reading, fields, project),
+        networks: networks_of(reading, fields, project),
         volumes: reading.texts(fields, "volumes"),
-        images: images_of(&mut reading, fields),
-    };
-    reading.whole(seen)
-}
-
-/// A container that was seen, by the fields that `seen_of` names. NoCase where something isn't so.
-pub fn listed_of(alloc: Global, fields: &Fields, project: &Text) -> Result<Listed, CaseFault> {
-    let mut reading = Reading::new(alloc);
-    let row = row_of(&mut reading, fields, project);
-    reading.whole(row)
+        images: images_of(reading, fields),
+    }
 }
 
 fn containers_of(reading: &mut Reading, fields: &Fields, project: &Text) -> List<Listed> {
     let mut rows = List::new(reading.alloc);
     for tree in reading.items(fields, "containers") {
         if let Some(fields) = reading.fields_of(tree, "a container") {
-            let row = row_of(reading, &fields, project);
+            let row = listed_of(reading, &fields, project);
             reading.push(&mut rows, row);
         }
     }
     rows
 }
 
-fn row_of(reading: &mut Reading, fields: &Fields, project: &Text) -> Listed {
+/// A container that was seen, by the fields that `seen_of` names.
+pub fn listed_of(reading: &mut Reading, fields: &Fields, project: &Text) -> Listed {
     Listed {
         id: id_at(reading, fields),
         name: reading.text_or(fields, "name", ""),

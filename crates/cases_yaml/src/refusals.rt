@@ -1,78 +1,56 @@
-use case_files::{Answers, CaseFault, Fields};
-use std::alloc::Global;
+use case_files::{Answers, Fields, Line};
 use tree_base::Place;
 use yaml_lines::{
     YamlFault, YamlRefusal, double_quotes_read_back, lines_are_the_text, places_count_characters,
 };
 
-/// The number under a key, of 32 bits, or the default where the key isn't there. NoCase where it is something else.
-pub fn small_number(
-    alloc: Global,
-    fields: &Fields,
-    key: &str,
-    default: u32,
-) -> Result<u32, CaseFault> {
-    match u32::try_from(fields.number_or(key, default as u64)?) {
-        Ok(number) => Ok(number),
-        Err(_) => Err(CaseFault::no_case(alloc, "a number is too great")),
-    }
-}
-
 /// Puts a refusal: under `refused` its name with its line and column, as `BadFlow 3:14`, and the number of the file as
 /// `in_file`. Memory where it is want of memory.
-pub fn refuse(alloc: Global, answers: &mut Answers, refusal: YamlRefusal) -> Result<(), CaseFault> {
+pub fn refuse(answers: &mut Answers, refusal: YamlRefusal) {
     match refusal.place() {
-        None => Err(CaseFault::Memory),
+        None => answers.reading.memory(),
         Some(place) => {
-            put_refused(alloc, answers, refusal.name(), place)?;
-            answers.put_number("in_file", place.file as u64)
+            put_refused(answers, refusal.name(), place);
+            answers.put_number("in_file", place.file as u64);
         }
     }
 }
 
-fn put_refused(
-    alloc: Global,
-    answers: &mut Answers,
-    name: &str,
-    place: Place,
-) -> Result<(), CaseFault> {
-    let line = place.line;
-    let column = place.column;
-    let words = format!(in alloc; "{name} {line}:{column}")?;
-    answers.refuse(words.as_str())
+fn put_refused(answers: &mut Answers, name: &str, place: Place) {
+    let mut line = Line::of_word(answers.reading.alloc, name);
+    line.number(place.line as u64);
+    line.put(":");
+    line.put_number(place.column as u64);
+    answers.put_line("refused", line);
 }
 
 /// Puts a place: its `line`, its `column`, and the number of its file (`in_file`).
-pub fn put_place(answers: &mut Answers, place: Place) -> Result<(), CaseFault> {
-    answers.put_number("line", place.line as u64)?;
-    answers.put_number("column", place.column as u64)?;
-    answers.put_number("in_file", place.file as u64)
+pub fn put_place(answers: &mut Answers, place: Place) {
+    answers.put_number("line", place.line as u64);
+    answers.put_number("column", place.column as u64);
+    answers.put_number("in_file", place.file as u64);
 }
 
 /// `yaml_refusal: NAME` with `file`, `line` and `column`: how it is `printed`, and how a case says it (`refused`).
-pub fn refusal(alloc: Global, fields: &Fields, answers: &mut Answers) -> Result<(), CaseFault> {
+pub fn refusal(fields: &Fields, answers: &mut Answers) {
     let place = Place {
-        file: small_number(alloc, fields, "file", 0)?,
-        line: small_number(alloc, fields, "line", 1)?,
-        column: small_number(alloc, fields, "column", 1)?,
+        file: answers.reading.small_or(fields, "file", 0),
+        line: answers.reading.small_or(fields, "line", 1),
+        column: answers.reading.small_or(fields, "column", 1),
     };
-    let name = fields.text("yaml_refusal")?;
+    let name = answers.reading.text_at(fields, "yaml_refusal");
     match refusal_of(name.as_str(), place) {
-        Some(refusal) => put_refusal(alloc, answers, refusal),
-        None => Err(CaseFault::no_case(alloc, "no refusal has this name")),
+        Some(refusal) => put_refusal(answers, refusal),
+        None => answers.reading.refuse("no refusal has this name"),
     }
 }
 
-fn put_refusal(
-    alloc: Global,
-    answers: &mut Answers,
-    refusal: YamlRefusal,
-) -> Result<(), CaseFault> {
-    let printed = format!(in alloc; "{refusal}")?;
-    answers.put_text("printed", printed.as_str())?;
+fn put_refusal(answers: &mut Answers, refusal: YamlRefusal) {
+    let printed = format!(in answers.reading.alloc; "{refusal}");
+    answers.put_printed("printed", printed);
     match refusal {
         YamlRefusal::Memory => answers.put_null("refused"),
-        _ => refuse(alloc, answers, refusal),
+        _ => refuse(answers, refusal),
     }
 }
 
@@ -90,13 +68,22 @@ fn refusal_of(name: &str, place: Place) -> Option<YamlRefusal> {
 }
 
 /// `yaml_law: NAME`: a law `returns`.
-pub fn law(alloc: Global, fields: &Fields, answers: &mut Answers) -> Result<(), CaseFault> {
-    let name = fields.text("yaml_law")?;
-    match name.as_str() {
+pub fn law(fields: &Fields, answers: &mut Answers) {
+    let name = answers.reading.text_at(fields, "yaml_law");
+    if returns(name.as_str()) {
+        answers.put_flag("returns", true);
+    } else {
+        answers.reading.refuse("no law has this name");
+    }
+}
+
+/// Calls the law with a name; false where there is none.
+fn returns(name: &str) -> bool {
+    match name {
         "lines_are_the_text" => lines_are_the_text(),
         "places_count_characters" => places_count_characters(),
         "double_quotes_read_back" => double_quotes_read_back(),
-        _ => return Err(CaseFault::no_case(alloc, "no law has this name")),
+        _ => return false,
     }
-    answers.put_flag("returns", true)
+    true
 }

@@ -1,6 +1,6 @@
-use crate::refusals::{refuse, small_number};
+use crate::refusals::refuse;
 use crate::rows::{line_of, put_rest, row_under};
-use case_files::{Answers, CaseFault, Fields};
+use case_files::{Answers, Fields, Reading};
 use std::alloc::Global;
 use tree_base::{Memory, Text};
 use yaml_lines::{
@@ -9,85 +9,71 @@ use yaml_lines::{
 };
 
 /// `quoted: LINE`, which begins with a quote: the `text` that the scalar spells, and the `rest` of the line.
-pub fn quoted_text(alloc: Global, fields: &Fields, answers: &mut Answers) -> Result<(), CaseFault> {
-    let row = row_under(alloc, fields, "quoted")?;
-    let read = quoted_scalar(alloc, row.chars.as_slice())?;
-    put_scalar(alloc, answers, &row, read)
+pub fn quoted_text(fields: &Fields, answers: &mut Answers) {
+    if let Some(row) = row_under(&mut answers.reading, fields, "quoted") {
+        let read = quoted_scalar(answers.reading.alloc, row.chars.as_slice());
+        put_scalar(answers, &row, read);
+    }
 }
 
 /// `plain: LINE` with its `context`, `flow` or else `block`: the `text` of the scalar that it begins with, or null;
 /// the `rest` of the line; how many characters it has by the measure (`length`), and whether one `begins`.
-pub fn plain_text(alloc: Global, fields: &Fields, answers: &mut Answers) -> Result<(), CaseFault> {
-    let context = context_of(alloc, fields)?;
-    let row = row_under(alloc, fields, "plain")?;
-    put_plain(alloc, answers, &row, context)
-}
-
-fn context_of(alloc: Global, fields: &Fields) -> Result<Context, CaseFault> {
-    let context = fields.text_or("context", "block")?;
-    match context.as_str() {
-        "block" => Ok(Context::Block),
-        "flow" => Ok(Context::Flow),
-        _ => Err(CaseFault::no_case(alloc, "`context` wants block or flow")),
+pub fn plain_text(fields: &Fields, answers: &mut Answers) {
+    let context = context_of(&mut answers.reading, fields);
+    if let Some(row) = row_under(&mut answers.reading, fields, "plain") {
+        put_plain(answers, &row, context);
     }
 }
 
-fn put_plain(
-    alloc: Global,
-    answers: &mut Answers,
-    row: &Row,
-    context: Context,
-) -> Result<(), CaseFault> {
+fn context_of(reading: &mut Reading, fields: &Fields) -> Context {
+    let context = reading.text_or(fields, "context", "block");
+    match context.as_str() {
+        "block" => Context::Block,
+        "flow" => Context::Flow,
+        _ => {
+            reading.wants("context", "block or flow");
+            Context::Block
+        }
+    }
+}
+
+fn put_plain(answers: &mut Answers, row: &Row, context: Context) {
     let chars = row.chars.as_slice();
-    answers.put_flag("begins", begins_plain(chars))?;
-    answers.put_number("length", plain_len(chars, context) as u64)?;
-    let read = plain_scalar(alloc, chars, context)?;
-    put_scalar(alloc, answers, row, read)
+    answers.put_flag("begins", begins_plain(chars));
+    answers.put_number("length", plain_len(chars, context) as u64);
+    let read = plain_scalar(answers.reading.alloc, chars, context);
+    put_scalar(answers, row, read);
 }
 
 /// Puts the text of a scalar and the rest of its row; null for the text where there is no scalar.
-fn put_scalar(
-    alloc: Global,
-    answers: &mut Answers,
-    row: &Row,
-    read: Option<(Text, usize)>,
-) -> Result<(), CaseFault> {
+fn put_scalar(answers: &mut Answers, row: &Row, read: Result<Option<(Text, usize)>, Memory>) {
     match read {
-        None => answers.put_null("text"),
-        Some((text, len)) => {
-            put_rest(alloc, answers, row, len)?;
-            answers.put_text("text", text.as_str())
+        Err(Memory) => answers.reading.memory(),
+        Ok(None) => answers.put_null("text"),
+        Ok(Some((text, len))) => {
+            put_rest(answers, row, len);
+            answers.put_text("text", text.as_str());
         }
     }
 }
 
 /// `quoted_at: LINE` with the `number` of the line, its `file` and the place `at` of the quote, from 0: the `text` that
 /// the scalar spells and the place behind it (`end`), or where it is `refused`.
-pub fn quoted_at_place(
-    alloc: Global,
-    fields: &Fields,
-    answers: &mut Answers,
-) -> Result<(), CaseFault> {
-    let file = small_number(alloc, fields, "file", 0)?;
-    let number = small_number(alloc, fields, "number", 1)?;
-    let at = fields.number_or("at", 0)? as usize;
-    let line = line_of(fields, "quoted_at", number)?;
-    put_quoted(alloc, answers, file, &line, at)
+pub fn quoted_at_place(fields: &Fields, answers: &mut Answers) {
+    let number = answers.reading.small_or(fields, "number", 1);
+    let line = line_of(&mut answers.reading, fields, "quoted_at", number);
+    put_quoted(fields, answers, &line);
 }
 
-fn put_quoted(
-    alloc: Global,
-    answers: &mut Answers,
-    file: u32,
-    line: &Line,
-    at: usize,
-) -> Result<(), CaseFault> {
-    match quoted(alloc, file, line, at) {
+fn put_quoted(fields: &Fields, answers: &mut Answers, line: &Line) {
+    let file = answers.reading.small_or(fields, "file", 0);
+    let at = answers.reading.number_or(fields, "at", 0) as usize;
+    match quoted(answers.reading.alloc, file, line, at) {
         Ok((text, end)) => {
-            answers.put_text("text", text.as_str())?;
-            answers.put_number("end", end as u64)
+            answers.put_text("text", text.as_str());
+            answers.put_number("end", end as u64);
         }
-        Err(refusal) => refuse(alloc, answers, refusal),
+        Err(refusal) => refuse(answers, refusal),
     }
 }
 
@@ -105,30 +91,33 @@ struct Style {
 /// `block: TEXT` with its `header`, the `first` of its lines, from 0, and the spaces of its `parent`: the `text` that it
 /// spells, the place of the line `behind` it, and whether all rows spell the same
 /// (`same_of_rows`).
-pub fn block_text(alloc: Global, fields: &Fields, answers: &mut Answers) -> Result<(), CaseFault> {
-    let style = style_of(alloc, fields)?;
-    let text = fields.text("block")?;
-    match scan(alloc, text.as_str().as_bytes(), 0) {
-        Ok(lines) => put_block(alloc, answers, &lines, style),
-        Err(refusal) => refuse(alloc, answers, refusal),
+pub fn block_text(fields: &Fields, answers: &mut Answers) {
+    let style = style_of(&mut answers.reading, fields);
+    let text = answers.reading.text_at(fields, "block");
+    match scan(answers.reading.alloc, text.as_str().as_bytes(), 0) {
+        Ok(lines) => put_block(answers, &lines, style),
+        Err(refusal) => refuse(answers, refusal),
     }
 }
 
-fn style_of(alloc: Global, fields: &Fields) -> Result<Style, CaseFault> {
-    let (folded, chomp) = header_of(alloc, fields)?;
-    Ok(Style {
+fn style_of(reading: &mut Reading, fields: &Fields) -> Style {
+    let (folded, chomp) = header_of(reading, fields);
+    Style {
         folded,
         chomp,
-        first: fields.number_or("first", 0)? as usize,
-        parent: small_number(alloc, fields, "parent", 0)?,
-    })
+        first: reading.number_or(fields, "first", 0) as usize,
+        parent: reading.small_or(fields, "parent", 0),
+    }
 }
 
-fn header_of(alloc: Global, fields: &Fields) -> Result<(bool, Chomp), CaseFault> {
-    let header = fields.text("header")?;
+fn header_of(reading: &mut Reading, fields: &Fields) -> (bool, Chomp) {
+    let header = reading.text_at(fields, "header");
     match header_in(header.as_str()) {
-        Some(header) => Ok(header),
-        None => Err(CaseFault::no_case(alloc, "`header` wants `|` or `>`, with `-` or `+`")),
+        Some(header) => header,
+        None => {
+            reading.wants("header", "`|` or `>`, with `-` or `+`");
+            (false, Chomp::Clip)
+        }
     }
 }
 
@@ -145,23 +134,24 @@ fn header_in(header: &str) -> Option<(bool, Chomp)> {
     }
 }
 
-fn put_block(
-    alloc: Global,
-    answers: &mut Answers,
-    lines: &Lines,
-    style: Style,
-) -> Result<(), CaseFault> {
-    let (text, behind) = block(
-        alloc,
+fn put_block(answers: &mut Answers, lines: &Lines, style: Style) {
+    let read = block(
+        answers.reading.alloc,
         lines,
         style.first,
         style.parent,
         style.folded,
         style.chomp,
-    )?;
-    answers.put_number("behind", behind as u64)?;
-    answers.put_flag("same_of_rows", is_of_rows(alloc, lines, style, &text)?)?;
-    answers.put_text("text", text.as_str())
+    );
+    match read {
+        Ok((text, behind)) => {
+            answers.put_number("behind", behind as u64);
+            let told = is_of_rows(answers.reading.alloc, lines, style, &text);
+            answers.put_told("same_of_rows", told);
+            answers.put_text("text", text.as_str());
+        }
+        Err(Memory) => answers.reading.memory(),
+    }
 }
 
 /// Whether the rows of a block scalar spell this text.

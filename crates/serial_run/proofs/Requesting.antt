@@ -203,8 +203,12 @@ module _ (declared : Declared) (seen : Seen) (actions : List Action) (aim : Aim)
           by_attach slot there (Some attach) f =
               let by_make : is_needed_by basis kind (MakeNetwork attach.network) ≡ true = rw (e, there, f) (eq-eqb attach.network attach.network refl) in
               let by_create : is_needed_by basis kind (CreateSlot s) ≡ true = rw e (eq-eqb s s refl) in
-              let by_marks : request_by now (needs_of actions a) (ConnectSlot s k) ≡ connect_by now (needs_of actions a) s attach = rw (there, f) refl in
-              let by_past : request_of setup past (ConnectSlot s k) ≡ connect_request setup past s attach = rw (there, f) refl in
+              let by_marks : request_by now (needs_of actions a) (ConnectSlot s k) ≡ connect_by now (needs_of actions a) s attach =
+              ap (λ (o : Option Slot). option_and_then (λ (x : Slot). option_and_then (connect_by now (needs_of actions a) s) (slice_get x.attach k)) o) there
+              ∙ ap (option_and_then (connect_by now (needs_of actions a) s)) f in
+              let by_past : request_of setup past (ConnectSlot s k) ≡ connect_request setup past s attach =
+              ap (λ (o : Option Slot). option_and_then (λ (x : Slot). option_and_then (connect_request setup past s) (slice_get x.attach k)) o) there
+              ∙ ap (option_and_then (connect_request setup past s)) f in
               by_marks ∙ joined s attach (network_same attach.network by_make) (slot_same s by_create) ∙ sym by_past
 
           by_slot : (o : Option Slot) → slot_at declared s ≡ o → request_by now (needs_of actions a) (ConnectSlot s k) ≡ request_of setup past (ConnectSlot s k)

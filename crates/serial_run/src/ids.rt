@@ -22,19 +22,21 @@ impl ToldIds for MarkedIds<'_> {
     ghost ids = { λ told. marked_ids told.plan.now.actions told.action.now.needs told.marks.now told.journal.now };
 
     fn creator(&self, slot: u32) -> Option<usize> {
-        create_in(
+        let create = create_in(
             self.plan.actions.as_slice(),
             self.action.needs.as_slice(),
             slot,
-        )
+        )?;
+        Some(create as usize)
     }
 
     fn maker(&self, network: u32) -> Option<usize> {
-        make_in(
+        let make = make_in(
             self.plan.actions.as_slice(),
             self.action.needs.as_slice(),
             network,
-        )
+        )?;
+        Some(make as usize)
     }
 
     fn told(&self, action: usize) -> Option<&Text> {
@@ -76,14 +78,13 @@ fn id_of(outcome: &Outcome) -> Option<&Text>
     }
 }
 
-fn create_in(actions: &[Action], needs: &[u32], slot: u32) -> Option<usize>
+fn create_in(actions: &[Action], needs: &[u32], slot: u32) -> Option<u32>
     ensures { result ≡ create_in actions.now needs.now slot }
 {
-    let create = needs
+    needs
         .iter()
         .copied()
-        .find(|need| is_create_of(actions, *need, slot))?;
-    Some(create as usize)
+        .find(|need| is_create_of(actions, *need, slot))
 }
 
 fn is_create_of(actions: &[Action], action: u32, slot: u32) -> bool
@@ -95,14 +96,13 @@ fn is_create_of(actions: &[Action], action: u32, slot: u32) -> bool
     }
 }
 
-fn make_in(actions: &[Action], needs: &[u32], network: u32) -> Option<usize>
+fn make_in(actions: &[Action], needs: &[u32], network: u32) -> Option<u32>
     ensures { result ≡ make_in actions.now needs.now network }
 {
-    let make = needs
+    needs
         .iter()
         .copied()
-        .find(|need| is_make_of(actions, *need, network))?;
-    Some(make as usize)
+        .find(|need| is_make_of(actions, *need, network))
 }
 
 fn is_make_of(actions: &[Action], action: u32, network: u32) -> bool

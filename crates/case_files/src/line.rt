@@ -22,16 +22,43 @@ impl Line {
         }
     }
 
+    /// A line of a word.
+    pub fn of_word(alloc: Global, word: &str) -> Line {
+        let mut line = Line::new(alloc);
+        line.word(word);
+        line
+    }
+
     /// The line, where there was memory for all of it.
     pub fn end(self) -> Result<Text, Memory> {
         let Line { text, failed, .. } = self;
         if failed { Err(Memory) } else { Ok(text) }
     }
 
+    /// Keeps that memory was wanted.
+    pub fn fail(&mut self) {
+        self.failed = true;
+    }
+
     /// Puts a text last, as it stands.
     pub fn put(&mut self, text: &str) {
         if self.text.push_str(text).is_err() {
             self.failed = true;
+        }
+    }
+
+    /// Puts a character last.
+    pub fn put_char(&mut self, c: char) {
+        if self.text.push(c).is_err() {
+            self.failed = true;
+        }
+    }
+
+    /// Puts a text last in quotes, with escapes.
+    pub fn put_quoted(&mut self, text: &Text) {
+        match format!(in self.alloc; "{text:?}") {
+            Ok(quoted) => self.put(quoted.as_str()),
+            Err(_) => self.failed = true,
         }
     }
 
