@@ -217,7 +217,8 @@ fn put(
 
 /// Puts a value under a key into what is seen, unless the outer variables have one.
 fn see(alloc: Global, seen: &mut Env, outer: &Env, key: &Text, value: &Text) -> Result<(), Memory>
-    ensures { OnOk result (seen.new ≡ beneath (value_at outer.now key.now) seen.old key.now value.now) }
+    ensures { OnOk result (seen.new ≡
+        beneath (value_at outer.now key.now) seen.old key.now value.now) }
 {
     match outer.value(key) {
         Some(_) => Ok(()),

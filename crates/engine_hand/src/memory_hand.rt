@@ -70,10 +70,12 @@ impl Hand for MemoryHand {
     /// room in the log, nothing changes.
     fn exchange(&mut self, alloc: Global, request: Request) -> Outcome
         ensures log { Logs (log_of self.old) request result (log_of self.new) }
-        ensures told { Tells (Some self.old.engine.engine) request result (Some self.new.engine.engine) }
+        ensures told { Tells (Some self.old.engine.engine) request result
+            (Some self.new.engine.engine) }
         ensures unsent { log_of self.new ≡ log_of self.old
             → Some self.new.engine.engine ≡ Some self.old.engine.engine }
-        ensures unsent_faults { log_of self.new ≡ log_of self.old → faults_of self.new ≡ faults_of self.old }
+        ensures unsent_faults { log_of self.new ≡ log_of self.old
+            → faults_of self.new ≡ faults_of self.old }
         ensures counted { faults_of self.old ≤ faults_of self.new }
         ensures cause { HasCause request None (faults_of self.old) (faults_of self.new) result }
         ensures clock { clock_of self.new ≡ clock_of self.old }
@@ -126,7 +128,8 @@ impl Hand for MemoryHand {
         ensures log { log_of self.new ≡ log_of self.old }
         ensures engine { DriftsTold (Some self.old.engine.engine) (Some self.new.engine.engine) }
         ensures faults { faults_of self.new ≡ faults_of self.old }
-        ensures ticked { self.new.engine.engine ≡ ticked self.old.engine.engine self.old.engine.script }
+        ensures ticked { self.new.engine.engine ≡
+            ticked self.old.engine.engine self.old.engine.script }
         ensures script { self.new.engine.script ≡ later self.old.engine.script }
         ensures plan { self.new.engine.faults ≡ self.old.engine.faults }
         ensures made { self.new.engine.made ≡ self.old.engine.made }

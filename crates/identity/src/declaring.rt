@@ -107,7 +107,8 @@ fn container_labels(
 }
 
 fn push_label(alloc: Global, pairs: &mut Pairs, name: &str, value: &str) -> Result<(), Memory>
-    ensures { OnOk result (pairs.new ≡ pairs.old ++ (record { name = name.now; value = value.now }) ∷ []) }
+    ensures { OnOk result (pairs.new ≡
+        pairs.old ++ (record { name = name.now; value = value.now }) ∷ []) }
 {
     pairs.push(Var {
         name: Text::from_str(alloc, name)?,

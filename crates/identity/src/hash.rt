@@ -28,7 +28,8 @@ fn attributes_text(alloc: Global, image: &str) -> Result<Text, Memory>
 
 /// The attributes under their names in the Compose Specification.
 fn attributes(alloc: Global, image: &str) -> Result<Value, AllocError>
-    ensures { IfOk result (λ attributes. view attributes ≡ object (member (codes "image") (string image.now)
+    ensures { IfOk result (λ attributes.
+        view attributes ≡ object (member (codes "image") (string image.now)
         (member (codes "network_mode") (string (codes "none")) no_members))) }
 {
     json!(in alloc; {"image": image, "network_mode": "none"})

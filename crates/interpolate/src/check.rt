@@ -21,7 +21,8 @@ pub fn place(at: usize) -> u32
 pub fn check(text: &str, at: usize, levels: u32, inside: bool) -> Result<usize, SubstRefusal>
     requires place { at + length text.now < 2 ^ 64 }
     requires closed { IsClosed inside text.now }
-    ensures is { result ≡ sound_len (parts levels at (own inside text.now)) (length (own inside text.now)) }
+    ensures is { result ≡ sound_len (parts levels at (own inside text.now))
+        (length (own inside text.now)) }
     ensures len { IfOk result (λ len. len ≡ length (own inside text.now)) }
 {
     let mut at = at;

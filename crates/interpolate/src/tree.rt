@@ -104,7 +104,8 @@ fn scalar_value(
     env: &Env,
     size: &mut usize,
 ) -> Result<Tree, SubstTreeRefusal>
-    ensures { UpGives (beside result size.new) (scalar_walk (substituted (value_at env.now) text.now) size.old) }
+    ensures { UpGives (beside result size.new)
+        (scalar_walk (substituted (value_at env.now) text.now) size.old) }
 {
     match subst(alloc, text, env) {
         Ok(value) => {
@@ -149,7 +150,8 @@ fn map_value(
     env: &Env,
     size: &mut usize,
 ) -> Result<Tree, SubstTreeRefusal>
-    ensures { UpGives (beside result size.new) (tree_walk (value_at env.now) (Tree.Map entries.now) size.old) }
+    ensures { UpGives (beside result size.new)
+        (tree_walk (value_at env.now) (Tree.Map entries.now) size.old) }
 {
     let values = entry_values(entries.values(), entries.keys(), alloc, env, size)?;
     let entries = entries.with_values(alloc, values)?;
@@ -164,7 +166,8 @@ fn item_values(
     env: &Env,
     size: &mut usize,
 ) -> Result<List<Tree>, SubstTreeRefusal>
-    ensures { UpGives (beside result size.new) (items_walk ([], size.old) 0 (map (tree_walk (value_at env.now)) items.now)) }
+    ensures { UpGives (beside result size.new)
+        (items_walk ([], size.old) 0 (map (tree_walk (value_at env.now)) items.now)) }
 {
     let mut done = List::new(alloc);
     for (at, item) in items.iter().enumerate() {
@@ -182,7 +185,8 @@ fn item_value(
     env: &Env,
     size: &mut usize,
 ) -> Result<Tree, SubstTreeRefusal>
-    ensures { UpGives (beside result size.new) (under (Index (place at)) (tree_walk (value_at env.now) item.now size.old)) }
+    ensures { UpGives (beside result size.new)
+        (under (Index (place at)) (tree_walk (value_at env.now) item.now size.old)) }
 {
     match tree_value(item, alloc, env, size) {
         Ok(value) => Ok(value),
@@ -200,7 +204,9 @@ fn entry_values(
     size: &mut usize,
 ) -> Result<List<Tree>, SubstTreeRefusal>
     requires { length keys.now ≡ length values.now }
-    ensures value { UpGives (beside result size.new) (entries_walk ([], size.old) (zip keys.now (map (tree_walk (value_at env.now)) values.now))) }
+    ensures value { UpGives (beside result size.new)
+        (entries_walk ([], size.old)
+        (zip keys.now (map (tree_walk (value_at env.now)) values.now))) }
     ensures len { IfOk result (λ done. length done ≡ length values.now) }
 {
     let mut done = List::new(alloc);
@@ -219,7 +225,8 @@ fn entry_value(
     env: &Env,
     size: &mut usize,
 ) -> Result<Tree, SubstTreeRefusal>
-    ensures { UpGives (beside result size.new) (entry_walk (key.now, tree_walk (value_at env.now) value.now) size.old) }
+    ensures { UpGives (beside result size.new)
+        (entry_walk (key.now, tree_walk (value_at env.now) value.now) size.old) }
 {
     *size = with_bytes(*size, key.len())?;
     match tree_value(value, alloc, env, size) {

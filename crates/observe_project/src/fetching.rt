@@ -27,7 +27,8 @@ pub(crate) fn see_images<H: Hand>(
     seen: Seen,
     exchanges: &mut ReservedList<Exchange>,
 ) -> Result<Seen, SeenFault>
-    ensures { Steps (seeing_images declared.now (images_of declared.now) seen) (λ s. ending (SeenEnd.Good s)) result exchanges.old.items exchanges.new.items
+    ensures { Steps (seeing_images declared.now (images_of declared.now) seen)
+        (λ s. ending (SeenEnd.Good s)) result exchanges.old.items exchanges.new.items
         (standing (H.log hand.old) (H.engine hand.old) (H.heard hand.old) (H.faults hand.old) (H.clock hand.old))
         (standing (H.log hand.new) (H.engine hand.new) (H.heard hand.new) (H.faults hand.new) (H.clock hand.new)) }
 {
@@ -43,7 +44,8 @@ fn see_each<H: Hand>(
     begun: Seen,
     exchanges: &mut ReservedList<Exchange>,
 ) -> Result<Seen, SeenFault>
-    ensures { Steps (seeing_images declared.now images.now begun) (λ s. ending (SeenEnd.Good s)) result exchanges.old.items exchanges.new.items
+    ensures { Steps (seeing_images declared.now images.now begun)
+        (λ s. ending (SeenEnd.Good s)) result exchanges.old.items exchanges.new.items
         (standing (H.log hand.old) (H.engine hand.old) (H.heard hand.old) (H.faults hand.old) (H.clock hand.old))
         (standing (H.log hand.new) (H.engine hand.new) (H.heard hand.new) (H.faults hand.new) (H.clock hand.new)) }
 {
@@ -63,7 +65,9 @@ fn see_next<H: Hand>(
     seen: Seen,
     exchanges: &mut ReservedList<Exchange>,
 ) -> Result<Seen, SeenFault>
-    ensures { (images : List (List ℕ)) → Steps (seeing_images declared.now (image.now ∷ images) seen) (seeing_images declared.now images) result exchanges.old.items exchanges.new.items
+    ensures { (images : List (List ℕ))
+        → Steps (seeing_images declared.now (image.now ∷ images) seen)
+        (seeing_images declared.now images) result exchanges.old.items exchanges.new.items
         (standing (H.log hand.old) (H.engine hand.old) (H.heard hand.old) (H.faults hand.old) (H.clock hand.old))
         (standing (H.log hand.new) (H.engine hand.new) (H.heard hand.new) (H.faults hand.new) (H.clock hand.new)) }
 {
@@ -182,7 +186,8 @@ fn ask_to_pull<H: Hand>(
 }
 
 fn read_pull(alloc: Global, exchange: &Exchange, image: &Text) -> Result<(), SeenFault>
-    ensures { (onward : List ℕ → List Exchange → Onward) → exchange.now.request ≡ Request.Pull image.now
+    ensures { (onward : List ℕ → List Exchange → Onward)
+        → exchange.now.request ≡ Request.Pull image.now
         → Reads (after_pull image.now onward exchange.now.outcome) (λ _. inspecting image.now onward) exchange.now.request exchange.now.outcome result }
 {
     if tells_pulled(&exchange.outcome) {
@@ -223,7 +228,8 @@ fn inspect<H: Hand>(
 }
 
 fn read_id(alloc: Global, exchange: &Exchange) -> Result<Text, SeenFault>
-    ensures { (image : List ℕ) (onward : List ℕ → List Exchange → Onward) → AreAsked onward → exchange.now.request ≡ Request.Image image
+    ensures { (image : List ℕ) (onward : List ℕ → List Exchange → Onward) → AreAsked onward
+        → exchange.now.request ≡ Request.Image image
         → Reads (after_look image onward exchange.now.outcome) onward exchange.now.request exchange.now.outcome result }
 {
     match id_told(&exchange.outcome) {
@@ -252,7 +258,8 @@ fn look_for<H: Hand>(
 }
 
 fn read_found(alloc: Global, exchange: &Exchange) -> Result<Option<Text>, SeenFault>
-    ensures { (builder : Option Slot) (image : List ℕ) (onward : List ℕ → List Exchange → Onward) → AreAsked onward → exchange.now.request ≡ Request.Image image
+    ensures { (builder : Option Slot) (image : List ℕ) (onward : List ℕ → List Exchange → Onward)
+        → AreAsked onward → exchange.now.request ≡ Request.Image image
         → Reads (after_first_look builder image onward exchange.now.outcome) (found_or_wanted builder image onward) exchange.now.request exchange.now.outcome result }
 {
     if tells_missing(&exchange.outcome) {

@@ -20,7 +20,8 @@ pub(crate) fn images_of(alloc: Global, declared: &Declared) -> Result<List<Text>
 }
 
 fn distinct_images(alloc: Global, slots: &[Slot]) -> Result<Vec<Text>, Memory>
-    ensures { IfOk result (λ images. images.items ≡ first_of_each (λ image. image) (map (λ slot. slot.image) slots.now)) }
+    ensures { IfOk result (λ images.
+        images.items ≡ first_of_each (λ image. image) (map (λ slot. slot.image) slots.now)) }
 {
     let mut known = TextMap::new(alloc);
     let mut images = Vec::new(alloc);
@@ -36,7 +37,8 @@ fn keep_new(
     known: &mut TextMap<()>,
     images: &mut Vec<Text>,
 ) -> Result<(), Memory>
-    ensures { (all : List (List ℕ)) → images.old.items ≡ first_of_each (λ t. t) all → keys_of known.old ≡ map (λ t. t) images.old.items
+    ensures { (all : List (List ℕ)) → images.old.items ≡ first_of_each (λ t. t) all
+        → keys_of known.old ≡ map (λ t. t) images.old.items
         → OnOk result ((images.new.items ≡ first_of_each (λ t. t) (all ++ image.now ∷ [])) × (keys_of known.new ≡ map (λ t. t) images.new.items)) }
 {
     let key = image.copy(alloc)?;
@@ -63,7 +65,8 @@ pub(crate) fn policy_of(declared: &Declared, image: &Text) -> Policy
 }
 
 fn says_always(slots: &[Slot], image: &Text) -> bool
-    ensures { result ≡ list_any (λ slot. is_always slot.policy) (filter (λ slot. bytes_eq image.now slot.image) slots.now) }
+    ensures { result ≡ list_any (λ slot. is_always slot.policy)
+        (filter (λ slot. bytes_eq image.now slot.image) slots.now) }
 {
     has_always(slots, image)
 }
@@ -82,7 +85,8 @@ fn is_always_with(slot: &Slot, image: &Text) -> bool
 }
 
 fn says_missing(slots: &[Slot], image: &Text) -> bool
-    ensures { result ≡ list_any (λ slot. is_missing slot.policy) (filter (λ slot. bytes_eq image.now slot.image) slots.now) }
+    ensures { result ≡ list_any (λ slot. is_missing slot.policy)
+        (filter (λ slot. bytes_eq image.now slot.image) slots.now) }
 {
     has_missing(slots, image)
 }
@@ -126,7 +130,8 @@ pub(crate) fn builder_of<'d>(declared: &'d Declared, image: &Text) -> Option<&'d
 }
 
 fn first_built<'d>(slots: &'d [Slot], image: &Text) -> Option<&'d Slot>
-    ensures { option_copied result ≡ find (λ slot. bytes_eq image.now slot.image && slot.has_build) slots.now }
+    ensures { option_copied result ≡
+        find (λ slot. bytes_eq image.now slot.image && slot.has_build) slots.now }
 {
     slots.iter().find(|slot| is_built_with(slot, image))
 }

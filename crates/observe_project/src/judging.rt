@@ -22,8 +22,10 @@ pub(crate) fn judge(
     purpose: Purpose,
     seen: Seen,
 ) -> Result<Seen, SeenFault>
-    ensures leads { Leads (judging declared.now purpose seen) (λ s. after_judging declared.now purpose s None) result }
-    ensures cause { (heard : Option (List Heard)) (old new : ℕ) → IfErr result (HasCauseOfFault heard old new) }
+    ensures leads { Leads (judging declared.now purpose seen)
+        (λ s. after_judging declared.now purpose s None) result }
+    ensures cause { (heard : Option (List Heard)) (old new : ℕ)
+        → IfErr result (HasCauseOfFault heard old new) }
 {
     match listing_fault(alloc, declared, purpose, &seen) {
         Ok(None) => Ok(seen),
@@ -53,7 +55,9 @@ fn bad_network<'d>(
     purpose: Purpose,
     rows: &[NetRow],
 ) -> Option<&'d NetworkSpec>
-    ensures { option_copied result ≡ find (λ network. is_some (network_fault declared.now purpose rows.now network)) declared.now.networks }
+    ensures { option_copied result ≡
+        find (λ network. is_some
+        (network_fault declared.now purpose rows.now network)) declared.now.networks }
 {
     first_bad(declared, purpose, rows, declared.networks.as_slice())
 }
@@ -64,7 +68,9 @@ fn first_bad<'d>(
     rows: &[NetRow],
     networks: &'d [NetworkSpec],
 ) -> Option<&'d NetworkSpec>
-    ensures { option_copied result ≡ find (λ network. is_some (network_fault declared.now purpose rows.now network)) networks.now }
+    ensures { option_copied result ≡
+        find (λ network. is_some
+        (network_fault declared.now purpose rows.now network)) networks.now }
 {
     networks
         .iter()
@@ -77,7 +83,8 @@ fn volumes_fault(
     purpose: Purpose,
     names: &[Text],
 ) -> Result<Option<SeenFault>, Memory>
-    ensures { IfOk result (λ fault. fault ≡ first_in (volume_fault purpose names.now) declared.now.volumes) }
+    ensures { IfOk result (λ fault.
+        fault ≡ first_in (volume_fault purpose names.now) declared.now.volumes) }
 {
     match first_missing(purpose, names, declared.volumes.as_slice()) {
         Some(volume) => missing(alloc, volume),
@@ -91,7 +98,8 @@ fn first_missing<'d>(
     names: &[Text],
     volumes: &'d [VolumeSpec],
 ) -> Option<&'d VolumeSpec>
-    ensures { option_copied result ≡ find (λ volume. is_missing purpose names.now volume) volumes.now }
+    ensures { option_copied result ≡
+        find (λ volume. is_missing purpose names.now volume) volumes.now }
 {
     volumes
         .iter()
@@ -105,7 +113,8 @@ fn is_missing(purpose: Purpose, names: &[Text], volume: &VolumeSpec) -> bool
 }
 
 fn missing(alloc: Global, volume: &VolumeSpec) -> Result<Option<SeenFault>, Memory>
-    ensures { IfOk result (λ fault. fault ≡ Some (SeenFault.ExternalMissing Kind.Volume volume.now.name)) }
+    ensures { IfOk result (λ fault.
+        fault ≡ Some (SeenFault.ExternalMissing Kind.Volume volume.now.name)) }
 {
     Ok(Some(SeenFault::ExternalMissing {
         kind: Kind::Volume,

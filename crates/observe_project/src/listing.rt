@@ -22,7 +22,9 @@ pub(crate) fn list_all<H: Hand>(
     declared: &Declared,
     exchanges: &mut ReservedList<Exchange>,
 ) -> Result<Seen, SeenFault>
-    ensures { (purpose : Purpose) → Steps (observed declared.now purpose) (judging declared.now purpose) result exchanges.old.items exchanges.new.items
+    ensures { (purpose : Purpose)
+        → Steps (observed declared.now purpose)
+        (judging declared.now purpose) result exchanges.old.items exchanges.new.items
         (standing (H.log hand.old) (H.engine hand.old) (H.heard hand.old) (H.faults hand.old) (H.clock hand.old))
         (standing (H.log hand.new) (H.engine hand.new) (H.heard hand.new) (H.faults hand.new) (H.clock hand.new)) }
 {
@@ -38,7 +40,9 @@ fn list_containers<H: Hand>(
     declared: &Declared,
     exchanges: &mut ReservedList<Exchange>,
 ) -> Result<Seen, SeenFault>
-    ensures { (purpose : Purpose) → Steps (observed declared.now purpose) (listing_networks declared.now purpose) result exchanges.old.items exchanges.new.items
+    ensures { (purpose : Purpose)
+        → Steps (observed declared.now purpose)
+        (listing_networks declared.now purpose) result exchanges.old.items exchanges.new.items
         (standing (H.log hand.old) (H.engine hand.old) (H.heard hand.old) (H.faults hand.old) (H.clock hand.old))
         (standing (H.log hand.new) (H.engine hand.new) (H.heard hand.new) (H.faults hand.new) (H.clock hand.new)) }
 {
@@ -50,7 +54,8 @@ fn list_containers<H: Hand>(
 }
 
 fn read_containers(alloc: Global, exchange: &Exchange) -> Result<Seen, SeenFault>
-    ensures { (declared : Declared) (purpose : Purpose) → exchange.now.request ≡ Request.ListContainers declared.project
+    ensures { (declared : Declared) (purpose : Purpose)
+        → exchange.now.request ≡ Request.ListContainers declared.project
         → Reads (after_containers declared purpose exchange.now.outcome) (listing_networks declared purpose) exchange.now.request exchange.now.outcome result }
 {
     match containers_told(&exchange.outcome) {
@@ -88,7 +93,8 @@ fn keep_new(
     ids: &mut TextMap<()>,
     distinct: &mut List<Listed>,
 ) -> Result<(), Memory>
-    ensures { (rows : List Listed) → distinct.old ≡ first_of_each (λ r. r.id) rows → keys_of ids.old ≡ map (λ r. r.id) distinct.old
+    ensures { (rows : List Listed) → distinct.old ≡ first_of_each (λ r. r.id) rows
+        → keys_of ids.old ≡ map (λ r. r.id) distinct.old
         → OnOk result ((distinct.new ≡ first_of_each (λ r. r.id) (rows ++ row.now ∷ [])) × (keys_of ids.new ≡ map (λ r. r.id) distinct.new)) }
 {
     let id = row.id.copy(alloc)?;
@@ -109,7 +115,9 @@ fn list_networks<H: Hand>(
     seen: Seen,
     exchanges: &mut ReservedList<Exchange>,
 ) -> Result<Seen, SeenFault>
-    ensures { (purpose : Purpose) → Steps (listing_networks declared.now purpose seen) (listing_volumes declared.now purpose) result exchanges.old.items exchanges.new.items
+    ensures { (purpose : Purpose)
+        → Steps (listing_networks declared.now purpose seen)
+        (listing_volumes declared.now purpose) result exchanges.old.items exchanges.new.items
         (standing (H.log hand.old) (H.engine hand.old) (H.heard hand.old) (H.faults hand.old) (H.clock hand.old))
         (standing (H.log hand.new) (H.engine hand.new) (H.heard hand.new) (H.faults hand.new) (H.clock hand.new)) }
 {
@@ -137,7 +145,8 @@ fn ask_for_networks<H: Hand>(
 }
 
 fn read_networks(alloc: Global, exchange: &Exchange, seen: Seen) -> Result<Seen, SeenFault>
-    ensures { (declared : Declared) (purpose : Purpose) → exchange.now.request ≡ Request.ListNetworks
+    ensures { (declared : Declared) (purpose : Purpose)
+        → exchange.now.request ≡ Request.ListNetworks
         → Reads (after_networks declared purpose seen exchange.now.outcome) (listing_volumes declared purpose) exchange.now.request exchange.now.outcome result }
 {
     match networks_told(&exchange.outcome) {
@@ -163,7 +172,9 @@ fn list_volumes<H: Hand>(
     seen: Seen,
     exchanges: &mut ReservedList<Exchange>,
 ) -> Result<Seen, SeenFault>
-    ensures { (purpose : Purpose) → Steps (listing_volumes declared.now purpose seen) (judging declared.now purpose) result exchanges.old.items exchanges.new.items
+    ensures { (purpose : Purpose)
+        → Steps (listing_volumes declared.now purpose seen)
+        (judging declared.now purpose) result exchanges.old.items exchanges.new.items
         (standing (H.log hand.old) (H.engine hand.old) (H.heard hand.old) (H.faults hand.old) (H.clock hand.old))
         (standing (H.log hand.new) (H.engine hand.new) (H.heard hand.new) (H.faults hand.new) (H.clock hand.new)) }
 {

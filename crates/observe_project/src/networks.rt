@@ -22,7 +22,8 @@ pub(crate) fn network_fault(
     rows: &[NetRow],
     network: &NetworkSpec,
 ) -> Result<Option<SeenFault>, Memory>
-    ensures { IfOk result (λ fault. fault ≡ network_fault declared.now purpose rows.now network.now) }
+    ensures { IfOk result (λ fault.
+        fault ≡ network_fault declared.now purpose rows.now network.now) }
 {
     let least = two_least(rows, &network.name);
     fault_by(alloc, declared, purpose, network, least.first, least.second)
@@ -36,7 +37,9 @@ fn fault_by(
     first: Option<&NetRow>,
     second: Option<&NetRow>,
 ) -> Result<Option<SeenFault>, Memory>
-    ensures { IfOk result (λ fault. fault ≡ fault_by declared.now purpose network.now (option_copied first.entry) (option_copied second.entry)) }
+    ensures { IfOk result (λ fault.
+        fault ≡ fault_by declared.now purpose network.now (option_copied first.entry)
+        (option_copied second.entry)) }
 {
     let Some(row) = first else {
         return missing(alloc, purpose, network);
@@ -67,7 +70,8 @@ fn is_bad_by(
     first: Option<&NetRow>,
     second: Option<&NetRow>,
 ) -> bool
-    ensures { result ≡ is_some (fault_by declared.now purpose network.now (option_copied first.entry) (option_copied second.entry)) }
+    ensures { result ≡ is_some (fault_by declared.now purpose network.now
+        (option_copied first.entry) (option_copied second.entry)) }
 {
     let Some(row) = first else {
         return network.external && is_up(purpose);
@@ -83,8 +87,10 @@ struct Least<'r> {
 }
 
 fn two_least<'r>(rows: &'r [NetRow], name: &Text) -> Least<'r>
-    ensures first { option_copied result.first ≡ slice_get (by_key (λ row. row.id) (filter (λ row. bytes_eq name.now row.name) rows.now)) 0 }
-    ensures second { option_copied result.second ≡ slice_get (by_key (λ row. row.id) (filter (λ row. bytes_eq name.now row.name) rows.now)) 1 }
+    ensures first { option_copied result.first ≡
+        slice_get (by_key (λ row. row.id) (filter (λ row. bytes_eq name.now row.name) rows.now)) 0 }
+    ensures second { option_copied result.second ≡
+        slice_get (by_key (λ row. row.id) (filter (λ row. bytes_eq name.now row.name) rows.now)) 1 }
 {
     let mut least = Least {
         first: None,
@@ -99,8 +105,11 @@ fn two_least<'r>(rows: &'r [NetRow], name: &Text) -> Least<'r>
 }
 
 fn with_named<'r>(least: Least<'r>, row: &'r NetRow, name: &Text) -> Least<'r>
-    ensures first { option_copied result.first ≡ first_named name.now row.now (option_copied least.entry.first) }
-    ensures second { option_copied result.second ≡ second_named name.now row.now (option_copied least.entry.first) (option_copied least.entry.second) }
+    ensures first { option_copied result.first ≡
+        first_named name.now row.now (option_copied least.entry.first) }
+    ensures second { option_copied result.second ≡
+        second_named name.now row.now (option_copied least.entry.first)
+        (option_copied least.entry.second) }
 {
     if *name == row.name {
         Least {
@@ -132,7 +141,8 @@ fn second_with<'r>(
     first: Option<&'r NetRow>,
     second: Option<&'r NetRow>,
 ) -> Option<&'r NetRow>
-    ensures { option_copied result ≡ second_with row.now (option_copied first.entry) (option_copied second.entry) }
+    ensures { option_copied result ≡
+        second_with row.now (option_copied first.entry) (option_copied second.entry) }
 {
     match first {
         Some(first) => {
@@ -188,7 +198,8 @@ fn foreign(
 
 /// Whether a declared network that is there is another project's.
 fn is_foreign(declared: &Declared, network: &NetworkSpec, row: &NetRow) -> bool
-    ensures { result ≡ (not network.now.external && not (has_label row.now.labels project_label declared.now.project)) }
+    ensures { result ≡ (not network.now.external && not
+        (has_label row.now.labels project_label declared.now.project)) }
 {
     !network.external && !has_label(&row.labels, labels::PROJECT, declared.project.as_str())
 }
@@ -199,7 +210,8 @@ fn twice(
     first: &NetRow,
     second: &NetRow,
 ) -> Result<Option<SeenFault>, Memory>
-    ensures { IfOk result (λ fault. fault ≡ Some (SeenFault.NetworkTwice network.now.name first.now.id second.now.id)) }
+    ensures { IfOk result (λ fault.
+        fault ≡ Some (SeenFault.NetworkTwice network.now.name first.now.id second.now.id)) }
 {
     Ok(Some(SeenFault::NetworkTwice {
         name: network.name.copy(alloc)?,

@@ -35,8 +35,11 @@ pub fn observe<H: Hand>(
     ensures observed { IsObservation declared.now purpose result }
     ensures log { GrowsBy result.exchanges (H.log hand.old) (H.log hand.new) }
     ensures told { ToldBy result.exchanges (H.engine hand.old) (H.engine hand.new) }
-    ensures caused { AreCaused result.exchanges (account (H.log hand.old) (H.heard hand.old) (H.faults hand.old)) (account (H.log hand.new) (H.heard hand.new) (H.faults hand.new)) }
-    ensures cause { HasCauseOfEnd (H.heard hand.new) (H.faults hand.old) (H.faults hand.new) result.end }
+    ensures caused { AreCaused result.exchanges
+        (account (H.log hand.old) (H.heard hand.old) (H.faults hand.old))
+        (account (H.log hand.new) (H.heard hand.new) (H.faults hand.new)) }
+    ensures cause { HasCauseOfEnd (H.heard hand.new) (H.faults hand.old)
+        (H.faults hand.new) result.end }
     ensures clock { H.clock hand.new ≡ H.clock hand.old }
 {
     let mut exchanges = ReservedList::new(alloc);
@@ -63,7 +66,8 @@ fn see<H: Hand>(
     purpose: Purpose,
     exchanges: &mut ReservedList<Exchange>,
 ) -> Result<Seen, SeenFault>
-    ensures { Steps (observed declared.now purpose) (λ seen. ending (SeenEnd.Good seen)) result exchanges.old.items exchanges.new.items
+    ensures { Steps (observed declared.now purpose)
+        (λ seen. ending (SeenEnd.Good seen)) result exchanges.old.items exchanges.new.items
         (standing (H.log hand.old) (H.engine hand.old) (H.heard hand.old) (H.faults hand.old) (H.clock hand.old))
         (standing (H.log hand.new) (H.engine hand.new) (H.heard hand.new) (H.faults hand.new) (H.clock hand.new)) }
 {
@@ -80,7 +84,8 @@ fn look<H: Hand>(
     listed: Seen,
     exchanges: &mut ReservedList<Exchange>,
 ) -> Result<Seen, SeenFault>
-    ensures { Steps (judging declared.now purpose listed) (λ seen. ending (SeenEnd.Good seen)) result exchanges.old.items exchanges.new.items
+    ensures { Steps (judging declared.now purpose listed)
+        (λ seen. ending (SeenEnd.Good seen)) result exchanges.old.items exchanges.new.items
         (standing (H.log hand.old) (H.engine hand.old) (H.heard hand.old) (H.faults hand.old) (H.clock hand.old))
         (standing (H.log hand.new) (H.engine hand.new) (H.heard hand.new) (H.faults hand.new) (H.clock hand.new)) }
 {
@@ -96,7 +101,8 @@ fn look_at_images<H: Hand>(
     seen: Seen,
     exchanges: &mut ReservedList<Exchange>,
 ) -> Result<Seen, SeenFault>
-    ensures { Steps (after_judging declared.now purpose seen None) (λ seen. ending (SeenEnd.Good seen)) result exchanges.old.items exchanges.new.items
+    ensures { Steps (after_judging declared.now purpose seen None)
+        (λ seen. ending (SeenEnd.Good seen)) result exchanges.old.items exchanges.new.items
         (standing (H.log hand.old) (H.engine hand.old) (H.heard hand.old) (H.faults hand.old) (H.clock hand.old))
         (standing (H.log hand.new) (H.engine hand.new) (H.heard hand.new) (H.faults hand.new) (H.clock hand.new)) }
 {

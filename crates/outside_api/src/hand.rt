@@ -34,7 +34,8 @@ pub trait Hand: Drop {
         ensures unsent_faults { log self.new ≡ log self.old → faults self.new ≡ faults self.old }
         ensures heard { HearsNext (log self.old) (log self.new) (heard self.old) (heard self.new) }
         ensures counted { faults self.old ≤ faults self.new }
-        ensures cause { HasCause request (heard self.new) (faults self.old) (faults self.new) result }
+        ensures cause { HasCause request (heard self.new) (faults self.old)
+            (faults self.new) result }
         ensures clock { clock self.new ≡ clock self.old };
 
     /// The time in milliseconds of a clock that all hands share. No memory.

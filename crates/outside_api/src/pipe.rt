@@ -24,7 +24,8 @@ pub trait Pipe: Drop {
     fn write(&mut self, piece: &[u8]) -> SinkAnswer
         ensures counted { faults self.old ≤ faults self.new }
         ensures answer { IsWriteOf piece.now (faults self.old) (faults self.new) result }
-        ensures told { ToldBy (after_write (take (taken result) piece.now)) (talk self.old) (talk self.new) };
+        ensures told { ToldBy (after_write (take (taken result) piece.now)) (talk self.old)
+            (talk self.new) };
 
     /// Reads the next bytes into the room, which isn't empty.
     fn read(&mut self, room: &mut [u8]) -> PipeAnswer

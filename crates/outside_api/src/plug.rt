@@ -45,9 +45,14 @@ pub trait Plug: Drop {
         ensures counted { faults self.old ≤ faults self.new }
         ensures failed { result ≡ DialAnswer.Failed → Rose (faults self.old) (faults self.new) }
         ensures dialled { CountsDial (dialled self.old) (dialled self.new) result }
-        ensures log { (hand : Self.Hand) → result ≡ DialAnswer.Dialled hand → Self.Hand.log hand ≡ [] }
-        ensures heard { (hand : Self.Hand) → result ≡ DialAnswer.Dialled hand → HeardNothing (Self.Hand.heard hand) }
-        ensures clock { (hand : Self.Hand) → result ≡ DialAnswer.Dialled hand → Self.Hand.clock hand ≡ new_clock }
-        ensures faults { (hand : Self.Hand) → result ≡ DialAnswer.Dialled hand → Self.Hand.faults hand ≡ 0 }
-        ensures engine { (hand : Self.Hand) → result ≡ DialAnswer.Dialled hand → BeginsWith (engine self.old) (Self.Hand.engine hand) };
+        ensures log { (hand : Self.Hand) → result ≡ DialAnswer.Dialled hand
+            → Self.Hand.log hand ≡ [] }
+        ensures heard { (hand : Self.Hand) → result ≡ DialAnswer.Dialled hand
+            → HeardNothing (Self.Hand.heard hand) }
+        ensures clock { (hand : Self.Hand) → result ≡ DialAnswer.Dialled hand
+            → Self.Hand.clock hand ≡ new_clock }
+        ensures faults { (hand : Self.Hand) → result ≡ DialAnswer.Dialled hand
+            → Self.Hand.faults hand ≡ 0 }
+        ensures engine { (hand : Self.Hand) → result ≡ DialAnswer.Dialled hand
+            → BeginsWith (engine self.old) (Self.Hand.engine hand) };
 }

@@ -34,8 +34,10 @@ pub trait Wire: Drop {
     fn dial(&mut self, alloc: Global) -> DialAnswer<Self::P>
         requires { dialled self.old < 2 ^ 62 }
         ensures counted { faults self.old ≤ faults self.new }
-        ensures answer { Dials (faults self.old) (faults self.new) (dialled self.old) (dialled self.new) result }
-        ensures fresh { (pipe : Self.P) → result ≡ DialAnswer.Dialled pipe → IfSome (Self.P.talk pipe) (λ talk. talk ≡ silence) × (Self.P.faults pipe ≡ 0) }
+        ensures answer { Dials (faults self.old) (faults self.new) (dialled self.old)
+            (dialled self.new) result }
+        ensures fresh { (pipe : Self.P) → result ≡ DialAnswer.Dialled pipe
+            → IfSome (Self.P.talk pipe) (λ talk. talk ≡ silence) × (Self.P.faults pipe ≡ 0) }
         ensures past { past self.new ≡ past self.old }
         ensures clock { clock self.new ≡ clock self.old };
 

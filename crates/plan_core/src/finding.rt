@@ -99,7 +99,8 @@ impl<'a> Planner<'a> {
 
     /// Puts the texts last under which an action finds those that it needs.
     fn push_asked(&self, texts: &mut Vec<&'a str>, kind: ActionKind) -> Result<(), Memory>
-        ensures { OnOk result (seen_texts texts.new.items ≡ seen_texts texts.old.items ++ asked_of self.now kind) }
+        ensures { OnOk result (seen_texts texts.new.items ≡
+            seen_texts texts.old.items ++ asked_of self.now kind) }
     {
         match kind {
             ActionKind::StopContainer { container } => self.push_dependents(texts, container)?,
@@ -208,7 +209,8 @@ fn push_dependent<'a>(
 
 /// Puts a number last, under keys.
 fn push_keys<'a>(entries: &mut Vec<(&'a str, u64)>, keys: &'a [Text], at: u64) -> Result<(), Memory>
-    ensures { OnOk result (seen_entries entries.new.items ≡ seen_entries entries.old.items ++ under_each keys.now at) }
+    ensures { OnOk result (seen_entries entries.new.items ≡
+        seen_entries entries.old.items ++ under_each keys.now at) }
 {
     for key in keys {
         entries.push((key.as_str(), at))?;
@@ -278,7 +280,8 @@ fn push_network_names<'a>(
 
 /// Puts what stands before the first colon of each bind of a slot last.
 fn push_bind_sources<'a>(texts: &mut Vec<&'a str>, slot: &'a Slot) -> Result<(), Memory>
-    ensures { OnOk result (seen_texts texts.new.items ≡ seen_texts texts.old.items ++ bind_sources slot.now) }
+    ensures { OnOk result (seen_texts texts.new.items ≡
+        seen_texts texts.old.items ++ bind_sources slot.now) }
 {
     match &slot.spec.get().binds {
         Some(binds) => push_sources(texts, binds.as_slice()),

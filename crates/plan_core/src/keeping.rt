@@ -69,7 +69,9 @@ fn kept_place(
     slot: &Slot,
 ) -> Result<Option<u64>, Memory>
     requires { rows.now ≡ containers_under seen.now }
-    ensures { IfOk result (λ place. option_and_then (slice_get seen.now.containers) place ≡ kept_of declared.now seen.now slot.now) }
+    ensures { IfOk result (λ place.
+        option_and_then (slice_get seen.now.containers) place ≡
+        kept_of declared.now seen.now slot.now) }
 {
     let text = slot_text(alloc, slot)?;
     kept_among(alloc, declared, seen, slot, rows.find(text.as_str()))
@@ -101,7 +103,8 @@ fn kept_among(
 
 /// Of two places of containers the first where its container's id is less, else the second. No memory.
 fn lesser(seen: &Seen, other: u64, place: u64) -> u64
-    ensures { result ≡ (if is_before (id_at seen.now.containers other) (id_at seen.now.containers place) then other else place) }
+    ensures { result ≡ (if is_before (id_at seen.now.containers other)
+        (id_at seen.now.containers place) then other else place) }
 {
     let rows = seen.containers.as_slice();
     if id_at(rows, other) < id_at(rows, place) {
@@ -175,7 +178,8 @@ pub(crate) fn all_updated(
     rows: &TextIndex<'_>,
 ) -> Result<Vec<bool>, Memory>
     requires { rows.now ≡ containers_under seen.now }
-    ensures { IfOk result (λ updated. updated.items ≡ map (is_updated declared.now seen.now) declared.now.slots) }
+    ensures { IfOk result (λ updated.
+        updated.items ≡ map (is_updated declared.now seen.now) declared.now.slots) }
 {
     let mut all = Vec::new(alloc);
     for slot in declared.slots.as_slice() {
@@ -224,7 +228,8 @@ fn any_is_slots(
     slot: &Slot,
     places: &[u64],
 ) -> Result<bool, Memory>
-    ensures { IfOk result (λ has. has ≡ list_any (is_slots_at declared.now seen.now slot.now) places.now) }
+    ensures { IfOk result (λ has.
+        has ≡ list_any (is_slots_at declared.now seen.now slot.now) places.now) }
 {
     for place in places {
         if is_slots_at(alloc, declared, seen, slot, *place)? {

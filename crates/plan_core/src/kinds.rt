@@ -71,7 +71,8 @@ impl Planner<'_> {
 
     /// Puts the actions of a row last that the plan has.
     fn push_row(&self, kinds: &mut List<ActionKind>, row: Row) -> Result<(), Memory>
-        ensures { OnOk result (kinds.new ≡ kinds.old ++ filter (is_wanted self.now) (row_actions self.now row)) }
+        ensures { OnOk result (kinds.new ≡
+            kinds.old ++ filter (is_wanted self.now) (row_actions self.now row)) }
     {
         for at in 0..self.count(row) {
             let number = number_of(at)?;
@@ -114,7 +115,8 @@ impl Planner<'_> {
 
     /// The stop and the removal of one container, where it goes.
     fn push_ends(&self, kinds: &mut List<ActionKind>, container: u64) -> Result<(), Memory>
-        ensures { OnOk result (kinds.new ≡ kinds.old ++ filter (is_wanted self.now) (ends_of container)) }
+        ensures { OnOk result (kinds.new ≡
+            kinds.old ++ filter (is_wanted self.now) (ends_of container)) }
     {
         self.push_wanted(kinds, ActionKind::StopContainer { container })?;
         self.push_wanted(kinds, ActionKind::RemoveContainer { container })?;
@@ -134,7 +136,8 @@ impl Planner<'_> {
 
     /// The connects of one slot.
     fn push_connects_of(&self, kinds: &mut List<ActionKind>, slot: u32) -> Result<(), Memory>
-        ensures { OnOk result (kinds.new ≡ kinds.old ++ filter (is_wanted self.now) (connects_of self.now slot)) }
+        ensures { OnOk result (kinds.new ≡
+            kinds.old ++ filter (is_wanted self.now) (connects_of self.now slot)) }
     {
         for at in 0..self.attach_count(slot) {
             let attach = number_of(at)?;

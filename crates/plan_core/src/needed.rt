@@ -82,7 +82,8 @@ impl Planner<'_> {
         places: &[u64],
         kind: ActionKind,
     ) -> Result<List<u32>, Memory>
-        ensures { IfOk result (λ needs. needs ≡ filter (is_needed_at self.now kinds.now kind) places.now) }
+        ensures { IfOk result (λ needs.
+            needs ≡ filter (is_needed_at self.now kinds.now kind) places.now) }
     {
         let mut needs = List::new(alloc);
         for place in places {
@@ -221,7 +222,8 @@ impl Planner<'_> {
 
     /// Whether one of these needs asks for a restart by the update of a slot.
     fn restarts_for(&self, needs: &[Need], started: u32) -> bool
-        ensures { result ≡ list_any (λ need. (need.slot == started) && asks_restart self.now.declared self.now.seen need) needs.now }
+        ensures { result ≡ list_any (λ need.
+            (need.slot == started) && asks_restart self.now.declared self.now.seen need) needs.now }
     {
         needs
             .iter()

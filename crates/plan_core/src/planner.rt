@@ -130,7 +130,9 @@ impl<'a> Planner<'a> {
 
 /// The container at the place that stands under a number. No memory.
 fn kept_at<'a>(seen: &'a Seen, kept: &[Option<u64>], slot: usize) -> Option<&'a Listed>
-    ensures { option_copied result ≡ option_and_then (option_and_then (slice_get seen.now.containers)) (slice_get kept.now slot) }
+    ensures { option_copied result ≡
+        option_and_then (option_and_then (slice_get seen.now.containers))
+        (slice_get kept.now slot) }
 {
     row_at(seen, *item_at(kept, slot)?)
 }

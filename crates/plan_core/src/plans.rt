@@ -26,9 +26,11 @@ pub fn plan_up(
     seen: &Seen,
     orphans: bool,
 ) -> Result<Plan, PlanRefusal>
-    ensures planned { IfOk result (λ plan. plan.actions ≡ planned (up_basis declared.now seen.now orphans)) }
+    ensures planned { IfOk result (λ plan.
+        plan.actions ≡ planned (up_basis declared.now seen.now orphans)) }
     ensures kept { IfOk result (λ plan. AreKeptPlaces declared.now seen.now plan.kept) }
-    ensures fits { IfOk result (λ plan. is_too_long (up_basis declared.now seen.now orphans) ≡ false) }
+    ensures fits { IfOk result (λ plan.
+        is_too_long (up_basis declared.now seen.now orphans) ≡ false) }
     ensures too_many { (count : ℕ) → result ≡ Err (PlanRefusal.TooManyActions count)
         → (is_too_long (up_basis declared.now seen.now orphans) ≡ true)
         × (count ≡ action_count (up_basis declared.now seen.now orphans)) }
@@ -46,9 +48,11 @@ pub fn plan_down(
     orphans: bool,
     volumes: bool,
 ) -> Result<Plan, PlanRefusal>
-    ensures planned { IfOk result (λ plan. plan.actions ≡ planned (down_basis declared.now seen.now orphans volumes)) }
+    ensures planned { IfOk result (λ plan.
+        plan.actions ≡ planned (down_basis declared.now seen.now orphans volumes)) }
     ensures kept { IfOk result (λ plan. AreKeptPlaces declared.now seen.now plan.kept) }
-    ensures fits { IfOk result (λ plan. is_too_long (down_basis declared.now seen.now orphans volumes) ≡ false) }
+    ensures fits { IfOk result (λ plan.
+        is_too_long (down_basis declared.now seen.now orphans volumes) ≡ false) }
     ensures too_many { (count : ℕ) → result ≡ Err (PlanRefusal.TooManyActions count)
         → (is_too_long (down_basis declared.now seen.now orphans volumes) ≡ true)
         × (count ≡ action_count (down_basis declared.now seen.now orphans volumes)) }
@@ -65,9 +69,11 @@ fn plan_for(
     orphans: bool,
     volumes: bool,
 ) -> Result<Plan, PlanRefusal>
-    ensures planned { IfOk result (λ plan. plan.actions ≡ planned (basis_of declared.now seen.now purpose orphans volumes)) }
+    ensures planned { IfOk result (λ plan.
+        plan.actions ≡ planned (basis_of declared.now seen.now purpose orphans volumes)) }
     ensures kept { IfOk result (λ plan. AreKeptPlaces declared.now seen.now plan.kept) }
-    ensures fits { IfOk result (λ plan. is_too_long (basis_of declared.now seen.now purpose orphans volumes) ≡ false) }
+    ensures fits { IfOk result (λ plan.
+        is_too_long (basis_of declared.now seen.now purpose orphans volumes) ≡ false) }
     ensures too_many { (count : ℕ) → result ≡ Err (PlanRefusal.TooManyActions count)
         → (is_too_long (basis_of declared.now seen.now purpose orphans volumes) ≡ true)
         × (count ≡ action_count (basis_of declared.now seen.now purpose orphans volumes)) }
@@ -81,7 +87,8 @@ impl Planner<'_> {
     /// The plan, or the refusal of one that is too long.
     fn plan(&self, alloc: Global) -> Result<Plan, PlanRefusal>
         ensures planned { IfOk result (λ plan. plan.actions ≡ planned self.now) }
-        ensures kept { IfOk result (λ plan. AreKeptPlaces self.now.declared self.now.seen plan.kept) }
+        ensures kept { IfOk result (λ plan.
+            AreKeptPlaces self.now.declared self.now.seen plan.kept) }
         ensures fits { IfOk result (λ plan. is_too_long self.now ≡ false) }
         ensures too_many { (count : ℕ) → result ≡ Err (PlanRefusal.TooManyActions count)
             → (is_too_long self.now ≡ true) × (count ≡ action_count self.now) }

@@ -19,7 +19,8 @@ impl SlotTexts {
     /// The texts of what is declared and of what was seen.
     pub(crate) fn new(alloc: Global, declared: &Declared, seen: &Seen) -> Result<SlotTexts, Memory>
         ensures slots { IfOk result (λ texts. texts.slots ≡ map slot_text declared.now.slots) }
-        ensures containers { IfOk result (λ texts. texts.containers ≡ map container_text seen.now.containers) }
+        ensures containers { IfOk result (λ texts.
+            texts.containers ≡ map container_text seen.now.containers) }
     {
         let slots = slot_texts(alloc, declared.slots.as_slice())?;
         let containers = container_texts(alloc, seen.containers.as_slice())?;

@@ -85,7 +85,8 @@ pub(crate) fn places_found(
     texts: &[&str],
 ) -> Result<Vec<u64>, Memory>
     ensures rises { IfOk result (λ places. IsStrictlyIncreasing places.items) }
-    ensures holds { IfOk result (λ places. (text : List ℕ) (place : ℕ) → Among (seen_texts texts.now) text
+    ensures holds { IfOk result (λ places. (text : List ℕ) (place : ℕ)
+        → Among (seen_texts texts.now) text
         → Among (numbers_under index.now text) place → Among places.items place) }
 {
     let mut places = all_found(alloc, index, texts)?;
@@ -96,7 +97,8 @@ pub(crate) fn places_found(
 
 /// The numbers under some texts, text by text.
 fn all_found(alloc: Global, index: &TextIndex<'_>, texts: &[&str]) -> Result<Vec<u64>, Memory>
-    ensures { IfOk result (λ found. found.items ≡ flat_map (numbers_under index.now) (seen_texts texts.now)) }
+    ensures { IfOk result (λ found.
+        found.items ≡ flat_map (numbers_under index.now) (seen_texts texts.now)) }
 {
     let mut found = Vec::new(alloc);
     for text in texts {

@@ -76,7 +76,8 @@ impl Planner<'_> {
     }
 
     fn takes_out(&self, container: u64) -> bool
-        ensures { result ≡ option_map_or (is_removed self.now) (slice_get self.now.seen.containers container) false }
+        ensures { result ≡ option_map_or (is_removed self.now)
+            (slice_get self.now.seen.containers container) false }
     {
         match self.seen.containers.get(container as usize) {
             Some(row) => self.is_removed(row),
@@ -170,7 +171,8 @@ impl Planner<'_> {
     }
 
     fn is_updated(&self, slot: u32) -> bool
-        ensures { result ≡ option_map_or (is_updated self.now.declared self.now.seen) (slot_at self.now.declared slot) false }
+        ensures { result ≡ option_map_or (is_updated self.now.declared self.now.seen)
+            (slot_at self.now.declared slot) false }
     {
         match item_at(self.updated.as_slice(), slot as usize) {
             Some(updated) => *updated,

@@ -55,7 +55,8 @@ fn put_entries(
     out: &mut Text,
 ) -> Result<(), Memory>
     requires { length keys.now ≡ length values.now }
-    ensures { OnOk result (out.new ≡ out.old ++ entries_text depth (zip keys.now (map shown values.now))) }
+    ensures { OnOk result (out.new ≡
+        out.old ++ entries_text depth (zip keys.now (map shown values.now))) }
 {
     let below = deeper(depth)?;
     for (at, value) in values.iter().enumerate() {

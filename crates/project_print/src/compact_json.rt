@@ -68,7 +68,8 @@ fn put_members(
     out: &mut Text,
 ) -> Result<(), Memory>
     requires { length keys.now ≡ length values.now }
-    ensures { OnOk result (out.new ≡ out.old ++ members_text (zip keys.now (map (json_of dollars) values.now))) }
+    ensures { OnOk result (out.new ≡
+        out.old ++ members_text (zip keys.now (map (json_of dollars) values.now))) }
 {
     for (at, value) in values.iter().enumerate() {
         put_comma(at, out)?;
@@ -122,7 +123,8 @@ fn put_content(text: &str, dollars: Dollars, out: &mut Text) -> Result<(), Memor
 /// result is how many bytes of the text it stands for.
 fn put_piece(text: &str, dollars: Dollars, out: &mut Text) -> Result<usize, Memory>
     requires { 0 < length text.now }
-    ensures put { IfOk result (λ len. out.new ++ content dollars (drop len text.now) ≡ out.old ++ content dollars text.now) }
+    ensures put { IfOk result (λ len.
+        out.new ++ content dollars (drop len text.now) ≡ out.old ++ content dollars text.now) }
     ensures cut { IfOk result (λ len. (0 < len) × IsCharBoundary text.now len) }
 {
     let len = standing_len(text.as_bytes(), dollars);
@@ -181,7 +183,8 @@ fn put_escape(byte: u8, out: &mut Text) -> Result<(), Memory>
 
 /// Puts the escape last that gives the number of a character.
 fn put_code(byte: u8, out: &mut Text) -> Result<(), Memory>
-    ensures { OnOk result (out.new ≡ out.old ++ (92 ∷ 117 ∷ 48 ∷ 48 ∷ digit_char (byte / 16) ∷ digit_char (byte % 16) ∷ [])) }
+    ensures { OnOk result (out.new ≡
+        out.old ++ (92 ∷ 117 ∷ 48 ∷ 48 ∷ digit_char (byte / 16) ∷ digit_char (byte % 16) ∷ [])) }
 {
     out.push_str("\\u00")?;
     out.push(digit(byte / 16))?;

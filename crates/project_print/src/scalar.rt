@@ -23,13 +23,15 @@ fn is_plain_byte(byte: u8) -> bool
 }
 
 fn is_same_word(text: &str, word: &str) -> bool
-    ensures { result ≡ bytes_eq (str_to_ascii_lowercase text.now) (str_to_ascii_lowercase word.now) }
+    ensures { result ≡ bytes_eq (str_to_ascii_lowercase text.now)
+        (str_to_ascii_lowercase word.now) }
 {
     text.eq_ignore_ascii_case(word)
 }
 
 fn is_one_of(text: &str, words: &[&str]) -> bool
-    ensures { result ≡ list_any (λ word. bytes_eq (str_to_ascii_lowercase text.now) (str_to_ascii_lowercase word.now)) words.now }
+    ensures { result ≡ list_any (λ word. bytes_eq (str_to_ascii_lowercase text.now)
+        (str_to_ascii_lowercase word.now)) words.now }
 {
     words.iter().any(|word| is_same_word(text, word))
 }
@@ -89,7 +91,8 @@ fn upper_digit(value: u8) -> char
 }
 
 fn put_hex(byte: u8, out: &mut Text) -> Result<(), Memory>
-    ensures { OnOk result (out.new ≡ out.old ++ (92 ∷ 120 ∷ upper_digit (byte / 16) ∷ upper_digit (byte % 16) ∷ [])) }
+    ensures { OnOk result (out.new ≡
+        out.old ++ (92 ∷ 120 ∷ upper_digit (byte / 16) ∷ upper_digit (byte % 16) ∷ [])) }
 {
     out.push_str("\\x")?;
     out.push(upper_digit(byte / 16))?;

@@ -18,7 +18,8 @@ pub(crate) fn end(alloc: Global, run: &Run<'_>, journal: List<Entry>) -> Ran
     requires { list_any is_poll journal ≡ false }
     ensures journal { result.journal ≡ journal }
     ensures fault { IsFault (first_fault (setup_of run.now) (reverse journal)) result.fault }
-    ensures report { IsReport (report_text (setup_of run.now) (reverse journal)) result.fault result.report }
+    ensures report { IsReport (report_text (setup_of run.now)
+        (reverse journal)) result.fault result.report }
 {
     match read_journal(alloc, run, journal.as_slice()) {
         Ok(Reading { report, fault }) => Ran {
@@ -43,8 +44,10 @@ struct Reading {
 
 fn read_journal(alloc: Global, run: &Run<'_>, journal: &[Entry]) -> Result<Reading, Memory>
     requires { list_any is_poll journal.now ≡ false }
-    ensures fault { IfOk result (λ reading. reading.fault ≡ first_fault (setup_of run.now) (reverse journal.now)) }
-    ensures report { IfOk result (λ reading. reading.report ≡ report_text (setup_of run.now) (reverse journal.now)) }
+    ensures fault { IfOk result (λ reading.
+        reading.fault ≡ first_fault (setup_of run.now) (reverse journal.now)) }
+    ensures report { IfOk result (λ reading.
+        reading.report ≡ report_text (setup_of run.now) (reverse journal.now)) }
 {
     Ok(Reading {
         report: report(alloc, run, journal)?,

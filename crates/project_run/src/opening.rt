@@ -74,8 +74,10 @@ fn outlook_of(
     end: SeenEnd,
     aim: Aim,
 ) -> Result<Outlook, SeenFault>
-    ensures ok { IfOk result (λ outlook. IsWholeEnd declared.now (aim_of aim) end outlook.end × Follows declared.now (aim_of aim) outlook.end outlook.opening) }
-    ensures err { IfErr result (λ fault. IsWholeEnd declared.now (aim_of aim) end (SeenEnd.Bad fault)) }
+    ensures ok { IfOk result (λ outlook. IsWholeEnd declared.now (aim_of aim) end outlook.end
+        × Follows declared.now (aim_of aim) outlook.end outlook.opening) }
+    ensures err { IfErr result (λ fault.
+        IsWholeEnd declared.now (aim_of aim) end (SeenEnd.Bad fault)) }
 {
     let seen = match end {
         SeenEnd::Good(seen) => seen,
@@ -91,8 +93,11 @@ fn outlook_of(
 
 /// The plan of an aim, or why there is none as a fault of the observation.
 fn plan_for(alloc: Global, declared: &Declared, seen: &Seen, aim: Aim) -> Result<Plan, SeenFault>
-    ensures ok { IfOk result (λ plan. (plan.actions ≡ planned (basis_of declared.now seen.now (aim_of aim))) × (is_too_long (basis_of declared.now seen.now (aim_of aim)) ≡ false)) }
-    ensures err { IfErr result (λ fault. IsWholeEnd declared.now (aim_of aim) (SeenEnd.Good seen.now) (SeenEnd.Bad fault)) }
+    ensures ok { IfOk result (λ plan.
+        (plan.actions ≡ planned (basis_of declared.now seen.now (aim_of aim)))
+        × (is_too_long (basis_of declared.now seen.now (aim_of aim)) ≡ false)) }
+    ensures err { IfErr result (λ fault.
+        IsWholeEnd declared.now (aim_of aim) (SeenEnd.Good seen.now) (SeenEnd.Bad fault)) }
 {
     match plan_by(alloc, declared, seen, aim) {
         Ok(plan) => Ok(plan),
@@ -103,8 +108,10 @@ fn plan_for(alloc: Global, declared: &Declared, seen: &Seen, aim: Aim) -> Result
 
 /// The plan of an aim.
 fn plan_by(alloc: Global, declared: &Declared, seen: &Seen, aim: Aim) -> Result<Plan, PlanRefusal>
-    ensures planned { IfOk result (λ plan. plan.actions ≡ planned (basis_of declared.now seen.now (aim_of aim))) }
-    ensures fits { IfOk result (λ plan. is_too_long (basis_of declared.now seen.now (aim_of aim)) ≡ false) }
+    ensures planned { IfOk result (λ plan.
+        plan.actions ≡ planned (basis_of declared.now seen.now (aim_of aim))) }
+    ensures fits { IfOk result (λ plan.
+        is_too_long (basis_of declared.now seen.now (aim_of aim)) ≡ false) }
     ensures too_many { (count : ℕ) → result ≡ Err (PlanRefusal.TooManyActions count)
         → (is_too_long (basis_of declared.now seen.now (aim_of aim)) ≡ true)
         × (count ≡ action_count (basis_of declared.now seen.now (aim_of aim))) }

@@ -37,16 +37,29 @@ use tree_base::{List, ReservedList, Text};
 pub fn run_project<H: Hand>(alloc: Global, hand: &mut H, declared: &Declared, aim: Aim) -> Ran
     requires whole { IsWhole declared.now }
     requires unconditional { WaitsForNone declared.now }
-    ensures empty { result.journal ≡ [] → (result.fault ≡ Some RunFault.Memory) × (H.log hand.new ≡ H.log hand.old) }
-    ensures run { IfBegun result.journal (IsRun (task_of declared.now (aim_of aim) one_worker) result.journal) }
-    ensures left { IfBegun result.journal (IsLeftByAll (task_of declared.now (aim_of aim) one_worker) result.journal) }
-    ensures log { IfBegun result.journal (GrowsBy (run_exchanges (task_of declared.now (aim_of aim) one_worker) result.journal 0) (H.log hand.old) (H.log hand.new)) }
-    ensures fault { IfBegun result.journal (IsFault (run_fault (task_of declared.now (aim_of aim) one_worker) result.journal) result.fault) }
-    ensures report { IsReport (run_report (task_of declared.now (aim_of aim) one_worker) result.journal) result.fault result.report }
-    ensures kept { is_up aim.purpose ≡ true → SparesKept (task_of declared.now (aim_of aim) one_worker) result.journal }
-    ensures world { IfBegun result.journal (GoesThrough (task_of declared.now (aim_of aim) one_worker) result.journal (H.engine hand.old) (H.engine hand.new)) }
-    ensures exact { result.fault ≡ None → is_up aim.purpose ≡ true → HasOwnSpecs declared.now → EndsExact (task_of declared.now (aim_of aim) one_worker) result.journal }
-    ensures gone { result.fault ≡ None → is_up aim.purpose ≡ false → EndsGone (task_of declared.now (aim_of aim) one_worker) result.journal }
+    ensures empty { result.journal ≡ [] → (result.fault ≡ Some RunFault.Memory)
+        × (H.log hand.new ≡ H.log hand.old) }
+    ensures run { IfBegun result.journal
+        (IsRun (task_of declared.now (aim_of aim) one_worker) result.journal) }
+    ensures left { IfBegun result.journal
+        (IsLeftByAll (task_of declared.now (aim_of aim) one_worker) result.journal) }
+    ensures log { IfBegun result.journal
+        (GrowsBy (run_exchanges (task_of declared.now (aim_of aim) one_worker) result.journal 0)
+        (H.log hand.old) (H.log hand.new)) }
+    ensures fault { IfBegun result.journal
+        (IsFault (run_fault
+        (task_of declared.now (aim_of aim) one_worker) result.journal) result.fault) }
+    ensures report { IsReport (run_report
+        (task_of declared.now (aim_of aim) one_worker) result.journal) result.fault result.report }
+    ensures kept { is_up aim.purpose ≡ true
+        → SparesKept (task_of declared.now (aim_of aim) one_worker) result.journal }
+    ensures world { IfBegun result.journal
+        (GoesThrough (task_of declared.now (aim_of aim) one_worker) result.journal
+        (H.engine hand.old) (H.engine hand.new)) }
+    ensures exact { result.fault ≡ None → is_up aim.purpose ≡ true → HasOwnSpecs declared.now
+        → EndsExact (task_of declared.now (aim_of aim) one_worker) result.journal }
+    ensures gone { result.fault ≡ None → is_up aim.purpose ≡ false
+        → EndsGone (task_of declared.now (aim_of aim) one_worker) result.journal }
     ensures cause { IsCaused (task_of declared.now (aim_of aim) one_worker) result.journal 0
         (account (H.log hand.old) (H.heard hand.old) (H.faults hand.old)) (account (H.log hand.new) (H.heard hand.new) (H.faults hand.new)) }
     ensures clock { H.clock hand.new ≡ H.clock hand.old }
@@ -86,8 +99,10 @@ fn run<H: Hand>(
     ensures leaves { Leaves (task_of declared.now (aim_of aim) one_worker) result.journal
         (telling (H.log hand.old) (H.heard hand.old) (H.faults hand.old) (H.clock hand.old) (H.engine hand.old))
         (telling (H.log hand.new) (H.heard hand.new) (H.faults hand.new) (H.clock hand.new) (H.engine hand.new)) }
-    ensures fault { IsFault (run_fault (task_of declared.now (aim_of aim) one_worker) result.journal) result.fault }
-    ensures report { IsReport (run_report (task_of declared.now (aim_of aim) one_worker) result.journal) result.fault result.report }
+    ensures fault { IsFault (run_fault
+        (task_of declared.now (aim_of aim) one_worker) result.journal) result.fault }
+    ensures report { IsReport (run_report
+        (task_of declared.now (aim_of aim) one_worker) result.journal) result.fault result.report }
 {
     match open(alloc, hand, declared, aim, &mut journal) {
         Opening::Planned { seen, plan } => {
@@ -113,11 +128,14 @@ fn carry_out<H: Hand>(
     requires fits { is_too_long (basis_of declared.now seen.now (aim_of aim)) ≡ false }
     requires begun { IsBegun declared.now (aim_of aim) seen.now journal.items }
     requires room { 1 ≤ journal.spare }
-    ensures carried { IsCarriedOut declared.now (aim_of aim) seen.now plan.now.actions journal.items result.journal
+    ensures carried { IsCarriedOut declared.now
+        (aim_of aim) seen.now plan.now.actions journal.items result.journal
         (telling (H.log hand.old) (H.heard hand.old) (H.faults hand.old) (H.clock hand.old) (H.engine hand.old))
         (telling (H.log hand.new) (H.heard hand.new) (H.faults hand.new) (H.clock hand.new) (H.engine hand.new)) }
-    ensures fault { IsFault (first_fault (serial_setup declared.now seen.now plan.now.actions) (reverse result.journal)) result.fault }
-    ensures report { IsReport (report_text (serial_setup declared.now seen.now plan.now.actions) (reverse result.journal)) result.fault result.report }
+    ensures fault { IsFault (first_fault (serial_setup declared.now seen.now plan.now.actions)
+        (reverse result.journal)) result.fault }
+    ensures report { IsReport (report_text (serial_setup declared.now seen.now plan.now.actions)
+        (reverse result.journal)) result.fault result.report }
 {
     run_plan(alloc, hand, declared, seen, plan, aim, &mut journal);
     let run = Run::of_one_worker(declared, seen, plan);

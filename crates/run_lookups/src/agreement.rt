@@ -19,7 +19,8 @@ pub fn agrees(
     image_id: &Text,
     state: ContainerState,
 ) -> Result<bool, Memory>
-    ensures { IfOk result (λ answer. answer ≡ agrees project.now slot.now (Some image.now) pairs.now image_id.now state) }
+    ensures { IfOk result (λ answer.
+        answer ≡ agrees project.now slot.now (Some image.now) pairs.now image_id.now state) }
 {
     if !has_label(pairs, labels::HASH, hash_for(slot, pairs))
         || *image != *image_id

@@ -46,7 +46,8 @@ pub fn agrees_seen(
     slot: &Slot,
     row: &Listed,
 ) -> Result<bool, Memory>
-    ensures { IfOk result (λ agreeing. agreeing ≡ agrees_seen declared.now seen.now slot.now row.now) }
+    ensures { IfOk result (λ agreeing.
+        agreeing ≡ agrees_seen declared.now seen.now slot.now row.now) }
 {
     let Some(image) = seen_image(seen, slot) else {
         return Ok(false);

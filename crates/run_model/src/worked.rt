@@ -29,10 +29,12 @@ ghost use Rattle.run_model.specs.Runs.{IsLeftByAll, IsRun, IsWorldOfRun, limits_
 
 /// One service comes up on a fresh Engine: its container is created and started.
 pub fn one_service_comes_up()
-    ensures plan { (run_setup (upping shop) comes_up).actions ≡ record { kind = ActionKind.CreateSlot 0; needs = [] } ∷ record { kind = ActionKind.StartSlot 0; needs = 0 ∷ [] } ∷ [] }
+    ensures plan { (run_setup (upping shop) comes_up).actions ≡
+        record { kind = ActionKind.CreateSlot 0; needs = [] } ∷ record { kind = ActionKind.StartSlot 0; needs = 0 ∷ [] } ∷ [] }
     ensures run { IsRun (upping shop) comes_up }
     ensures status { run_status (upping shop) comes_up ≡ 0 }
-    ensures report { run_report (upping shop) comes_up ≡ codes "container shop-web-1 created\ncontainer shop-web-1 started\n" }
+    ensures report { run_report (upping shop) comes_up ≡
+        codes "container shop-web-1 created\ncontainer shop-web-1 started\n" }
 {}
 
 /// Where another container has the name, the create is refused and the start is never sent.
@@ -72,12 +74,21 @@ pub fn one_service_is_exact()
 /// The plans of a service on two networks: on a fresh Engine, where its container was made on the first network
 /// alone, where that container runs, where its image is another one by now, and of `down`.
 pub fn plans_of_two_networks()
-    ensures fresh { planned (up_basis two.shop (two.seeing [] [] (codes "sha")) false) ≡ two.fresh_plan }
-    ensures created { planned (up_basis two.shop (two.seeing (two.listed ContainerState.Created (codes "shop_a" ∷ []) ∷ []) two.both (codes "sha")) false) ≡ two.created_plan }
-    ensures running { planned (up_basis two.shop (two.seeing (two.listed ContainerState.Running (codes "shop_a" ∷ []) ∷ []) two.both (codes "sha")) false)
+    ensures fresh { planned (up_basis two.shop (two.seeing [] [] (codes "sha")) false) ≡
+        two.fresh_plan }
+    ensures created { planned (up_basis two.shop
+        (two.seeing (two.listed ContainerState.Created (codes "shop_a" ∷ []) ∷ []) two.both
+        (codes "sha")) false) ≡ two.created_plan }
+    ensures running { planned (up_basis two.shop
+        (two.seeing (two.listed ContainerState.Running (codes "shop_a" ∷ []) ∷ []) two.both
+        (codes "sha")) false)
         ≡ two.acts (ActionKind.ConnectSlot 0 1) [] ∷ [] }
-    ensures image { planned (up_basis two.shop (two.seeing (two.listed ContainerState.Running (codes "shop_a" ∷ []) ∷ []) two.both (codes "other")) false) ≡ two.image_plan }
-    ensures down { planned (down_basis two.shop (two.seeing (two.listed ContainerState.Running (codes "shop_a" ∷ []) ∷ []) two.both (codes "sha")) false true) ≡ two.down_plan }
+    ensures image { planned (up_basis two.shop
+        (two.seeing (two.listed ContainerState.Running (codes "shop_a" ∷ []) ∷ []) two.both
+        (codes "other")) false) ≡ two.image_plan }
+    ensures down { planned (down_basis two.shop
+        (two.seeing (two.listed ContainerState.Running (codes "shop_a" ∷ []) ∷ []) two.both
+        (codes "sha")) false true) ≡ two.down_plan }
 {}
 
 /// A create that is lost isn't sent again; the next run finds the container, connects and starts it.
@@ -96,25 +107,38 @@ pub fn lost_create_is_found()
 /// another project's, or is external and missing; where the image is to be built; where it is always pulled.
 pub fn observations_of_two_networks()
     ensures first { observed two.shop Purpose.Up [] ≡ Asks (Request.ListContainers (codes "shop")) }
-    ensures networks { observed two.shop Purpose.Up (answered (Request.ListContainers (codes "shop")) (Reply.Containers []) ∷ []) ≡ Asks Request.ListNetworks }
-    ensures image { observed two.shop Purpose.Up (two.listings two.both) ≡ Asks (Request.Image nginx) }
-    ensures down { observed two.shop Purpose.Down (two.listings two.both) ≡ Ends (SeenEnd.Good (record { containers = []; networks = two.both; volumes = []; images = [] })) }
-    ensures twice { observed two.shop Purpose.Up (two.listings (two.network_row (codes "n2") (codes "a") ∷ two.network_row (codes "n1") (codes "a") ∷ []))
+    ensures networks { observed two.shop Purpose.Up
+        (answered (Request.ListContainers (codes "shop")) (Reply.Containers []) ∷ []) ≡
+        Asks Request.ListNetworks }
+    ensures image { observed two.shop Purpose.Up (two.listings two.both) ≡
+        Asks (Request.Image nginx) }
+    ensures down { observed two.shop Purpose.Down (two.listings two.both) ≡
+        Ends (SeenEnd.Good (record { containers = []; networks = two.both; volumes = []; images = [] })) }
+    ensures twice { observed two.shop Purpose.Up
+        (two.listings (two.network_row (codes "n2") (codes "a") ∷ two.network_row (codes "n1")
+        (codes "a") ∷ []))
         ≡ Ends (SeenEnd.Bad (SeenFault.NetworkTwice (codes "shop_a") (codes "n1") (codes "n2"))) }
-    ensures foreign { observed two.shop Purpose.Down (two.listings (record { id = codes "n1"; name = codes "shop_b"; labels = [] } ∷ []))
+    ensures foreign { observed two.shop Purpose.Down
+        (two.listings (record { id = codes "n1"; name = codes "shop_b"; labels = [] } ∷ []))
         ≡ Ends (SeenEnd.Bad (SeenFault.ForeignNetwork (codes "shop_b") (codes "n1"))) }
-    ensures missing { observed two.with_external Purpose.Up (two.listings []) ≡ Ends (SeenEnd.Bad (SeenFault.ExternalMissing Kind.Network (codes "shop_a"))) }
-    ensures build { observed two.with_build Purpose.Up (two.listings [] ++ answered (Request.Image nginx) (Reply.Refused 404 (codes "not found")) ∷ [])
+    ensures missing { observed two.with_external Purpose.Up (two.listings []) ≡
+        Ends (SeenEnd.Bad (SeenFault.ExternalMissing Kind.Network (codes "shop_a"))) }
+    ensures build { observed two.with_build Purpose.Up
+        (two.listings [] ++ answered (Request.Image nginx)
+        (Reply.Refused 404 (codes "not found")) ∷ [])
         ≡ Ends (SeenEnd.Bad (SeenFault.NeedsBuild (codes "web"))) }
     ensures pull { observed two.with_pull Purpose.Up (two.listings []) ≡ Asks (Request.Pull nginx) }
-    ensures more { observed two.shop Purpose.Down (two.listings two.both ++ answered Request.ListVolumes (Reply.Volumes []) ∷ []) ≡ Strays }
+    ensures more { observed two.shop Purpose.Down
+        (two.listings two.both ++ answered Request.ListVolumes (Reply.Volumes []) ∷ []) ≡ Strays }
 {}
 
 /// Workers that find no action: a poll goes to a slot at which no other worker looks, however often that slot was
 /// polled; and where there is nothing to look at, a worker pauses while another's permit is out.
 pub fn workers_find_other_work()
-    ensures look { decision (run_setup (upping_by_two three.shop) three.one_stays_out) (reverse three.one_stays_out) 1 ≡ Look 1 }
-    ensures pause { decision (run_setup (upping_by_two shop) creates_still) (reverse creates_still) 1 ≡ Pause }
+    ensures look { decision (run_setup (upping_by_two three.shop) three.one_stays_out)
+        (reverse three.one_stays_out) 1 ≡ Look 1 }
+    ensures pause { decision (run_setup (upping_by_two shop) creates_still)
+        (reverse creates_still) 1 ≡ Pause }
 {}
 
 /// Two workers bring one service up: the exchanges of each are its own, with the observation's for worker 0, and both leave.
@@ -122,9 +146,13 @@ pub fn two_workers_take_turns()
     ensures run { IsRun (upping_by_two shop) take_turns }
     ensures left { IsLeftByAll (upping_by_two shop) take_turns }
     ensures status { run_status (upping_by_two shop) take_turns ≡ 0 }
-    ensures report { run_report (upping_by_two shop) take_turns ≡ codes "container shop-web-1 created\ncontainer shop-web-1 started\n" }
-    ensures first { run_exchanges (upping_by_two shop) take_turns 0 ≡ seen_fresh.exchanges ++ answered (Request.Create web.name web.spec) (Reply.Made (codes "c1")) ∷ [] }
-    ensures second { run_exchanges (upping_by_two shop) take_turns 1 ≡ answered (Request.Start (codes "c1")) Reply.Done ∷ [] }
+    ensures report { run_report (upping_by_two shop) take_turns ≡
+        codes "container shop-web-1 created\ncontainer shop-web-1 started\n" }
+    ensures first { run_exchanges (upping_by_two shop) take_turns 0 ≡
+        seen_fresh.exchanges ++ answered (Request.Create web.name web.spec)
+        (Reply.Made (codes "c1")) ∷ [] }
+    ensures second { run_exchanges (upping_by_two shop) take_turns 1 ≡
+        answered (Request.Start (codes "c1")) Reply.Done ∷ [] }
 {}
 
 /// Four services with a network, a volume and conditions come up on a fresh Engine, with ten actions and two polls.
@@ -142,22 +170,27 @@ pub fn second_run_and_down()
     ensures again_report { run_report (upping shop) comes_again ≡ [] }
     ensures down { IsRun (downing shop) goes_down }
     ensures down_status { run_status (downing shop) goes_down ≡ 0 }
-    ensures down_report { run_report (downing shop) goes_down ≡ codes "container shop-web-1 stopped\ncontainer shop-web-1 removed\n" }
+    ensures down_report { run_report (downing shop) goes_down ≡
+        codes "container shop-web-1 stopped\ncontainer shop-web-1 removed\n" }
 {}
 
 /// Runs that end early: at the deadline, which is a second after the first reading, when asked to stop, and for want of
 /// memory.
 pub fn runs_end_early()
-    ensures limits { (waiting checked).limits ≡ limits_of (record { workers = 1; wait = true; wait_seconds = Some 1; stop_seconds = None }) 0 }
+    ensures limits { (waiting checked).limits ≡
+        limits_of (record { workers = 1; wait = true; wait_seconds = Some 1; stop_seconds = None }) 0 }
     ensures late { IsRun (waiting checked) runs_late }
     ensures late_status { run_status (waiting checked) runs_late ≡ 6 }
-    ensures late_fault { option_map fault_text (run_fault (waiting checked) runs_late) ≡ Some (codes "compose: late\n") }
+    ensures late_fault { option_map fault_text (run_fault (waiting checked) runs_late) ≡
+        Some (codes "compose: late\n") }
     ensures stopped { IsRun (upping shop) is_stopped }
     ensures stopped_status { run_status (upping shop) is_stopped ≡ 5 }
-    ensures stopped_fault { option_map fault_text (run_fault (upping shop) is_stopped) ≡ Some (codes "compose: stopped\n") }
+    ensures stopped_fault { option_map fault_text (run_fault (upping shop) is_stopped) ≡
+        Some (codes "compose: stopped\n") }
     ensures short { IsRun (upping shop) runs_short }
     ensures short_status { run_status (upping shop) runs_short ≡ 9 }
-    ensures short_fault { option_map fault_text (run_fault (upping shop) runs_short) ≡ Some (codes "compose: memory\n") }
+    ensures short_fault { option_map fault_text (run_fault (upping shop) runs_short) ≡
+        Some (codes "compose: memory\n") }
 {}
 
 /// A create that is lost takes effect after its run, and the next run connects and starts that container: both
@@ -170,7 +203,8 @@ pub fn lost_create_is_made_once()
 
 /// A service that depends on another one with `restart` is stopped and started once that one is replaced.
 pub fn needed_service_is_updated()
-    ensures plan { (run_setup (upping updates.restarting) updates.restarts).actions ≡ updates.restarting_plan }
+    ensures plan { (run_setup (upping updates.restarting) updates.restarts).actions ≡
+        updates.restarting_plan }
     ensures run { IsRun (upping updates.restarting) updates.restarts }
     ensures status { run_status (upping updates.restarting) updates.restarts ≡ 0 }
     ensures report { run_report (upping updates.restarting) updates.restarts
@@ -181,11 +215,17 @@ pub fn needed_service_is_updated()
 /// A rolling update of three slots, one and two at a time, and all at once; `down` of a service on which one without
 /// slots depends; and a container's hash, which is compared by its version.
 pub fn plans_of_updates()
-    ensures one { run_actions (updates.rolls (Some 1)) ≡ updates.replacing (9 ∷ []) (10 ∷ []) (0 ∷ 6 ∷ []) (2 ∷ 7 ∷ []) (4 ∷ 8 ∷ []) }
-    ensures two { run_actions (updates.rolls (Some 2)) ≡ updates.replacing [] (9 ∷ []) (0 ∷ 6 ∷ []) (2 ∷ 7 ∷ []) (4 ∷ 8 ∷ []) }
-    ensures all { run_actions (updates.rolls None) ≡ updates.replacing [] [] (6 ∷ []) (7 ∷ []) (8 ∷ []) }
+    ensures one { run_actions (updates.rolls (Some 1)) ≡
+        updates.replacing (9 ∷ []) (10 ∷ []) (0 ∷ 6 ∷ []) (2 ∷ 7 ∷ []) (4 ∷ 8 ∷ []) }
+    ensures two { run_actions (updates.rolls (Some 2)) ≡
+        updates.replacing [] (9 ∷ []) (0 ∷ 6 ∷ []) (2 ∷ 7 ∷ []) (4 ∷ 8 ∷ []) }
+    ensures all { run_actions (updates.rolls None) ≡
+        updates.replacing [] [] (6 ∷ []) (7 ∷ []) (8 ∷ []) }
     ensures down { run_actions updates.downs ≡ updates.down_plan }
-    ensures old { agrees (codes "shop") updates.rehashed (Some (codes "sha")) (labels_of (codes "web") (codes "abc")) (codes "sha") ContainerState.Running ≡ true }
-    ensures stale { agrees (codes "shop") updates.rehashed (Some (codes "sha")) (updates.labels_of_two (codes "abc")) (codes "sha") ContainerState.Running ≡ false }
-    ensures new { agrees (codes "shop") updates.rehashed (Some (codes "sha")) (updates.labels_of_two (codes "new")) (codes "sha") ContainerState.Running ≡ true }
+    ensures old { agrees (codes "shop") updates.rehashed (Some (codes "sha"))
+        (labels_of (codes "web") (codes "abc")) (codes "sha") ContainerState.Running ≡ true }
+    ensures stale { agrees (codes "shop") updates.rehashed (Some (codes "sha"))
+        (updates.labels_of_two (codes "abc")) (codes "sha") ContainerState.Running ≡ false }
+    ensures new { agrees (codes "shop") updates.rehashed (Some (codes "sha"))
+        (updates.labels_of_two (codes "new")) (codes "sha") ContainerState.Running ≡ true }
 {}

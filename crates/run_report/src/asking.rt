@@ -20,7 +20,8 @@ pub(crate) fn asked(
     past: &[Entry],
     action: u32,
 ) -> Result<Option<Request>, Memory>
-    ensures { IfOk result (λ request. request ≡ asked (setup_of run.now) (reverse past.now) (OfAction action)) }
+    ensures { IfOk result (λ request.
+        request ≡ asked (setup_of run.now) (reverse past.now) (OfAction action)) }
 {
     match before_claim(past, action) {
         Some(before) => action_request(alloc, run, before, action),
@@ -30,7 +31,8 @@ pub(crate) fn asked(
 
 /// The entries before the latest claim of an action.
 fn before_claim(past: &[Entry], action: u32) -> Option<&[Entry]>
-    ensures { option_map (λ before. reverse before.now) result ≡ before_claim (reverse past.now) action }
+    ensures { option_map (λ before. reverse before.now) result ≡
+        before_claim (reverse past.now) action }
 {
     let mut at = past.len();
     while at > 0 {
@@ -64,7 +66,8 @@ fn action_request(
     past: &[Entry],
     action: u32,
 ) -> Result<Option<Request>, Memory>
-    ensures { IfOk result (λ request. request ≡ action_request (setup_of run.now) (reverse past.now) action) }
+    ensures { IfOk result (λ request.
+        request ≡ action_request (setup_of run.now) (reverse past.now) action) }
 {
     match kind_of(run.plan, action as usize) {
         Some(kind) => request_after(alloc, run, past, kind),
@@ -80,7 +83,8 @@ fn request_after(
     past: &[Entry],
     kind: ActionKind,
 ) -> Result<Option<Request>, Memory>
-    ensures { IfOk result (λ request. request ≡ request_of (setup_of run.now) (reverse past.now) kind) }
+    ensures { IfOk result (λ request.
+        request ≡ request_of (setup_of run.now) (reverse past.now) kind) }
 {
     let ids = Past { run, entries: past };
     request_of(alloc, run, &ids, kind)

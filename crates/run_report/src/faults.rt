@@ -42,7 +42,8 @@ fn first_through(
 ) -> Result<Option<RunFault>, Memory>
     requires within { at < length journal.now }
     requires no_polls { list_any is_poll journal.now ≡ false }
-    ensures { IfOk result (λ fault. first ≡ first_fault (setup_of run.now) (reverse (take at journal.now))
+    ensures { IfOk result (λ fault.
+        first ≡ first_fault (setup_of run.now) (reverse (take at journal.now))
         → fault ≡ first_fault (setup_of run.now) (reverse (take (at + 1) journal.now))) }
 {
     first_of(alloc, first, run, earlier(journal, at), &journal[at])
@@ -57,7 +58,8 @@ fn first_of(
     entry: &Entry,
 ) -> Result<Option<RunFault>, Memory>
     requires { list_any is_poll past.now ≡ false }
-    ensures { IfOk result (λ fault. fault ≡ option_or first (fault_of (setup_of run.now) (reverse past.now) entry.now)) }
+    ensures { IfOk result (λ fault.
+        fault ≡ option_or first (fault_of (setup_of run.now) (reverse past.now) entry.now)) }
 {
     match first {
         Some(fault) => Ok(Some(fault)),
@@ -72,7 +74,8 @@ fn fault_of(
     entry: &Entry,
 ) -> Result<Option<RunFault>, Memory>
     requires { list_any is_poll past.now ≡ false }
-    ensures { IfOk result (λ fault. fault ≡ fault_of (setup_of run.now) (reverse past.now) entry.now) }
+    ensures { IfOk result (λ fault.
+        fault ≡ fault_of (setup_of run.now) (reverse past.now) entry.now) }
 {
     match entry {
         Entry::Seen(observed) => seen_fault(alloc, &observed.end),
@@ -129,7 +132,9 @@ fn end_fault(
     outcome: &Outcome,
 ) -> Result<Option<RunFault>, Memory>
     requires { list_any is_poll past.now ≡ false }
-    ensures { IfOk result (λ fault. fault ≡ ended_fault (setup_of run.now) (reverse past.now) worker outcome.now (holding (reverse past.now) worker)) }
+    ensures { IfOk result (λ fault.
+        fault ≡ ended_fault (setup_of run.now) (reverse past.now) worker outcome.now
+        (holding (reverse past.now) worker)) }
 {
     match held(past, worker) {
         Some(action) => ended_fault(alloc, run, past, action, outcome),
@@ -145,7 +150,8 @@ fn ended_fault(
     action: u32,
     outcome: &Outcome,
 ) -> Result<Option<RunFault>, Memory>
-    ensures { IfOk result (λ fault. fault ≡ held_fault (setup_of run.now) (reverse past.now) action outcome.now) }
+    ensures { IfOk result (λ fault.
+        fault ≡ held_fault (setup_of run.now) (reverse past.now) action outcome.now) }
 {
     if ended_well(run.plan, action, outcome) {
         return Ok(None);
@@ -171,7 +177,9 @@ fn exchange_fault(
     action: u32,
     outcome: &Outcome,
 ) -> Result<RunFault, Memory>
-    ensures { IfOk result (λ fault. fault ≡ exchange_fault (request_held (setup_of run.now) (reverse past.now) action) outcome.now) }
+    ensures { IfOk result (λ fault.
+        fault ≡ exchange_fault
+        (request_held (setup_of run.now) (reverse past.now) action) outcome.now) }
 {
     match outcome {
         Outcome::Memory => Ok(RunFault::Memory),
@@ -188,7 +196,9 @@ fn request_fault(
     action: u32,
     outcome: &Outcome,
 ) -> Result<RunFault, Memory>
-    ensures { IfOk result (λ fault. fault ≡ RunFault.Request (request_held (setup_of run.now) (reverse past.now) action) outcome.now) }
+    ensures { IfOk result (λ fault.
+        fault ≡ RunFault.Request
+        (request_held (setup_of run.now) (reverse past.now) action) outcome.now) }
 {
     let request = request_held(alloc, run, past, action)?;
     Ok(RunFault::Request {
@@ -204,7 +214,8 @@ fn request_held(
     past: &[Entry],
     action: u32,
 ) -> Result<Request, Memory>
-    ensures { IfOk result (λ request. request ≡ request_held (setup_of run.now) (reverse past.now) action) }
+    ensures { IfOk result (λ request.
+        request ≡ request_held (setup_of run.now) (reverse past.now) action) }
 {
     match asked(alloc, run, past, action)? {
         Some(request) => Ok(request),

@@ -41,7 +41,8 @@ impl ToldIds for Past<'_> {
 
 /// The id that an action was told: by the latest entry that says how it stands.
 fn told_id<'a>(run: &Run<'_>, past: &'a [Entry], action: usize) -> Option<&'a Text>
-    ensures { option_copied result ≡ made_id (standing (setup_of run.now) (reverse past.now) action) }
+    ensures { option_copied result ≡
+        made_id (standing (setup_of run.now) (reverse past.now) action) }
 {
     let mut at = past.len();
     while at > 0 {
@@ -100,7 +101,8 @@ fn told_by<'a>(plan: &Plan, entry: &'a Entry, action: usize) -> Option<&'a Text>
 
 /// The id that an action was told by its end.
 fn told_of<'a>(plan: &Plan, action: usize, outcome: &'a Outcome) -> Option<&'a Text>
-    ensures { option_copied result ≡ made_id (ended_as (kind_of plan.now.actions action) outcome.now) }
+    ensures { option_copied result ≡
+        made_id (ended_as (kind_of plan.now.actions action) outcome.now) }
 {
     match kind_of(plan, action) {
         Some(kind) => told_at_end(kind, outcome),
@@ -121,7 +123,8 @@ fn told_at_end(kind: ActionKind, outcome: &Outcome) -> Option<&Text>
 
 /// The id in a reply, where it is a good one.
 fn told_in(kind: ActionKind, reply: &Reply) -> Option<&Text>
-    ensures { option_copied result ≡ made_id (if is_good kind reply.now then Well reply.now else Badly) }
+    ensures { option_copied result ≡
+        made_id (if is_good kind reply.now then Well reply.now else Badly) }
 {
     if is_good(kind, reply) {
         id_in(reply)

@@ -29,27 +29,32 @@ pub(crate) fn done_line(alloc: Global, run: &Run<'_>, kind: ActionKind) -> Resul
 }
 
 fn volume_line(alloc: Global, run: &Run<'_>, volume: u32, done: &str) -> Result<Text, Memory>
-    ensures { IfOk result (λ text. text ≡ line (codes "volume " ++ declared_volume (setup_of run.now) volume ++ done.now)) }
+    ensures { IfOk result (λ text.
+        text ≡ line (codes "volume " ++ declared_volume (setup_of run.now) volume ++ done.now)) }
 {
     said(alloc, "volume ", volume_name(run, volume), done)
 }
 
 fn network_line(alloc: Global, run: &Run<'_>, network: u32, done: &str) -> Result<Text, Memory>
-    ensures { IfOk result (λ text. text ≡ line (codes "network " ++ declared_network (setup_of run.now) network ++ done.now)) }
+    ensures { IfOk result (λ text.
+        text ≡ line (codes "network " ++ declared_network (setup_of run.now) network ++ done.now)) }
 {
     said(alloc, "network ", network_name(run, network), done)
 }
 
 /// The line of a container that was seen.
 fn seen_line(alloc: Global, run: &Run<'_>, container: u64, done: &str) -> Result<Text, Memory>
-    ensures { IfOk result (λ text. text ≡ line (codes "container " ++ container_name (setup_of run.now) container ++ done.now)) }
+    ensures { IfOk result (λ text.
+        text ≡ line (codes "container " ++ container_name
+        (setup_of run.now) container ++ done.now)) }
 {
     said(alloc, "container ", container_name(run, container), done)
 }
 
 /// The line of a slot's container.
 fn slot_line(alloc: Global, run: &Run<'_>, slot: u32, done: &str) -> Result<Text, Memory>
-    ensures { IfOk result (λ text. text ≡ line (codes "container " ++ slot_name (setup_of run.now) slot ++ done.now)) }
+    ensures { IfOk result (λ text.
+        text ≡ line (codes "container " ++ slot_name (setup_of run.now) slot ++ done.now)) }
 {
     said(alloc, "container ", slot_name(run, slot), done)
 }
@@ -63,7 +68,8 @@ fn said(alloc: Global, thing: &str, name: &str, done: &str) -> Result<Text, Memo
 }
 
 fn connected(alloc: Global, run: &Run<'_>, slot: u32, attach: u32) -> Result<Text, Memory>
-    ensures { IfOk result (λ text. text ≡ line (done_words (setup_of run.now) (ActionKind.ConnectSlot slot attach))) }
+    ensures { IfOk result (λ text.
+        text ≡ line (done_words (setup_of run.now) (ActionKind.ConnectSlot slot attach))) }
 {
     let container = slot_name(run, slot);
     let network = attached_network(run, slot, attach);

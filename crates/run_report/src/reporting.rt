@@ -48,14 +48,16 @@ fn push_entry(
     past: &[Entry],
     entry: &Entry,
 ) -> Result<(), Memory>
-    ensures { OnOk result (text.new ≡ text.old ++ entry_line (setup_of run.now) (reverse past.now) entry.now) }
+    ensures { OnOk result (text.new ≡
+        text.old ++ entry_line (setup_of run.now) (reverse past.now) entry.now) }
 {
     let line = entry_line(alloc, run, past, entry)?;
     text.push_str(line.as_str())
 }
 
 fn entry_line(alloc: Global, run: &Run<'_>, past: &[Entry], entry: &Entry) -> Result<Text, Memory>
-    ensures { IfOk result (λ text. text ≡ entry_line (setup_of run.now) (reverse past.now) entry.now) }
+    ensures { IfOk result (λ text.
+        text ≡ entry_line (setup_of run.now) (reverse past.now) entry.now) }
 {
     match entry {
         Entry::Ended { worker, outcome } => end_line(alloc, run, past, *worker, outcome),
@@ -78,7 +80,8 @@ fn end_line(
     worker: u32,
     outcome: &Outcome,
 ) -> Result<Text, Memory>
-    ensures { IfOk result (λ text. text ≡ ended_line (setup_of run.now) outcome.now (holding (reverse past.now) worker)) }
+    ensures { IfOk result (λ text.
+        text ≡ ended_line (setup_of run.now) outcome.now (holding (reverse past.now) worker)) }
 {
     match held(past, worker) {
         Some(action) => ended_line(alloc, run, action, outcome),
@@ -102,7 +105,9 @@ fn line_of(
     kind: ActionKind,
     outcome: &Outcome,
 ) -> Result<Text, Memory>
-    ensures { IfOk result (λ text. text ≡ (if is_well (ended_as (Some kind) outcome.now) then line (done_words (setup_of run.now) kind) else [])) }
+    ensures { IfOk result (λ text.
+        text ≡ (if is_well (ended_as (Some kind) outcome.now) then line
+        (done_words (setup_of run.now) kind) else [])) }
 {
     if is_well(kind, outcome) {
         done_line(alloc, run, kind)

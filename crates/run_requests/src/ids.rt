@@ -18,7 +18,8 @@ pub(crate) fn slot_id<'a, T: ToldIds>(
     ids: &'a T,
     slot: u32,
 ) -> Result<Option<&'a Text>, Memory>
-    ensures { IfOk result (λ id. option_copied id ≡ slot_id_by (setup_of run.now) (T.ids ids.now) slot) }
+    ensures { IfOk result (λ id.
+        option_copied id ≡ slot_id_by (setup_of run.now) (T.ids ids.now) slot) }
 {
     let Some(row) = run.declared.slots.get(slot as usize) else {
         return Ok(created_id(ids, slot));
@@ -52,7 +53,8 @@ pub(crate) fn network_id<'a, T: ToldIds>(
 }
 
 fn seen_network_id<'a>(seen: &'a Seen, name: &Text) -> Option<&'a Text>
-    ensures { option_copied result ≡ option_map (λ row. row.id) (find (λ row. bytes_eq row.name name.now) seen.now.networks) }
+    ensures { option_copied result ≡
+        option_map (λ row. row.id) (find (λ row. bytes_eq row.name name.now) seen.now.networks) }
 {
     let row = seen
         .networks

@@ -22,7 +22,8 @@ pub fn request_of<T: ToldIds>(
     ids: &T,
     kind: ActionKind,
 ) -> Result<Option<Request>, Memory>
-    ensures { IfOk result (λ request. request ≡ request_by (setup_of run.now) (T.ids ids.now) kind) }
+    ensures { IfOk result (λ request.
+        request ≡ request_by (setup_of run.now) (T.ids ids.now) kind) }
 {
     match kind {
         ActionKind::MakeVolume { volume } => make_volume(alloc, run.declared, volume),
@@ -39,7 +40,9 @@ pub fn request_of<T: ToldIds>(
 }
 
 fn make_volume(alloc: Global, declared: &Declared, volume: u32) -> Result<Option<Request>, Memory>
-    ensures { IfOk result (λ request. request ≡ option_map (λ spec. Request.MakeVolume spec) (slice_get declared.now.volumes volume)) }
+    ensures { IfOk result (λ request.
+        request ≡ option_map (λ spec. Request.MakeVolume spec)
+        (slice_get declared.now.volumes volume)) }
 {
     match declared.volumes.get(volume as usize) {
         Some(spec) => Ok(Some(Request::MakeVolume {
@@ -50,7 +53,9 @@ fn make_volume(alloc: Global, declared: &Declared, volume: u32) -> Result<Option
 }
 
 fn make_network(alloc: Global, declared: &Declared, network: u32) -> Result<Option<Request>, Memory>
-    ensures { IfOk result (λ request. request ≡ option_map (λ spec. Request.MakeNetwork spec) (slice_get declared.now.networks network)) }
+    ensures { IfOk result (λ request.
+        request ≡ option_map (λ spec. Request.MakeNetwork spec)
+        (slice_get declared.now.networks network)) }
 {
     match declared.networks.get(network as usize) {
         Some(spec) => Ok(Some(Request::MakeNetwork {
@@ -75,7 +80,9 @@ fn stop(alloc: Global, run: &Run<'_>, container: u64) -> Result<Option<Request>,
 }
 
 fn remove(alloc: Global, seen: &Seen, container: u64) -> Result<Option<Request>, Memory>
-    ensures { IfOk result (λ request. request ≡ option_map (λ row. Request.Remove row.id) (slice_get seen.now.containers container)) }
+    ensures { IfOk result (λ request.
+        request ≡ option_map (λ row. Request.Remove row.id)
+        (slice_get seen.now.containers container)) }
 {
     match seen.containers.get(container as usize) {
         Some(row) => Ok(Some(Request::Remove {
@@ -86,7 +93,9 @@ fn remove(alloc: Global, seen: &Seen, container: u64) -> Result<Option<Request>,
 }
 
 fn create(alloc: Global, declared: &Declared, slot: u32) -> Result<Option<Request>, Memory>
-    ensures { IfOk result (λ request. request ≡ option_map (λ slot. Request.Create slot.name slot.spec) (slot_at declared.now slot)) }
+    ensures { IfOk result (λ request.
+        request ≡ option_map (λ slot. Request.Create slot.name slot.spec)
+        (slot_at declared.now slot)) }
 {
     match declared.slots.get(slot as usize) {
         Some(slot) => Ok(Some(Request::Create {
@@ -104,7 +113,8 @@ fn connect_slot<T: ToldIds>(
     slot: u32,
     attach: u32,
 ) -> Result<Option<Request>, Memory>
-    ensures { IfOk result (λ request. request ≡ request_by (setup_of run.now) (T.ids ids.now) (ConnectSlot slot attach)) }
+    ensures { IfOk result (λ request.
+        request ≡ request_by (setup_of run.now) (T.ids ids.now) (ConnectSlot slot attach)) }
 {
     let Some(row) = run.declared.slots.get(slot as usize) else {
         return Ok(None);
@@ -123,7 +133,8 @@ fn connect<T: ToldIds>(
     slot: u32,
     attach: &Attach,
 ) -> Result<Option<Request>, Memory>
-    ensures { IfOk result (λ request. request ≡ connect_by (setup_of run.now) (T.ids ids.now) slot attach.now) }
+    ensures { IfOk result (λ request.
+        request ≡ connect_by (setup_of run.now) (T.ids ids.now) slot attach.now) }
 {
     let Some(network) = network_id(run, ids, attach.network) else {
         return Ok(None);
@@ -144,7 +155,8 @@ fn start<T: ToldIds>(
     ids: &T,
     slot: u32,
 ) -> Result<Option<Request>, Memory>
-    ensures { IfOk result (λ request. request ≡ request_by (setup_of run.now) (T.ids ids.now) (StartSlot slot)) }
+    ensures { IfOk result (λ request.
+        request ≡ request_by (setup_of run.now) (T.ids ids.now) (StartSlot slot)) }
 {
     match slot_id(alloc, run, ids, slot)? {
         Some(id) => Ok(Some(Request::Start {
@@ -160,7 +172,8 @@ fn remove_network<T: ToldIds>(
     ids: &T,
     network: u32,
 ) -> Result<Option<Request>, Memory>
-    ensures { IfOk result (λ request. request ≡ request_by (setup_of run.now) (T.ids ids.now) (RemoveNetwork network)) }
+    ensures { IfOk result (λ request.
+        request ≡ request_by (setup_of run.now) (T.ids ids.now) (RemoveNetwork network)) }
 {
     match network_id(run, ids, network) {
         Some(id) => Ok(Some(Request::RemoveNetwork {
@@ -171,7 +184,9 @@ fn remove_network<T: ToldIds>(
 }
 
 fn remove_volume(alloc: Global, declared: &Declared, volume: u32) -> Result<Option<Request>, Memory>
-    ensures { IfOk result (λ request. request ≡ option_map (λ spec. Request.RemoveVolume spec.name) (slice_get declared.now.volumes volume)) }
+    ensures { IfOk result (λ request.
+        request ≡ option_map (λ spec. Request.RemoveVolume spec.name)
+        (slice_get declared.now.volumes volume)) }
 {
     match declared.volumes.get(volume as usize) {
         Some(spec) => Ok(Some(Request::RemoveVolume {

@@ -19,7 +19,9 @@ pub(crate) fn request_of(
     journal: &[Entry],
     action: &Action,
 ) -> Result<Option<Request>, Memory>
-    ensures { IfOk result (λ request. request ≡ request_by (course declared.now seen.now plan.now.actions marks.now journal.now) action.now.needs action.now.kind) }
+    ensures { IfOk result (λ request.
+        request ≡ request_by
+        (course declared.now seen.now plan.now.actions marks.now journal.now) action.now.needs action.now.kind) }
 {
     let run = Run::of_one_worker(declared, seen, plan);
     let ids = MarkedIds {

@@ -37,12 +37,19 @@ pub fn run_plan<H: Hand>(
     requires unconditional { WaitsForNone declared.now }
     requires begun { IsBegun declared.now (aim_of aim) seen.now journal.old.items }
     requires room { 1 ≤ journal.old.spare }
-    ensures legal { IsLegal (aim_of aim) (serial_setup declared.now seen.now plan.now.actions) (reverse journal.new.items) }
-    ensures over { IsRunOver (serial_setup declared.now seen.now plan.now.actions) (reverse journal.new.items) }
+    ensures legal { IsLegal (aim_of aim) (serial_setup declared.now seen.now plan.now.actions)
+        (reverse journal.new.items) }
+    ensures over { IsRunOver (serial_setup declared.now seen.now plan.now.actions)
+        (reverse journal.new.items) }
     ensures more { GoesOn journal.old.items journal.new.items }
-    ensures log { GrowsBy (exchanges_since (serial_setup declared.now seen.now plan.now.actions) journal.old.items journal.new.items) (H.log hand.old) (H.log hand.new) }
-    ensures told { ToldBy (exchanges_since (serial_setup declared.now seen.now plan.now.actions) journal.old.items journal.new.items) (H.engine hand.old) (H.engine hand.new) }
-    ensures caused { AreCaused (exchanges_since (serial_setup declared.now seen.now plan.now.actions) journal.old.items journal.new.items)
+    ensures log { GrowsBy (exchanges_since
+        (serial_setup declared.now seen.now plan.now.actions) journal.old.items journal.new.items)
+        (H.log hand.old) (H.log hand.new) }
+    ensures told { ToldBy (exchanges_since
+        (serial_setup declared.now seen.now plan.now.actions) journal.old.items journal.new.items)
+        (H.engine hand.old) (H.engine hand.new) }
+    ensures caused { AreCaused (exchanges_since
+        (serial_setup declared.now seen.now plan.now.actions) journal.old.items journal.new.items)
         (account (H.log hand.old) (H.heard hand.old) (H.faults hand.old)) (account (H.log hand.new) (H.heard hand.new) (H.faults hand.new)) }
     ensures clock { H.clock hand.new ≡ H.clock hand.old }
 {
@@ -74,10 +81,12 @@ fn make_all<H: Hand>(
     requires grounded { IsGrounded declared.now seen.now plan.now.actions (aim_of aim) }
     requires begun { IsBegun declared.now (aim_of aim) seen.now journal.old.items }
     requires room { 1 ≤ journal.old.spare }
-    ensures on_its_way { IsOnItsWay (aim_of aim) (serial_setup declared.now seen.now plan.now.actions) journal.old.items journal.new.items
+    ensures on_its_way { IsOnItsWay (aim_of aim)
+        (serial_setup declared.now seen.now plan.now.actions) journal.old.items journal.new.items
         (telling (H.log hand.old) (H.heard hand.old) (H.faults hand.old) (H.clock hand.old) (H.engine hand.old))
         (telling (H.log hand.new) (H.heard hand.new) (H.faults hand.new) (H.clock hand.new) (H.engine hand.new)) }
-    ensures done { OnOk result (IsDone (serial_setup declared.now seen.now plan.now.actions) (reverse journal.new.items)) }
+    ensures done { OnOk result (IsDone (serial_setup declared.now seen.now plan.now.actions)
+        (reverse journal.new.items)) }
     ensures room { 1 ≤ journal.new.spare }
 {
     let mut marks = Vec::new(alloc);
@@ -114,7 +123,8 @@ fn take<H: Hand>(
     requires asked { is_clear action.now.needs marks.now ≡ true
         → is_some (request_by (course declared.now seen.now plan.now.actions marks.now journal.old.items) action.now.needs action.now.kind) ≡ true }
     requires room { 1 ≤ journal.old.spare }
-    ensures taken { IfOk result (λ mark. IsSkipped action.now.needs marks.now journal.old.items journal.new.items
+    ensures taken { IfOk result (λ mark.
+        IsSkipped action.now.needs marks.now journal.old.items journal.new.items
         (telling (H.log hand.old) (H.heard hand.old) (H.faults hand.old) (H.clock hand.old) (H.engine hand.old))
         (telling (H.log hand.new) (H.heard hand.new) (H.faults hand.new) (H.clock hand.new) (H.engine hand.new)) mark
         ⊎ ((is_clear action.now.needs marks.now ≡ true)
@@ -156,7 +166,8 @@ fn make<H: Hand>(
     journal: &mut ReservedList<Entry>,
 ) -> Result<Mark, Memory>
     requires room { 1 ≤ journal.old.spare }
-    ensures made { IfOk result (λ mark. IsMade (Some request) kind number journal.old.items journal.new.items
+    ensures made { IfOk result (λ mark.
+        IsMade (Some request) kind number journal.old.items journal.new.items
         (telling (H.log hand.old) (H.heard hand.old) (H.faults hand.old) (H.clock hand.old) (H.engine hand.old))
         (telling (H.log hand.new) (H.heard hand.new) (H.faults hand.new) (H.clock hand.new) (H.engine hand.new)) mark) }
     ensures short { OnErr result (IsLeftAlone journal.old.items journal.new.items

@@ -27,7 +27,8 @@ pub fn number(text: &[u8], most: u64) -> Option<u64>
 /// A number with one more digit after its own, where that is at most `most`.
 fn with_digit(value: u64, digit: u8, most: u64) -> Option<u64>
     requires { IsAsciiDigit digit }
-    ensures { result ≡ (if nat_le (value * 10 + digit_value digit) most then Some (value * 10 + digit_value digit) else None) }
+    ensures { result ≡ (if nat_le (value * 10 + digit_value digit) most then Some
+        (value * 10 + digit_value digit) else None) }
 {
     let more = u128::from(value) * 10 + u128::from(digit_of(digit));
     if more <= u128::from(most) {

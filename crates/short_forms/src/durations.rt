@@ -105,7 +105,8 @@ fn is_of_number(b: u8) -> bool
 
 /// The sum with one more amount.
 fn with_amount(total: &FixedPoint, amount: &[u8]) -> Option<FixedPoint>
-    ensures { option_map parts_of result ≡ option_and_then (λ more. capped (parts_of total.now + more)) (amount_of amount.now) }
+    ensures { option_map parts_of result ≡
+        option_and_then (λ more. capped (parts_of total.now + more)) (amount_of amount.now) }
 {
     let (number, unit) = amount.split_at(number_len(amount));
     let micros = unit_micros(unit)?;
@@ -121,7 +122,8 @@ fn number_len(text: &[u8]) -> usize
 
 /// A number with at most one point.
 fn read_number(text: &[u8]) -> Option<FixedPoint>
-    ensures { option_map parts_of result ≡ option_and_then capped (option_and_then parts_in (digit_runs text.now)) }
+    ensures { option_map parts_of result ≡
+        option_and_then capped (option_and_then parts_in (digit_runs text.now)) }
 {
     let (whole, fraction) = digit_runs(text)?;
     from_runs(whole, fraction)
@@ -131,7 +133,8 @@ fn read_number(text: &[u8]) -> Option<FixedPoint>
 fn from_runs(whole: &[u8], fraction: &[u8]) -> Option<FixedPoint>
     requires whole { IsTrue (is_number whole.now) }
     requires fraction { IsTrue (list_all is_ascii_digit fraction.now) }
-    ensures { option_map parts_of result ≡ option_and_then capped (parts_in (whole.now, fraction.now)) }
+    ensures { option_map parts_of result ≡
+        option_and_then capped (parts_in (whole.now, fraction.now)) }
 {
     let (fraction, more) = fraction.split_at(fraction.len().min(UPPER_PLACES + LOWER_PLACES));
     if are_zeros(more) {
@@ -166,7 +169,8 @@ fn fixed_point(whole: &[u8], fraction: &[u8]) -> Option<FixedPoint>
 /// A sum with a number of units.
 fn plus(total: &FixedPoint, number: &FixedPoint, unit: u64) -> Option<FixedPoint>
     requires { unit ≤ 3600000000 }
-    ensures { option_map parts_of result ≡ capped (parts_of total.now + parts_of number.now * unit) }
+    ensures { option_map parts_of result ≡
+        capped (parts_of total.now + parts_of number.now * unit) }
 {
     let unit = u128::from(unit);
     let lower = total.lower + number.lower * unit;

@@ -70,7 +70,8 @@ fn mount_behind(alloc: Global, source: &str, rest: &str) -> Result<Mount, FormRe
 
 /// The mount of a source, a target and what stands behind the second colon.
 fn mount_with(alloc: Global, source: &str, target: &str, mode: &str) -> Result<Mount, FormRefusal>
-    ensures { Gives result (answer_of Form.Mount (mount_in (source.now ∷ target.now ∷ parts_at 58 mode.now))) }
+    ensures { Gives result (answer_of Form.Mount
+        (mount_in (source.now ∷ target.now ∷ parts_at 58 mode.now))) }
 {
     match cut_text(mode, ':') {
         None => mount_from(alloc, source, target, read_mode(alloc, mode)?),

@@ -70,7 +70,8 @@ pub fn read_port(alloc: Global, text: &Text) -> Result<List<Port>, FormRefusal>
 
 /// The ports of what stands before a protocol that is named.
 fn with_protocol(alloc: Global, fields: &str, protocol: &str) -> Result<List<Port>, FormRefusal>
-    ensures { Gives result (answer_of Form.Port (ports_by fields.now (Some (fields.now, protocol.now)))) }
+    ensures { Gives result (answer_of Form.Port
+        (ports_by fields.now (Some (fields.now, protocol.now)))) }
 {
     if is_protocol(protocol) {
         read_fields(alloc, fields, protocol)
@@ -113,7 +114,8 @@ fn ports_behind(
     text: &str,
     rest: &str,
 ) -> Result<List<Port>, FormRefusal>
-    ensures { Gives result (answer_of Form.Port (ports_in protocol (text.now ∷ parts_at 58 rest.now))) }
+    ensures { Gives result (answer_of Form.Port
+        (ports_in protocol (text.now ∷ parts_at 58 rest.now))) }
 {
     match cut_text(rest, ':') {
         None => published_of(
@@ -137,7 +139,8 @@ fn ports_at(
     text: &str,
     target: &str,
 ) -> Result<List<Port>, FormRefusal>
-    ensures { Gives result (answer_of Form.Port (ports_in protocol (address.now ∷ text.now ∷ parts_at 58 target.now))) }
+    ensures { Gives result (answer_of Form.Port
+        (ports_in protocol (address.now ∷ text.now ∷ parts_at 58 target.now))) }
 {
     match cut_text(target, ':') {
         None => at_address(alloc, protocol, address, text, target),
@@ -153,7 +156,8 @@ fn at_address(
     text: &str,
     target: &str,
 ) -> Result<List<Port>, FormRefusal>
-    ensures { Gives result (answer_of Form.Port (ports_in protocol (address.now ∷ text.now ∷ target.now ∷ []))) }
+    ensures { Gives result (answer_of Form.Port
+        (ports_in protocol (address.now ∷ text.now ∷ target.now ∷ []))) }
 {
     if !is_address(address) {
         return Err(FormRefusal::BadForm { which: Form::Port });
@@ -190,7 +194,9 @@ fn is_octet(text: &[u8]) -> bool
 
 /// The ports of a target that the host doesn't name.
 fn unpublished(alloc: Global, binding: &Binding, target: &str) -> Result<List<Port>, FormRefusal>
-    ensures { Gives result (answer_of Form.Port (option_map (unpublished (port_at binding.now.host_ip binding.now.protocol)) (target_of target.now))) }
+    ensures { Gives result (answer_of Form.Port
+        (option_map (unpublished (port_at binding.now.host_ip binding.now.protocol))
+        (target_of target.now))) }
 {
     match target_of(target) {
         Some(Span::One(port)) => Ok(one_port(alloc, binding, None, port)?),
@@ -206,7 +212,8 @@ fn published_of(
     text: &str,
     target: &str,
 ) -> Result<List<Port>, FormRefusal>
-    ensures { Gives result (answer_of Form.Port (published_of (port_at binding.now.host_ip binding.now.protocol) text.now target.now)) }
+    ensures { Gives result (answer_of Form.Port
+        (published_of (port_at binding.now.host_ip binding.now.protocol) text.now target.now)) }
 {
     match (span_of(text), target_of(target)) {
         (Some(host), Some(target)) => published(alloc, binding, text, host, target),
@@ -224,7 +231,8 @@ fn published(
 ) -> Result<List<Port>, FormRefusal>
     requires host { IsSpan host }
     requires target { IsSpan target }
-    ensures { Gives result (answer_of Form.Port (published (port_at binding.now.host_ip binding.now.protocol) text.now host target)) }
+    ensures { Gives result (answer_of Form.Port
+        (published (port_at binding.now.host_ip binding.now.protocol) text.now host target)) }
 {
     match (host, target) {
         (Span::One(host), Span::One(port)) => {
@@ -304,7 +312,8 @@ fn port_at(
     published: Option<Text>,
     target: u32,
 ) -> Result<Port, Memory>
-    ensures { IfOk result (λ p. p ≡ port_at binding.now.host_ip binding.now.protocol published target) }
+    ensures { IfOk result (λ p. p ≡
+        port_at binding.now.host_ip binding.now.protocol published target) }
 {
     Ok(Port {
         host_ip: binding.host_ip.copy(alloc)?,
@@ -320,7 +329,8 @@ fn one_port(
     published: Option<Text>,
     target: u32,
 ) -> Result<List<Port>, Memory>
-    ensures { IfOk result (λ l. l ≡ port_at binding.now.host_ip binding.now.protocol published target ∷ []) }
+    ensures { IfOk result (λ l. l ≡
+        port_at binding.now.host_ip binding.now.protocol published target ∷ []) }
 {
     let mut ports = List::new(alloc);
     ports.push(port_at(alloc, binding, published, target)?)?;
@@ -337,7 +347,9 @@ fn ports_from(
 ) -> Result<List<Port>, Memory>
     requires targets { (first ≤ last) × (last ≤ 65535) }
     requires hosts { IfSome low (λ low. low ≤ 65535) }
-    ensures { IfOk result (λ l. l ≡ ports_from (λ place. port_at binding.now.host_ip binding.now.protocol (host_text low place)) first (last - first + 1)) }
+    ensures { IfOk result (λ l. l ≡
+        ports_from (λ place. port_at binding.now.host_ip binding.now.protocol
+        (host_text low place)) first (last - first + 1)) }
 {
     let mut ports = List::new(alloc);
     for place in 0..last - first + 1 {

@@ -41,7 +41,8 @@ fn holds_networks(alloc: Global, declared: &Declared, engine: &Engine) -> Result
 
 /// Whether exactly one of these networks has each declared network's name. No memory.
 fn are_single(declared: &Declared, rows: &[&NetRow]) -> bool
-    ensures { result ≡ list_all (λ network. holds_network (map (λ row. row.now) rows.now) network.name) declared.now.networks }
+    ensures { result ≡ list_all (λ network. holds_network
+        (map (λ row. row.now) rows.now) network.name) declared.now.networks }
 {
     declared
         .networks
@@ -112,7 +113,8 @@ fn holds_slot(
     rows: &[&ContainerRow],
     slot: &Slot,
 ) -> Result<bool, Memory>
-    ensures { IfOk result (λ answer. answer ≡ holds_slot declared.now engine.now (map (λ row. row.now) rows.now) slot.now) }
+    ensures { IfOk result (λ answer.
+        answer ≡ holds_slot declared.now engine.now (map (λ row. row.now) rows.now) slot.now) }
 {
     match only_container(alloc, declared, rows, slot)? {
         Some(row) => fits(alloc, declared, engine, slot, row),
@@ -127,7 +129,8 @@ fn only_container<'a>(
     rows: &[&'a ContainerRow],
     slot: &Slot,
 ) -> Result<Option<&'a ContainerRow>, Memory>
-    ensures { IfOk result (λ only. option_copied only ≡ only_container declared.now (map (λ row. row.now) rows.now) slot.now) }
+    ensures { IfOk result (λ only.
+        option_copied only ≡ only_container declared.now (map (λ row. row.now) rows.now) slot.now) }
 {
     let mut only = None;
     for row in rows {

@@ -14,7 +14,8 @@ use tree_base::{Memory, Text, TextMap};
 
 /// The containers that look-ups by id find: of several rows with one id the first.
 pub(crate) fn found_containers(alloc: Global, engine: &Engine) -> Result<Vec<&ContainerRow>, Memory>
-    ensures { IfOk result (λ found. map (λ row. row.now) found.items ≡ found_containers engine.now) }
+    ensures { IfOk result (λ found.
+        map (λ row. row.now) found.items ≡ found_containers engine.now) }
 {
     let mut ids = TextMap::new(alloc);
     let mut found = Vec::new(alloc);
@@ -43,7 +44,8 @@ pub(crate) fn found_networks(alloc: Global, engine: &Engine) -> Result<Vec<&NetR
 /// Whether an id is a new one, which is known from then on.
 fn is_new(alloc: Global, ids: &mut TextMap<()>, id: &Text) -> Result<bool, Memory>
     ensures new { IfOk result (λ new. new ≡ not (list_any (bytes_eq id.now) (keys_of ids.old))) }
-    ensures known { IfOk result (λ new. keys_of ids.new ≡ (if new then keys_of ids.old ++ id.now ∷ [] else keys_of ids.old)) }
+    ensures known { IfOk result (λ new.
+        keys_of ids.new ≡ (if new then keys_of ids.old ++ id.now ∷ [] else keys_of ids.old)) }
 {
     let key = id.copy(alloc)?;
     let before = ids.put(key, ())?;

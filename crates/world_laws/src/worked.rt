@@ -38,7 +38,8 @@ pub fn two_networks_are_held_exactly()
     ensures own { HasOwnSpecs two.shop }
     ensures run { IsRun (upping two.shop) two.connects }
     ensures sound { run_fault (upping two.shop) two.connects ≡ None }
-    ensures world { (first : Engine) × IsWorldOfRun (upping two.shop) two.connects first worlds.second_moves worlds.after }
+    ensures world { (first : Engine) × IsWorldOfRun
+        (upping two.shop) two.connects first worlds.second_moves worlds.after }
     ensures exact { IsExact two.shop worlds.after (upping two.shop).aim.orphans }
 {
     lost_create_is_found();
@@ -63,7 +64,8 @@ pub fn paused_run_has_a_world()
     ensures run { IsRun (downing shop) goes_down }
     ensures exchanges { exchanges_in down.steps ≡ run_exchanges (downing shop) goes_down 0 }
     ensures told { TellsSteps down.steps (Some down.before) (Some down.after) }
-    ensures world { (moves : List Move) × IsWorldOfRun (downing shop) goes_down down.before moves down.after }
+    ensures world { (moves : List Move)
+        × IsWorldOfRun (downing shop) goes_down down.before moves down.after }
 {
     second_run_and_down();
 }

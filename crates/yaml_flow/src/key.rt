@@ -23,8 +23,10 @@ pub fn fault_of_pair(chars: &[char]) -> YamlFault
 /// behind itself. With it, whether it has one.
 pub fn behind_key(row: &Row, at: usize, key: &Key) -> (usize, bool)
     requires { at + key.now.len ≤ length row.now.chars }
-    ensures has_colon { result.1 ≡ is_colon_of Flow (text_at row.now at) (text_at row.now (at + before_colon Flow (text_at row.now at))) }
-    ensures behind { result.0 ≡ (if result.1 then at + before_colon Flow (text_at row.now at) + 1 else at + key.now.len) }
+    ensures has_colon { result.1 ≡ is_colon_of Flow (text_at row.now at)
+        (text_at row.now (at + before_colon Flow (text_at row.now at))) }
+    ensures behind { result.0 ≡ (if result.1 then at + before_colon Flow
+        (text_at row.now at) + 1 else at + key.now.len) }
     ensures within { result.0 ≤ length row.now.chars }
 {
     let chars = text_at(row, at);

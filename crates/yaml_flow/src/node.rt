@@ -33,7 +33,8 @@ pub fn flow(
     row: &Row,
     at: usize,
 ) -> Result<(Tree, usize), YamlRefusal>
-    ensures is { Gives (result_beside result progress.new) (flow levels found progress.old row.now at) }
+    ensures is { Gives (result_beside result progress.new)
+        (flow levels found progress.old row.now at) }
     ensures within { IfOk result (λ got. got.1 ≤ length row.now.chars) }
 {
     let chars = text_at(row, at);
@@ -60,7 +61,8 @@ fn sequence(
 ) -> Result<(Tree, usize), YamlRefusal>
     requires within { at < length row.now.chars }
     requires small { length row.now.chars < 2 ^ 63 }
-    ensures is { Gives (result_beside result progress.new) (flow_sequence levels (levels - 1) (flow (levels - 1)) found progress.old row.now at) }
+    ensures is { Gives (result_beside result progress.new)
+        (flow_sequence levels (levels - 1) (flow (levels - 1)) found progress.old row.now at) }
     ensures within { IfOk result (λ got. got.1 ≤ length row.now.chars) }
 {
     progress.one_node(levels, row, at, 0)?;
@@ -81,7 +83,8 @@ fn mapping(
 ) -> Result<(Tree, usize), YamlRefusal>
     requires within { at < length row.now.chars }
     requires small { length row.now.chars < 2 ^ 63 }
-    ensures is { Gives (result_beside result progress.new) (flow_mapping levels (levels - 1) (flow (levels - 1)) found progress.old row.now at) }
+    ensures is { Gives (result_beside result progress.new)
+        (flow_mapping levels (levels - 1) (flow (levels - 1)) found progress.old row.now at) }
     ensures within { IfOk result (λ got. got.1 ≤ length row.now.chars) }
 {
     progress.one_node(levels, row, at, 0)?;
@@ -102,7 +105,8 @@ fn items(
 ) -> Result<(List<Tree>, usize), YamlRefusal>
     requires within { bracket < length row.now.chars }
     requires small { length row.now.chars < 2 ^ 63 }
-    ensures is { Gives (result_beside result progress.new) (between (flow_item levels (flow levels) row.now) row.now bracket 93 [] progress.old) }
+    ensures is { Gives (result_beside result progress.new)
+        (between (flow_item levels (flow levels) row.now) row.now bracket 93 [] progress.old) }
     ensures within { IfOk result (λ got. got.1 ≤ length row.now.chars) }
 {
     let mut items = List::new(alloc);
@@ -129,7 +133,9 @@ fn entries(
 ) -> Result<(Entries, usize), YamlRefusal>
     requires within { bracket < length row.now.chars }
     requires small { length row.now.chars < 2 ^ 63 }
-    ensures is { Gives (result_beside result progress.new) (between (flow_entry levels (flow levels) row.now) row.now bracket 125 no_entries progress.old) }
+    ensures is { Gives (result_beside result progress.new)
+        (between (flow_entry levels
+        (flow levels) row.now) row.now bracket 125 no_entries progress.old) }
     ensures within { IfOk result (λ got. got.1 ≤ length row.now.chars) }
 {
     let mut entries = no_entries(alloc);
@@ -157,7 +163,10 @@ fn item_piece(
     start: usize,
 ) -> Result<usize, YamlRefusal>
     requires { start ≤ length row.now.chars }
-    ensures is { Gives (result_left result (items.new, progress.new)) (read_piece (flow_item levels (flow levels) row.now) row.now (piece_at row.now bracket start) (is_last_of row.now (piece_at row.now bracket start)) (items.old, progress.old) start) }
+    ensures is { Gives (result_left result (items.new, progress.new))
+        (read_piece (flow_item levels (flow levels) row.now) row.now
+        (piece_at row.now bracket start) (is_last_of row.now (piece_at row.now bracket start))
+        (items.old, progress.old) start) }
     ensures ends { IfOk result (λ stop. stop ≡ stop_from row.now start) }
     ensures within { IfOk result (λ stop. stop ≤ length row.now.chars) }
 {
@@ -180,7 +189,10 @@ fn entry_piece(
     start: usize,
 ) -> Result<usize, YamlRefusal>
     requires { start ≤ length row.now.chars }
-    ensures is { Gives (result_left result (entries.new, progress.new)) (read_piece (flow_entry levels (flow levels) row.now) row.now (piece_at row.now bracket start) (is_last_of row.now (piece_at row.now bracket start)) (entries.old, progress.old) start) }
+    ensures is { Gives (result_left result (entries.new, progress.new))
+        (read_piece (flow_entry levels (flow levels) row.now) row.now
+        (piece_at row.now bracket start) (is_last_of row.now (piece_at row.now bracket start))
+        (entries.old, progress.old) start) }
     ensures ends { IfOk result (λ stop. stop ≡ stop_from row.now start) }
     ensures within { IfOk result (λ stop. stop ≤ length row.now.chars) }
 {
@@ -203,7 +215,9 @@ fn item(
     at: usize,
 ) -> Result<usize, YamlRefusal>
     requires { at ≤ length row.now.chars }
-    ensures is { Gives (result_left result (items.new, progress.new)) (flow_item levels (flow levels) row.now (piece_at row.now bracket at) (items.old, progress.old) at) }
+    ensures is { Gives (result_left result (items.new, progress.new))
+        (flow_item levels (flow levels) row.now (piece_at row.now bracket at)
+        (items.old, progress.old) at) }
     ensures ends { IfOk result (λ stop. stop ≡ stop_from row.now at) }
     ensures within { IfOk result (λ stop. stop ≤ length row.now.chars) }
 {
@@ -230,7 +244,9 @@ fn entry(
     at: usize,
 ) -> Result<usize, YamlRefusal>
     requires { at ≤ length row.now.chars }
-    ensures is { Gives (result_left result (entries.new, progress.new)) (flow_entry levels (flow levels) row.now (piece_at row.now bracket at) (entries.old, progress.old) at) }
+    ensures is { Gives (result_left result (entries.new, progress.new))
+        (flow_entry levels (flow levels) row.now (piece_at row.now bracket at)
+        (entries.old, progress.old) at) }
     ensures ends { IfOk result (λ stop. stop ≡ stop_from row.now at) }
     ensures within { IfOk result (λ stop. stop ≤ length row.now.chars) }
 {
@@ -255,7 +271,9 @@ fn flow_value(
     has_colon: bool,
 ) -> Result<(Tree, usize), YamlRefusal>
     requires { behind ≤ length row.now.chars }
-    ensures is { Gives (result_beside result progress.new) (flow_value levels (flow levels) row.now (piece_at row.now key behind) key progress.old behind has_colon) }
+    ensures is { Gives (result_beside result progress.new)
+        (flow_value levels (flow levels) row.now
+        (piece_at row.now key behind) key progress.old behind has_colon) }
     ensures within { IfOk result (λ got. got.1 ≤ length row.now.chars) }
 {
     if !has_colon {
@@ -281,7 +299,9 @@ fn flow_node(
     may_be_marked: bool,
 ) -> Result<(Tree, usize), YamlRefusal>
     requires { at ≤ length row.now.chars }
-    ensures is { Gives (result_beside result progress.new) (flow_node levels (flow levels) may_be_marked row.now (piece_at row.now owner at) owner progress.old at) }
+    ensures is { Gives (result_beside result progress.new)
+        (flow_node levels (flow levels) may_be_marked row.now
+        (piece_at row.now owner at) owner progress.old at) }
     ensures within { IfOk result (λ got. got.1 ≤ length row.now.chars) }
 {
     let (found, at) = flow_properties(
@@ -310,7 +330,8 @@ fn nothing_before(
     end: usize,
 ) -> Result<(Tree, usize), YamlRefusal>
     requires { end ≤ length row.now.chars }
-    ensures is { Gives (result_beside result progress.new) (nothing_before levels found progress.old row.now owner end) }
+    ensures is { Gives (result_beside result progress.new)
+        (nothing_before levels found progress.old row.now owner end) }
     ensures within { IfOk result (λ got. got.1 ≤ length row.now.chars) }
 {
     let null = nothing(alloc, progress, levels, found, row, owner)?;

@@ -43,7 +43,8 @@ pub fn behind_bracket(
     piece: Piece,
     close: char,
 ) -> Result<usize, YamlRefusal>
-    ensures is { Gives result (if starts close (text_at row.now piece.stop) then Ok (piece.stop + 1) else bad BadFlow progress.now row.now piece.bracket) }
+    ensures is { Gives result (if starts close (text_at row.now piece.stop) then Ok
+        (piece.stop + 1) else bad BadFlow progress.now row.now piece.bracket) }
     ensures within { IfOk result (λ end. end ≤ length row.now.chars) }
 {
     if starts(text_at(row, piece.stop), close) {
@@ -60,7 +61,8 @@ pub fn empty_stop(
     bracket: usize,
     at: usize,
 ) -> Result<usize, YamlRefusal>
-    ensures { Gives result (if starts 44 (text_at row.now at) then bad BadFlow progress.now row.now bracket else Ok at) }
+    ensures { Gives result (if starts 44
+        (text_at row.now at) then bad BadFlow progress.now row.now bracket else Ok at) }
 {
     if starts(text_at(row, at), ',') {
         Err(progress.bad(YamlFault::BadFlow, row, bracket))

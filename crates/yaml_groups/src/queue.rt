@@ -40,7 +40,8 @@ impl Queue {
 
     /// Takes the next row out.
     pub fn next(&mut self, alloc: Global) -> Option<Row>
-        ensures { MatchOption result ((self.old ≡ []) × (self.new ≡ [])) (λ row. self.old ≡ row ∷ self.new) }
+        ensures { MatchOption result ((self.old ≡ [])
+            × (self.new ≡ [])) (λ row. self.old ≡ row ∷ self.new) }
     {
         if self.at == self.rows.len() {
             return None;

@@ -45,7 +45,8 @@ fn inline(
     line: &LogicalLine,
     at: usize,
 ) -> Result<(Tree, usize), YamlRefusal>
-    ensures { Gives (result_beside result progress.new) (inline levels column found progress.old line.now at) }
+    ensures { Gives (result_beside result progress.new)
+        (inline levels column found progress.old line.now at) }
 {
     let chars = text_at(&line.row, at);
     if begins_flow(chars) {
@@ -105,7 +106,8 @@ pub(crate) fn inline_alone(
     at: usize,
     more: &[LogicalLine],
 ) -> Result<Tree, YamlRefusal>
-    ensures { Gives (result_beside result progress.new) (inline_alone levels indent owner.now.column found progress.old line.now at more.now) }
+    ensures { Gives (result_beside result progress.new)
+        (inline_alone levels indent owner.now.column found progress.old line.now at more.now) }
 {
     let (tree, end) = inline(alloc, progress, levels, owner.column, found, line, at)?;
     line_end(progress, &line.row, end)?;

@@ -32,7 +32,8 @@ pub(crate) fn below(
     found: Properties,
     lines: &[LogicalLine],
 ) -> Result<Tree, YamlRefusal>
-    ensures { Gives (result_beside result progress.new) (below (node levels) owner.now found progress.old lines.now) }
+    ensures { Gives (result_beside result progress.new)
+        (below (node levels) owner.now found progress.old lines.now) }
 {
     match lines {
         [] => nothing(alloc, progress, levels, found, owner.row, owner.column),
@@ -56,7 +57,8 @@ fn node(
     line: &LogicalLine,
     more: &[LogicalLine],
 ) -> Result<Tree, YamlRefusal>
-    ensures { Gives (result_beside result progress.new) (node levels owner.now found progress.old at (line.now ∷ more.now)) }
+    ensures { Gives (result_beside result progress.new)
+        (node levels owner.now found progress.old at (line.now ∷ more.now)) }
 {
     begun(progress, line)?;
     let chars = text_at(&line.row, at);
@@ -84,7 +86,9 @@ fn behind_properties(
     at: usize,
     more: &[LogicalLine],
 ) -> Result<Tree, YamlRefusal>
-    ensures { Gives (result_beside result progress.new) (behind_properties levels (node levels) owner.now found progress.old indent line.now at more.now) }
+    ensures { Gives (result_beside result progress.new)
+        (behind_properties levels
+        (node levels) owner.now found progress.old indent line.now at more.now) }
 {
     if is_rest_blank(text_at(&line.row, at), true) {
         let found = carried(progress, &line.row, found);
@@ -109,7 +113,9 @@ fn block_or_inline(
     line: &LogicalLine,
     more: &[LogicalLine],
 ) -> Result<Tree, YamlRefusal>
-    ensures { Gives (result_beside result progress.new) (block_or_inline levels (levels - 1) (inner levels) owner.now found progress.old at line.now more.now) }
+    ensures { Gives (result_beside result progress.new)
+        (block_or_inline levels (levels - 1)
+        (inner levels) owner.now found progress.old at line.now more.now) }
 {
     let chars = text_at(&line.row, at);
     if is_item(chars) {
@@ -138,7 +144,8 @@ fn block_sequence(
     more: &[LogicalLine],
 ) -> Result<Tree, YamlRefusal>
     requires { column < length line.now.row.chars }
-    ensures { Gives (result_beside result progress.new) (block_sequence levels (inner levels) found progress.old column line.now more.now) }
+    ensures { Gives (result_beside result progress.new)
+        (block_sequence levels (inner levels) found progress.old column line.now more.now) }
 {
     progress.one_node(levels, &line.row, column, 0)?;
     let items = items(alloc, progress, levels - 1, column, line, more)?;
@@ -156,7 +163,9 @@ fn items(
     more: &[LogicalLine],
 ) -> Result<List<Tree>, YamlRefusal>
     requires { column < length line.now.row.chars }
-    ensures { Gives (result_beside result progress.new) (block (begins_item column) (is_item_at column) (block_item column (node levels)) ([], progress.old) line.now more.now) }
+    ensures { Gives (result_beside result progress.new)
+        (block (begins_item column) (is_item_at column) (block_item column (node levels))
+        ([], progress.old) line.now more.now) }
 {
     let (own, mut rest) = more.split_at(item_len(more, column));
     let mut items = List::new(alloc);
@@ -182,7 +191,8 @@ fn push_item(
     more: &[LogicalLine],
 ) -> Result<(), YamlRefusal>
     requires { column < length line.now.row.chars }
-    ensures { Gives (result_left result (items.new, progress.new)) (block_item column (node levels) (items.old, progress.old) line.now more.now) }
+    ensures { Gives (result_left result (items.new, progress.new))
+        (block_item column (node levels) (items.old, progress.old) line.now more.now) }
 {
     let item = item_node(alloc, progress, levels, column, line, more)?;
     items.push(item)?;
@@ -201,7 +211,8 @@ fn item_node(
     more: &[LogicalLine],
 ) -> Result<Tree, YamlRefusal>
     requires { column < length line.now.row.chars }
-    ensures { Gives (result_beside result progress.new) (item_node column (node levels) progress.old line.now more.now) }
+    ensures { Gives (result_beside result progress.new)
+        (item_node column (node levels) progress.old line.now more.now) }
 {
     let owner = Owner {
         row: &line.row,
@@ -229,7 +240,9 @@ fn block_mapping(
     line: &LogicalLine,
     more: &[LogicalLine],
 ) -> Result<Tree, YamlRefusal>
-    ensures { Gives (result_beside result progress.new) (block_mapping levels (levels - 1) (inner levels) found progress.old column line.now more.now) }
+    ensures { Gives (result_beside result progress.new)
+        (block_mapping levels (levels - 1)
+        (inner levels) found progress.old column line.now more.now) }
 {
     progress.one_node(levels, &line.row, column, 0)?;
     let entries = entries(alloc, progress, levels - 1, column, line, more)?;
@@ -247,7 +260,9 @@ fn entries(
     line: &LogicalLine,
     more: &[LogicalLine],
 ) -> Result<Entries, YamlRefusal>
-    ensures { Gives (result_beside result progress.new) (block (begins_entry column) (is_entry_at column) (block_entry column levels (node levels)) (no_entries, progress.old) line.now more.now) }
+    ensures { Gives (result_beside result progress.new)
+        (block (begins_entry column) (is_entry_at column) (block_entry column levels (node levels))
+        (no_entries, progress.old) line.now more.now) }
 {
     let (own, mut rest) = more.split_at(entry_len(more, column));
     let mut entries = no_entries(alloc);
@@ -273,7 +288,8 @@ fn put_entry(
     line: &LogicalLine,
     more: &[LogicalLine],
 ) -> Result<(), YamlRefusal>
-    ensures { Gives (result_left result (entries.new, progress.new)) (block_entry column levels (node levels) (entries.old, progress.old) line.now more.now) }
+    ensures { Gives (result_left result (entries.new, progress.new))
+        (block_entry column levels (node levels) (entries.old, progress.old) line.now more.now) }
 {
     let row = &line.row;
     let chars = text_at(row, column);
@@ -309,7 +325,8 @@ fn block_value(
     more: &[LogicalLine],
 ) -> Result<Tree, YamlRefusal>
     requires { behind ≤ length line.now.row.chars }
-    ensures { Gives (result_beside result progress.new) (block_value levels (node levels) owner.now progress.old line.now behind more.now) }
+    ensures { Gives (result_beside result progress.new)
+        (block_value levels (node levels) owner.now progress.old line.now behind more.now) }
 {
     let start = behind + blanks(text_at(&line.row, behind));
     let found = properties_from(alloc, progress, &line.row, start, no_properties(), true)?;
