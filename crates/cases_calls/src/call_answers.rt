@@ -1,7 +1,10 @@
+ghost use Rattle.std.specs.Prelude.{◌<◌, ◌^◌, length};
+
 use crate::config_call::put_ended;
 use crate::files::sound_files_of;
 use crate::scene::Scene;
 use crate::stage::Stage;
+use asked_project::{Asked, Command, project_asked};
 use case_files::{Answers, Fields, Lines, Reading};
 use cases_messages::exchange_lines;
 use cases_values::{engine_lines, journal_lines};
@@ -10,8 +13,6 @@ use engine_hand::MemoryHand;
 use engine_types::Engine;
 use identity::declare;
 use outside_files::MemoryFiles;
-use plain_services::{Command, command_of, load};
-use service_attrs::Project;
 use std::alloc::Global;
 use tree_base::Memory;
 use world_laws::exact;
@@ -23,7 +24,9 @@ pub fn put_call(
     ended: &Ended<MemoryHand>,
     stage: &Stage,
     answers: &mut Answers,
-) {
+)
+    requires words { length scene.now.words < 2 ^ 32 }
+{
     put_ended(ended.status, stage, answers);
     answers.put_lines(
         "journal",
@@ -43,7 +46,9 @@ fn put_no_hand(answers: &mut Answers) {
     answers.put_null("engine_after");
 }
 
-fn put_hand(fields: &Fields, scene: &Scene, hand: &MemoryHand, answers: &mut Answers) {
+fn put_hand(fields: &Fields, scene: &Scene, hand: &MemoryHand, answers: &mut Answers)
+    requires words { length scene.now.words < 2 ^ 32 }
+{
     let alloc = answers.reading.alloc;
     let engine = &hand.engine.engine;
     answers.put_lines("exchanges", exchange_lines(alloc, hand.log()));
@@ -51,30 +56,35 @@ fn put_hand(fields: &Fields, scene: &Scene, hand: &MemoryHand, answers: &mut Ans
     put_exact(fields, scene, engine, answers);
 }
 
-/// Puts whether an Engine holds exactly what the project of a call declares; null where no project is loaded.
-fn put_exact(fields: &Fields, scene: &Scene, engine: &Engine, answers: &mut Answers) {
-    match project_in(&mut answers.reading, fields, scene) {
-        Some(project) => {
-            let orphans = goes_for_orphans(scene);
-            let told = holds(answers.reading.alloc, &project, engine, orphans);
-            drop(project);
+/// Puts whether an Engine holds exactly what the project of a call declares; null where the call is refused.
+fn put_exact(fields: &Fields, scene: &Scene, engine: &Engine, answers: &mut Answers)
+    requires words { length scene.now.words < 2 ^ 32 }
+{
+    match asked_in(&mut answers.reading, fields, scene) {
+        Some(asked) => {
+            let told = holds(answers.reading.alloc, &asked, engine);
+            drop(asked);
             answers.put_told("exact", told);
         }
         None => answers.put_null("exact"),
     }
 }
 
-/// The project of a call, from files of which every read goes well; None where none is loaded.
-fn project_in(reading: &mut Reading, fields: &Fields, scene: &Scene) -> Option<Project> {
+/// What a call is asked, from files of which every read goes well; None where it is refused.
+fn asked_in(reading: &mut Reading, fields: &Fields, scene: &Scene) -> Option<Asked>
+    requires words { length scene.now.words < 2 ^ 32 }
+{
     let mut files = sound_files_of(reading, fields, scene.directory.as_str());
-    let project = loaded(reading.alloc, scene, &mut files);
+    let asked = asked_of(reading.alloc, scene, &mut files);
     drop(files);
-    project
+    asked
 }
 
-fn loaded(alloc: Global, scene: &Scene, files: &mut MemoryFiles) -> Option<Project> {
-    match load(alloc, &scene.words, &scene.directory, files) {
-        Ok(project) => Some(project),
+fn asked_of(alloc: Global, scene: &Scene, files: &mut MemoryFiles) -> Option<Asked>
+    requires words { length scene.now.words < 2 ^ 32 }
+{
+    match project_asked(alloc, &scene.words, &scene.env, &scene.directory, files) {
+        Ok(asked) => Some(asked),
         Err(refusal) => {
             drop(refusal);
             None
@@ -82,17 +92,22 @@ fn loaded(alloc: Global, scene: &Scene, files: &mut MemoryFiles) -> Option<Proje
     }
 }
 
-/// Whether the words of a call ask that orphans be removed. No memory.
-fn goes_for_orphans(scene: &Scene) -> bool {
-    match command_of(&scene.words) {
-        Some(Command::Up { orphans }) | Some(Command::Down { orphans }) => orphans,
-        Some(Command::Config) | None => false,
+/// Whether a command removes orphans. No memory.
+fn goes_for_orphans(command: &Command) -> bool {
+    match command {
+        Command::Up { orphans, .. } | Command::Down { orphans, .. } => *orphans,
+        _ => false,
     }
 }
 
-fn holds(alloc: Global, project: &Project, engine: &Engine, orphans: bool) -> Result<bool, Memory> {
-    let declared = declare(alloc, project)?;
-    let is_exact = exact(alloc, &declared, engine, orphans);
+fn holds(alloc: Global, asked: &Asked, engine: &Engine) -> Result<bool, Memory> {
+    let declared = declare(alloc, &asked.project)?;
+    let is_exact = exact(
+        alloc,
+        &declared,
+        engine,
+        goes_for_orphans(&asked.options.command),
+    );
     drop(declared);
     is_exact
 }

@@ -1,3 +1,5 @@
+ghost use Rattle.std.specs.Prelude.{◌<◌, ◌^◌, length};
+
 use case_files::{Fields, Reading};
 use tree_base::{Env, List, Text, Tree};
 
@@ -9,12 +11,30 @@ pub struct Scene {
     pub directory: Text,
 }
 
+/// How many words a case may have.
+const MOST_WORDS: usize = 100_000;
+
 /// The scene of a case, whose words stand under the name of the call.
-pub fn scene_of(reading: &mut Reading, fields: &Fields, call: &str) -> Scene {
+pub fn scene_of(reading: &mut Reading, fields: &Fields, call: &str) -> Scene
+    ensures { length result.words < 2 ^ 32 }
+{
+    let words = words_of(reading, fields, call);
     Scene {
-        words: words_of(reading, fields, call),
+        words: few_words(reading, words),
         env: reading.variables(fields, "environment"),
         directory: reading.text_or(fields, "directory", "/w/shop"),
+    }
+}
+
+/// The words; none, and that is kept, where they are too many.
+fn few_words(reading: &mut Reading, words: List<Text>) -> List<Text>
+    ensures { length result < 2 ^ 32 }
+{
+    if words.len() < MOST_WORDS {
+        words
+    } else {
+        reading.refuse("there are too many words");
+        List::new(reading.alloc)
     }
 }
 

@@ -1,4 +1,4 @@
-ghost use Rattle.std.specs.Prelude.{◌≡◌, ◌<◌, ◌^◌, Some};
+ghost use Rattle.std.specs.Prelude.{◌≡◌, ◌<◌, ◌^◌, Some, length};
 
 use crate::call_answers::put_call;
 use crate::engines::engine_for;
@@ -28,12 +28,9 @@ pub fn call_on(fields: &Fields, engines: &mut List<MemoryEngine>, answers: &mut 
     drop(scene);
 }
 
-fn call_in(
-    fields: &Fields,
-    scene: &Scene,
-    engines: &mut List<MemoryEngine>,
-    answers: &mut Answers,
-) {
+fn call_in(fields: &Fields, scene: &Scene, engines: &mut List<MemoryEngine>, answers: &mut Answers)
+    requires words { length scene.now.words < 2 ^ 32 }
+{
     let used = answers.reading.flag(fields, "no_hand_left");
     if let Some(engine) = engine_for(&mut answers.reading, fields, engines) {
         let mut plug = MemoryPlug::new(engine, 1);
@@ -54,7 +51,8 @@ fn call_used(
     engines: &mut List<MemoryEngine>,
     answers: &mut Answers,
 )
-    requires { ⟦<MemoryPlug as Plug>⟧.dialled plug.old ≡ Some 0 }
+    requires words { length scene.now.words < 2 ^ 32 }
+    requires told { ⟦<MemoryPlug as Plug>⟧.dialled plug.old ≡ Some 0 }
 {
     match plug.dial(answers.reading.alloc, &Target::InMemory, None, 0) {
         DialAnswer::Dialled(hand) => {
@@ -74,6 +72,7 @@ fn call_with(
     engines: &mut List<MemoryEngine>,
     answers: &mut Answers,
 )
+    requires words { length scene.now.words < 2 ^ 32 }
     requires told { ⟦<MemoryPlug as Plug>⟧.dialled plug.old ≡ Some dialled }
     requires below { dialled < 2 ^ 61 }
 {
@@ -93,6 +92,7 @@ fn top_call(
     plug: &mut MemoryPlug,
     dialled: u64,
 ) -> Ended<MemoryHand>
+    requires words { length scene.now.words < 2 ^ 32 }
     requires told { ⟦<MemoryPlug as Plug>⟧.dialled plug.old ≡ Some dialled }
     requires below { dialled < 2 ^ 61 }
 {

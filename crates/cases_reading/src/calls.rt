@@ -6,13 +6,13 @@ pub fn inputs_of(call: &str) -> Option<&'static [&'static str]> {
     match call {
         "substitute" | "substitute_tree" => Some(&["variables"]),
         "env_file" => Some(&["outer"]),
-        "command_line" | "question" | "command_of" | "page" | "page_scalar" => Some(&[]),
+        "command_line" | "question" | "page" | "page_scalar" => Some(&[]),
         "usage" => Some(&["pieces", "beginning"]),
         "duration" | "size" | "decimal" | "key_value" | "shell_words" | "port" | "mount" => {
             Some(&[])
         }
         "out_of_memory" | "law" => Some(&[]),
-        "load" => Some(&["directory", "file", "words", "failing", "times"]),
+        "load" => Some(&["directory", "file", "failing", "times"]),
         _ => cases_ground::inputs_of(call),
     }
 }
@@ -29,7 +29,6 @@ pub fn answer(call: &str, fields: &Fields, answers: &mut Answers) {
         "usage" => words::usage(fields, answers),
         "page" => pages::page(fields, answers),
         "page_scalar" => pages::page_scalar(fields, answers),
-        "command_of" => projects::command_of(fields, answers),
         "load" => projects::load(fields, answers),
         "law" => laws::law(fields, answers),
         _ => answer_of_form(call, fields, answers),

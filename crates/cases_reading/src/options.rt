@@ -1,12 +1,12 @@
 use case_files::Line;
-use compose_words::{Command, Options};
+use compose_words::{Command, Options, Scale};
 use std::alloc::Global;
 use tree_base::Text;
 
 /// A command with its options as one line, in one fixed order; four workers, the usual number, aren't told.
 pub(crate) fn options_line(alloc: Global, options: &Options) -> Line {
     let mut line = Line::new(alloc);
-    say_command(&mut line, options.command);
+    say_command(&mut line, &options.command);
     say_texts(&mut line, "--file", options.files.as_slice());
     say_text(&mut line, "--project-name", options.project.as_ref());
     say_text(&mut line, "--project-directory", options.directory.as_ref());
@@ -21,22 +21,24 @@ pub(crate) fn options_line(alloc: Global, options: &Options) -> Line {
     line
 }
 
-fn say_command(line: &mut Line, command: Command) {
+fn say_command(line: &mut Line, command: &Command) {
     match command {
         Command::Config { json, quiet } => {
             line.word("config");
-            say_flag(line, "--format json", json);
-            say_flag(line, "--quiet", quiet);
+            say_flag(line, "--format json", *json);
+            say_flag(line, "--quiet", *quiet);
         }
         Command::Up {
             orphans,
             wait,
             wait_seconds,
+            scale,
         } => {
             line.word("up");
-            say_flag(line, "--remove-orphans", orphans);
-            say_flag(line, "--wait", wait);
-            say_number(line, "--wait-timeout", wait_seconds);
+            say_flag(line, "--remove-orphans", *orphans);
+            say_flag(line, "--wait", *wait);
+            say_number(line, "--wait-timeout", *wait_seconds);
+            say_scales(line, scale.as_slice());
         }
         Command::Down {
             orphans,
@@ -44,12 +46,30 @@ fn say_command(line: &mut Line, command: Command) {
             seconds,
         } => {
             line.word("down");
-            say_flag(line, "--remove-orphans", orphans);
-            say_flag(line, "--volumes", volumes);
-            say_number(line, "--timeout", seconds);
+            say_flag(line, "--remove-orphans", *orphans);
+            say_flag(line, "--volumes", *volumes);
+            say_number(line, "--timeout", *seconds);
         }
-        Command::Simulate { number } => say_number(line, "simulate", Some(number)),
+        Command::Simulate { number } => say_number(line, "simulate", Some(*number)),
+        Command::Wait => line.word("wait"),
+        Command::Logs => line.word("logs"),
+        Command::EngineSim { connections } => {
+            say_number(line, "enginesim --connections", Some(*connections));
+        }
     }
+}
+
+fn say_scales(line: &mut Line, scales: &[Scale]) {
+    for scale in scales {
+        say_scale(line, scale);
+    }
+}
+
+fn say_scale(line: &mut Line, scale: &Scale) {
+    line.word("--scale");
+    line.word(scale.service.as_str());
+    line.put("=");
+    line.put_number(u64::from(scale.number));
 }
 
 fn say_flag(line: &mut Line, name: &str, given: bool) {

@@ -1,58 +1,31 @@
 ghost use Rattle.std.specs.Prelude.{IfOk};
 ghost use Rattle.service_attrs.specs.Projects.{IsInOrder};
 
-use crate::words::words_of;
 use case_files::{Answers, Fields, Reading};
 use cases_ground::Entries;
 use outside_files::MemoryFiles;
-use plain_services::{Command, PlainRefusal, refusal_status, refusal_words};
+use plain_services::{PlainRefusal, refusal_status, refusal_words};
 use project_print::{page, page_json};
 use service_attrs::{Project, Service};
 use std::alloc::Global;
 use tree_base::{List, Memory, Text, TextMap, Tree};
 
-/// `command_of: WORDS`: the `command`, or null, and whether `orphans` go.
-pub(crate) fn command_of(fields: &Fields, answers: &mut Answers) {
-    let line = answers.reading.text_at(fields, "command_of");
-    let words = words_of(&mut answers.reading, line.as_str());
-    match plain_services::command_of(&words) {
-        Some(command) => put_command(command, answers),
-        None => answers.put_null("command"),
-    }
-}
-
-fn put_command(command: Command, answers: &mut Answers) {
-    match command {
-        Command::Config => answers.put_text("command", "Config"),
-        Command::Up { orphans } => put_with_orphans("Up", orphans, answers),
-        Command::Down { orphans } => put_with_orphans("Down", orphans, answers),
-    }
-}
-
-fn put_with_orphans(name: &str, orphans: bool, answers: &mut Answers) {
-    answers.put_text("command", name);
-    answers.put_flag("orphans", orphans);
-}
-
-/// `load: TEXT` by `words` (`config`) in a `directory` (`/w/shop`), where the text stands in `file`
-/// (`/w/shop/compose.yaml`) and the reads with the numbers `failing` fail, so many `times` (once): the `project` that the
-/// last one gives, with the `count` of its services, the `bytes` of their keys and images, and its page as `yaml` and as
-/// `json`; or the exit `status` of its refusal.
+/// `load: TEXT` in a `directory` (`/w/shop`), where the text stands in `file` (`/w/shop/compose.yaml`) and the reads with
+/// the numbers `failing` fail, so many `times` (once): the `project` that the last one gives, with the `count` of its
+/// services, the `bytes` of their keys and images, and its page as `yaml` and as `json`; or the exit `status` of its refusal.
 pub(crate) fn load(fields: &Fields, answers: &mut Answers) {
     let mut files = files_of(&mut answers.reading, fields);
-    load_words(fields, &mut files, answers);
+    load_times(fields, &mut files, answers);
     drop(files);
 }
 
-fn load_words(fields: &Fields, files: &mut MemoryFiles, answers: &mut Answers) {
-    let line = answers.reading.text_or(fields, "words", "config");
-    let words = words_of(&mut answers.reading, line.as_str());
+fn load_times(fields: &Fields, files: &mut MemoryFiles, answers: &mut Answers) {
     let directory = answers.reading.text_or(fields, "directory", "/w/shop");
     for _ in 1..answers.reading.number_or(fields, "times", 1) {
-        drop(plain_services::load(answers.reading.alloc, &words, &directory, files));
+        drop(plain_services::load(answers.reading.alloc, &directory, files));
     }
     put_loaded(
-        plain_services::load(answers.reading.alloc, &words, &directory, files),
+        plain_services::load(answers.reading.alloc, &directory, files),
         answers,
     );
 }

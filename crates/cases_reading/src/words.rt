@@ -19,7 +19,7 @@ pub(crate) fn words_in(reading: &mut Reading, fields: &Fields, key: &str) -> Lis
 }
 
 /// The words of a line; none where it is empty.
-pub(crate) fn words_of(reading: &mut Reading, line: &str) -> List<Text> {
+fn words_of(reading: &mut Reading, line: &str) -> List<Text> {
     let mut words = List::new(reading.alloc);
     if !line.is_empty() {
         for word in line.split(' ') {

@@ -1,14 +1,17 @@
 use crate::ending::put_refusal_line;
 use case_files::{Answers, Fields, Reading};
 use cases_values::run_fault_of;
-use refusals::{LoadRefusal, Part, ProjectRefusal, Refusal, Unbuilt, refusal_of, status_of};
+use refusals::{
+    LoadRefusal, Part, ProjectRefusal, Refusal, Unbuilt, WordsRefusal, refusal_of, status_of,
+};
 use tree_base::{List, Path, Place, Step, Text, Tree};
 use yaml_lines::{YamlFault, YamlRefusal};
 
 /// What a refusal prints, `line`, and its exit `status`; `none: true` is no refusal. It is that of a run's fault, by the
-/// keys of `run_fault_of`, or another one: `not_built: words`, or `not_built` with the steps of a path, `[12]` for a place;
-/// `load` with the fault's name and a `path`, and `line` and `column` where it is one of a text; `name`, a project's
-/// name that is none; `services`, how many there are too many; `outside: Plug` or `Out`.
+/// keys of `run_fault_of`, or another one: `words` with the name of their refusal, and its place `at` where it has one;
+/// `not_built: words`, or `not_built` with the steps of a path, `[12]` for a place; `load` with the fault's name and a
+/// `path`, and `line` and `column` where it is one of a text; `name`, a project's name that is none; `services`, how many
+/// there are too many; `outside: Plug` or `Out`.
 pub(crate) fn refusal(fields: &Fields, answers: &mut Answers) {
     if let Some(fields) = answers.reading.fields_at(fields, "refusal") {
         let refusal = refusal_where(&mut answers.reading, &fields);
@@ -42,7 +45,9 @@ fn refusal_by(reading: &mut Reading, fields: &Fields) -> Refusal {
 }
 
 fn other_refusal(reading: &mut Reading, fields: &Fields) -> Refusal {
-    if let Some(tree) = fields.find("not_built") {
+    if fields.has("words") {
+        Refusal::Words(words_refusal(reading, fields))
+    } else if let Some(tree) = fields.find("not_built") {
         Refusal::NotBuilt(unbuilt_of(reading, tree))
     } else if fields.has("load") {
         Refusal::Load(load_refusal(reading, fields))
@@ -56,6 +61,25 @@ fn other_refusal(reading: &mut Reading, fields: &Fields) -> Refusal {
         })
     } else {
         Refusal::Outside(part_at(reading, fields))
+    }
+}
+
+/// The refusal of words with a name, at the place `at`, which is 0 where it isn't there.
+fn words_refusal(reading: &mut Reading, fields: &Fields) -> WordsRefusal {
+    let word = reading.text_at(fields, "words");
+    let at = reading.small_or(fields, "at", 0);
+    match word.as_str() {
+        "UnknownWord" => WordsRefusal::UnknownWord { at },
+        "MissingValue" => WordsRefusal::MissingValue { at },
+        "BadNumber" => WordsRefusal::BadNumber { at },
+        "BadChoice" => WordsRefusal::BadChoice { at },
+        "Twice" => WordsRefusal::Twice { at },
+        "NoCommand" => WordsRefusal::NoCommand,
+        "BadHost" => WordsRefusal::BadHost,
+        _ => {
+            reading.wants("words", "the name of a refusal of words");
+            WordsRefusal::NoCommand
+        }
     }
 }
 

@@ -1,15 +1,25 @@
 //! The program `compose`: it gives the words of the command line, the working directory, the files of the disk
-//! and the standard streams to the top call of `compose_cli`, and ends with the status that this answers.
+//! and the standard streams to the top call of `compose_cli`, and ends with the status that this answers. Questions about the
+//! program itself, `--help` and `--version`, it answers before.
 #![tactic(auto)]
 
+ghost use Rattle.std.specs.Prelude.{◌<◌, ◌^◌, length};
+
 use compose_cli::{MainPlug, serial_main};
-use outside_files::{DiskFiles, OutSink};
+use compose_words::{Notice, help_text, notice_of, version_text};
+use outside_files::{DiskFiles, OutSink, write_all};
 use std::env;
 use std::process::ExitCode;
 use tree_base::{Env, List, Memory, Text};
 
 /// The exit status where memory is wanted before the top call begins.
 const NO_MEMORY: u8 = 9;
+
+/// The exit status where the output fails.
+const NO_OUTPUT: u8 = 7;
+
+/// How many words the top call reads: their places count in 32 bits.
+const MOST_WORDS: usize = 4_294_967_295;
 
 fn main(rt: HostRuntime) -> ExitCode {
     match run(&rt) {
@@ -19,8 +29,33 @@ fn main(rt: HostRuntime) -> ExitCode {
 }
 
 fn run(rt: &HostRuntime) -> Result<u8, Memory> {
-    let alloc = rt.alloc();
     let words = words(rt)?;
+    match notice_of(&words) {
+        Some(notice) => answer(rt, notice),
+        None if words.len() <= MOST_WORDS => call(rt, &words),
+        None => Err(Memory),
+    }
+}
+
+/// Writes what is asked about the program.
+fn answer(rt: &HostRuntime, notice: Notice) -> Result<u8, Memory> {
+    let text = match notice {
+        Notice::Help => help_text(rt.alloc())?,
+        Notice::Version => version_text(rt.alloc())?,
+    };
+    let mut out = OutSink::new(rt.stdout());
+    if write_all(&mut out, text.as_str().as_bytes()) {
+        Ok(0)
+    } else {
+        Ok(NO_OUTPUT)
+    }
+}
+
+/// Makes the top call.
+fn call(rt: &HostRuntime, words: &List<Text>) -> Result<u8, Memory>
+    requires { length words.now < 2 ^ 32 }
+{
+    let alloc = rt.alloc();
     // No rule that is built so far reads a variable.
     let variables = Env::new(alloc);
     let directory = working_directory(rt)?;
@@ -29,7 +64,7 @@ fn run(rt: &HostRuntime) -> Result<u8, Memory> {
     let mut out = OutSink::new(rt.stdout());
     let mut err = OutSink::new(rt.stderr());
     let ended = serial_main(
-        alloc, &words, &variables, &directory, &mut files, &mut plug, &mut out, &mut err,
+        alloc, words, &variables, &directory, &mut files, &mut plug, &mut out, &mut err,
     );
     let status = ended.status;
     // By a call, since the drop of each variant of a refusal would be proved at this place.

@@ -1,88 +1,99 @@
--- How a call ends that loading refuses.
+-- How a call ends that is refused before its run, or that prints.
 use Rattle.std.proofs.Common.{◌≡◌, Some, None, Ok, Err, subst, sym}
-use Rattle.std.specs.Prelude.{ℕ, List, Option, Result, IfErr, IfSome}
+use Rattle.std.specs.Prelude.{ℕ, List, Option, Result, IfErr, IfSome, IsTrue}
+use Rattle.asked_project.specs.Asking.{Variables, command_of}
+use Rattle.asked_project.specs.Meaning.{IsFailedRead, MeansAs, meaning}
 use Rattle.compose_cli.specs.Ends.{IsRefusedWith, SendsNothing}
-use Rattle.compose_config.specs.Commands.{IfLoads, IsFailedRead, IsReadFault}
-use Rattle.compose_config.proofs.Loads.{IsRefusedAs, free_memory, joined_as, joined_refusal, loads_weaker, not_loaded}
-use Rattle.compose_cli.specs.Runs.{IfRuns, aim_for}
-use Rattle.outside_files.specs.Files.{Contents}
-use Rattle.refusals.specs.Origins.{IsBeforeDial, IsOfLoading, loading_refusal}
-use Rattle.plain_services.specs.Commands.{command_of}
-use Rattle.plain_services.specs.Loading.{LoadsAs, loaded}
+use Rattle.compose_cli.specs.Runs.{IfRuns, IsUnbegun, aim_asked}
 use Rattle.compose_cli.specs.declared.ended.Ended.{Ended}
-use Rattle.plain_services.specs.declared.PlainRefusal.{PlainRefusal}
-use Rattle.service_attrs.specs.declared.Project.{Project}
-use Rattle.run_model.specs.Plans.{Aim}
+use Rattle.compose_config.proofs.Loads.{answered, loads_weaker, not_loaded, said_read, said_refusal}
+use Rattle.compose_config.specs.Commands.{IfLoads, IsConfig, IsReadFault}
+use Rattle.compose_words.specs.declared.Command.{Command}
+use Rattle.outside_files.specs.Files.{Contents}
 use Rattle.plain_services.specs.declared.LoadRefusal.{LoadRefusal}
-use Rattle.refusals.specs.declared.Part.{Part}
-use Rattle.refusals.specs.declared.Refusal.{Refusal}
-use Rattle.plain_services.specs.declared.Unbuilt.{Unbuilt}
+use Rattle.refusals.proofs.Said.{said}
+use Rattle.refusals.specs.Origins.{IsBeforeDial, IsOfLoading, is_of_words}
 use Rattle.refusals.specs.Refused.{IsRefusal}
 use Rattle.refusals.specs.Saying.{IsSaid}
-use Rattle.refusals.proofs.Said.{said}
+use Rattle.refusals.specs.declared.Part.{Part}
+use Rattle.refusals.specs.declared.Refusal.{Refusal}
+use Rattle.run_model.specs.Plans.{Aim}
+use Rattle.service_attrs.specs.declared.Project.{Project}
 
--- what loading refuses is what the call is refused with
-pub refused_as : (expected : Result Project PlainRefusal) (refusal : PlainRefusal) (joined : Refusal) (found : Option Refusal) → joined ≡ loading_refusal refusal → LoadsAs expected (Err refusal) → IsSaid joined found
-    → IsRefusedAs expected found
-refused_as expected refusal joined found is loads is_said = said joined found is_said (IsRefusedAs expected) (free_memory expected) (joined_refusal expected refusal joined is loads)
-
-beside : {A : Type 0} (expected : Result Project PlainRefusal) (P : PlainRefusal → Type 0) → A → IfErr expected P → IfErr expected (λ refusal. A × P refusal)
-beside (Ok project) P a h = tt
+-- a fact beside others
+pub beside : {X Y : Type 0} {A : Type 0} (meant : Result X Y) (P : Y → Type 0) → A → IfErr meant P → IfErr meant (λ refusal. A × P refusal)
+beside (Ok x) P a h = tt
 beside (Err refusal) P a h = (a, h)
 
--- the same, where nothing was sent
-pub refused_with : {H : Type 0} (expected : Result Project PlainRefusal) (refusal : PlainRefusal) (joined : Refusal) (ended : Ended H) → joined ≡ loading_refusal refusal → SendsNothing ended
-    → LoadsAs expected (Err refusal) → IsSaid joined ended.refusal → IfErr expected (λ r. IsRefusedWith (loading_refusal r) ended)
-refused_with expected refusal joined ended is nothing loads is_said =
-    beside expected (λ r. IsRefusal (loading_refusal r) ended.refusal) nothing (refused_as expected refusal joined ended.refusal is loads is_said)
+-- what is meant to be refused is what the call is refused with, and nothing was sent
+pub refused_with : {H : Type 0} (meant : Result Project Refusal) (refusal : Refusal) (ended : Ended H) → SendsNothing ended → MeansAs meant (answered refusal) → IsSaid refusal ended.refusal → IfErr meant (λ r. IsRefusedWith r ended)
+refused_with meant refusal ended nothing means is_said = beside meant (λ r. IsRefusal r ended.refusal) nothing (said_refusal meant refusal ended.refusal means is_said)
 
-not_plug : (refusal : Refusal) → IsBeforeDial refusal → Some refusal ≡ Some (Refusal.Outside Part.Plug) → ⊥
-not_plug (Refusal.NotBuilt unbuilt) h e = cc
-not_plug (Refusal.Load load) h e = cc
-not_plug (Refusal.Name name) h e = cc
-not_plug (Refusal.Project project) h e = cc
-not_plug Refusal.Memory h e = cc
-not_plug (Refusal.Seen fault) h e = h
-not_plug (Refusal.Request request outcome) h e = h
-not_plug (Refusal.Condition slot condition report) h e = h
-not_plug Refusal.Stopped h e = h
-not_plug (Refusal.Late why) h e = h
-not_plug (Refusal.Outside part) h e = h
+where_it_runs : (aim : Option Aim) (Fact : Type 0) → Fact → IfSome aim (λ _. Fact)
+where_it_runs None Fact fact = tt
+where_it_runs (Some aim) Fact fact = fact
 
--- a refusal before the dial is no fault of the plug
-pub no_fault_of_plug : (refusal : Refusal) (found : Option Refusal) → IsBeforeDial refusal → IsSaid refusal found → found ≡ Some (Refusal.Outside Part.Plug) → ⊥
-no_fault_of_plug refusal found before is_said =
-    said refusal found is_said (λ (x : Option Refusal). x ≡ Some (Refusal.Outside Part.Plug) → ⊥) (λ e. cc) (not_plug refusal before)
+-- a fact holds also where the words run something
+pub if_runs : (words : List (List ℕ)) (env : Variables) (Fact : Type 0) → Fact → IfRuns words env (λ _. Fact)
+if_runs words env Fact fact = where_it_runs (aim_asked (command_of words env)) Fact fact
 
-module _ (words : List (List ℕ)) (cwd : List ℕ) (told : Option Contents) (old new : ℕ) where
-  -- a refusal of loading, where a project loads, is a read that failed
+module _ (words : List (List ℕ)) (env : Variables) (cwd : List ℕ) (told : Option Contents) (old new : ℕ) where
+  -- a refusal of loading, where a project is meant, is a read that failed
   abbrev OnlyRead : Option Refusal → Type 0
   OnlyRead found = IsOfLoading found → IsReadFault cwd old new found
 
-  where_it_runs : (aim : Option Aim) (Fact : Type 0) → Fact → IfSome aim (λ _. Fact)
-  where_it_runs None Fact fact = tt
-  where_it_runs (Some aim) Fact fact = fact
+  pub only_reads : (refusal : Refusal) (found : Option Refusal) → IfSome told (λ contents. MeansAs (meaning words env cwd contents) (answered refusal))
+      → ((path : List ℕ) → refusal ≡ Refusal.Load (LoadRefusal.ReadFault path) → IsFailedRead words env cwd old new path) → IsSaid refusal found → IsOfLoading found
+      → IfRuns words env (λ _. IfLoads words env cwd told (IsReadFault cwd old new found))
+  only_reads refusal found means read is_said of_loading =
+      if_runs words env (IfLoads words env cwd told (IsReadFault cwd old new found))
+      (loads_weaker words env cwd told (OnlyRead (Some refusal)) (IsReadFault cwd old new found)
+      (not_loaded words env cwd told (λ r. OnlyRead (Some r)) refusal means (λ never. absurd never) (λ path e _. let failed = read path e in (failed.1, failed.2)))
+      (λ only. said refusal found is_said OnlyRead (λ never. absurd never) only of_loading))
 
-  pub only_reads : (refusal : PlainRefusal) (joined : Refusal) (found : Option Refusal) → joined ≡ loading_refusal refusal → IfSome told (λ contents. LoadsAs (loaded words cwd contents) (Err refusal))
-      → ((path : List ℕ) → refusal ≡ PlainRefusal.Load (LoadRefusal.ReadFault path) → IsFailedRead words cwd old new path) → IsSaid joined found → IsOfLoading found
-      → IfRuns words (λ _. IfLoads words cwd told (IsReadFault cwd old new found))
-  only_reads refusal joined found is loads read is_said of_loading =
-      where_it_runs (aim_for (command_of words)) (IfLoads words cwd told (IsReadFault cwd old new found))
-      (loads_weaker words cwd told (OnlyRead (Some joined)) (IsReadFault cwd old new found)
-      (not_loaded (λ r. OnlyRead (Some r)) words cwd told refusal joined is loads (λ never. absurd never) (λ path e _. let failed = read path e in (failed.1, failed.2)))
-      (λ only. said joined found is_said OnlyRead (λ never. absurd never) only of_loading))
+-- what comes before the dial begins no run
+pub before_unbegun : (refusal : Refusal) (found : Option Refusal) → IsBeforeDial refusal → IsSaid refusal found → IsUnbegun found
+before_unbegun refusal found before is_said = said refusal found is_said IsUnbegun tt (at refusal before)
+  where
+    at : (refusal : Refusal) → IsBeforeDial refusal → IsUnbegun (Some refusal)
+    at Refusal.Memory h = tt
+    at (Refusal.Words words) h = tt
+    at (Refusal.NotBuilt unbuilt) h = tt
+    at (Refusal.Load load) h = tt
+    at (Refusal.Name name) h = tt
+    at (Refusal.Project project) h = tt
+    at (Refusal.Seen fault) h = absurd h
+    at (Refusal.Request request outcome) h = absurd h
+    at (Refusal.Condition slot condition report) h = absurd h
+    at Refusal.Stopped h = absurd h
+    at (Refusal.Late why) h = absurd h
+    at (Refusal.Outside part) h = absurd h
 
-  -- a read that failed, and was said
-  pub said_read : (refusal : PlainRefusal) (joined : Refusal) (found : Option Refusal) → joined ≡ loading_refusal refusal
-      → ((path : List ℕ) → refusal ≡ PlainRefusal.Load (LoadRefusal.ReadFault path) → IsFailedRead words cwd old new path)
-      → IsSaid joined found → (path : List ℕ) → found ≡ Some (Refusal.Load (LoadRefusal.ReadFault path)) → IsFailedRead words cwd old new path
-  said_read refusal joined found is read is_said path e =
-      let same : Some (Refusal.Load (LoadRefusal.ReadFault path)) ≡ Some joined = subst (IsSaid joined) e is_said in
-      read path (joined_as refusal (PlainRefusal.Load (LoadRefusal.ReadFault path)) joined is (sym same))
+-- a command that runs something isn't `config`
+pub no_config : (command : Option Command) (aim : Aim) → aim_asked command ≡ Some aim → IsConfig command → ⊥
+no_config None aim e c = c
+no_config (Some (Command.Config json quiet)) aim e c = cc e
+no_config (Some (Command.Up orphans wait seconds scale)) aim e c = c
+no_config (Some (Command.Down orphans volumes seconds)) aim e c = c
+no_config (Some (Command.Simulate number)) aim e c = c
+no_config (Some Command.Wait) aim e c = c
+no_config (Some Command.Logs) aim e c = c
+no_config (Some (Command.EngineSim connections)) aim e c = c
 
--- words that were refused as no command's, and that was said
-pub said_words : (refusal : PlainRefusal) (joined : Refusal) (found : Option Refusal) (Fact : Type 0) → joined ≡ loading_refusal refusal → (refusal ≡ PlainRefusal.NotBuilt Unbuilt.Words → Fact) → IsSaid joined found
-    → found ≡ Some (Refusal.NotBuilt Unbuilt.Words) → Fact
-said_words refusal joined found Fact is words is_said e =
-    let same : Some (Refusal.NotBuilt Unbuilt.Words) ≡ Some joined = subst (IsSaid joined) e is_said in
-    words (joined_as refusal (PlainRefusal.NotBuilt Unbuilt.Words) joined is (sym same))
+-- a refusal that is none of loading is none of words
+pub no_words : (refusal : Option Refusal) (words : Refusal) → (IsOfLoading refusal → ⊥) → IsTrue (is_of_words words) → refusal ≡ Some words → ⊥
+no_words refusal words none h e = none (subst IsOfLoading (sym e) (at words h))
+  where
+    at : (words : Refusal) → IsTrue (is_of_words words) → IsOfLoading (Some words)
+    at (Refusal.Words words) h = tt
+    at (Refusal.NotBuilt unbuilt) h = tt
+    at (Refusal.Load load) h = tt
+    at (Refusal.Name name) h = tt
+    at (Refusal.Project project) h = tt
+    at (Refusal.Seen fault) h = absurd (cc h)
+    at (Refusal.Request request outcome) h = absurd (cc h)
+    at (Refusal.Condition slot condition report) h = absurd (cc h)
+    at Refusal.Stopped h = absurd (cc h)
+    at (Refusal.Late why) h = absurd (cc h)
+    at (Refusal.Outside part) h = absurd (cc h)
+    at Refusal.Memory h = absurd (cc h)

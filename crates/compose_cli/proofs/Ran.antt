@@ -4,12 +4,15 @@ use Rattle.std.specs.Prelude.{IfSome, IsSomeAnd, Ok, if◌then◌else◌, option
 use Rattle.std.specs.Option.{option_map_or}
 use Rattle.engine_types.specs.declared.Engine.{Engine}
 use Rattle.engine_types.specs.declared.RunFault.{RunFault}
-use Rattle.compose_cli.specs.Runs.{ForTask, HoldsExactly, HoldsNone, IsCausedAnew, IsRefusalOf, IsStatusOf, IsUnbegun, LeadsOn, Reports, RunsTask, aim_for, run_options, task_for}
+use Rattle.asked_project.specs.Asking.{Variables, command_of}
+use Rattle.asked_project.specs.Meaning.{MeansAs, meaning}
+use Rattle.asked_project.specs.declared.Asked.{Asked}
+use Rattle.compose_cli.specs.Runs.{ForTask, HoldsExactly, HoldsNone, IfRuns, IsCausedAnew, IsRefusalOf, IsStatusOf, IsUnbegun, LeadsOn, Reports, RunsTask, aim_asked, aim_for, run_options, task_for}
 use Rattle.engine_types.specs.declared.Entry.{Entry}
 use Rattle.engine_types.specs.declared.Exchange.{Exchange}
 use Rattle.compose_config.proofs.Loads.{for_project}
-use Rattle.plain_services.specs.Commands.{command_of}
-use Rattle.plain_services.specs.Loading.{IsSpelled, LoadsAs, loaded}
+use Rattle.compose_words.specs.declared.Command.{Command}
+use Rattle.plain_services.specs.Loading.{IsSpelled}
 use Rattle.service_attrs.specs.declared.Project.{Project}
 use Rattle.outside_files.specs.Counts.{Rose}
 use Rattle.outside_files.specs.Files.{Contents}
@@ -29,7 +32,6 @@ use Rattle.run_model.specs.Observation.{is_up}
 use Rattle.run_model.specs.Plans.{Aim}
 use Rattle.run_model.specs.Runs.{IsLeftByAll, IsRun, IsWorldOfRun, Task, limits_of, run_exchanges, run_fault, run_report}
 use Rattle.run_model.specs.Worlds.{Move}
-use Rattle.plain_services.specs.declared.Command.{Command}
 use Rattle.serial_run.specs.Serial.{aim_of}
 use Rattle.serial_run.specs.declared.plan_aim as given
 use Rattle.refusals.specs.Saying.{IsSaid, IsSaidIfAny}
@@ -279,14 +281,23 @@ said_not_zero refusal found status h e z =
 pub has_begun : (journal : List Entry) {A : Type 0} (refusal : Option Refusal) → (journal ≡ [] → IsUnbegun refusal) → refusal ≡ None → IfBegun journal A → A
 has_begun journal refusal unbegun e a = begun_by journal a (λ n. subst IsUnbegun e (unbegun n))
 
--- a fact on the task that the words ask for of the project that was loaded
-pub for_task : (words : List (List ℕ)) (cwd : List ℕ) (told : Option Contents) (first : ℕ) (aim : Aim) (project : Project) (Fact : Task → Type 0) → aim_for (command_of words) ≡ Some aim
-    → IfSome told (λ contents. LoadsAs (loaded words cwd contents) (Ok project)) → IsSpelled cwd project → Fact (task_for aim (limits_of run_options first) project)
-    → ForTask words cwd told first Fact
-for_task words cwd told first aim project Fact asked loads spelled fact =
-    rw asked (for_project words cwd told project (λ p. Fact (task_for aim (limits_of run_options first) p)) loads spelled fact)
+-- a fact on the task that the words ask for of the project that was asked for
+pub for_task : (words : List (List ℕ)) (env : Variables) (cwd : List ℕ) (told : Option Contents) (first : ℕ) (aim : Aim) (asked : Asked) (Fact : Task → Type 0) → aim_asked (command_of words env) ≡ Some aim
+    → IfSome told (λ contents. MeansAs (meaning words env cwd contents) (Ok asked)) → IsSpelled cwd asked.project → Fact (task_for aim (limits_of run_options first) asked.project)
+    → ForTask words env cwd told first Fact
+for_task words env cwd told first aim asked Fact runs means spelled fact =
+    rw runs (for_project words env cwd told asked (λ p. Fact (task_for aim (limits_of run_options first) p)) means spelled fact)
 
 -- what the words' run is for, by the calls that found it
-pub asked : (command : Option Command) (words : List (List ℕ)) (found : Option given.Aim.Aim) (aim : given.Aim.Aim) → command ≡ command_of words → option_map aim_of found ≡ aim_for command → found ≡ Some aim
-    → aim_for (command_of words) ≡ Some (aim_of aim)
-asked command words found aim is finds e = sym (ap aim_for is) ∙ (sym finds ∙ ap (option_map aim_of) e)
+pub asked : (words : List (List ℕ)) (env : Variables) (command : Command) (found : Option given.Aim.Aim) (aim : given.Aim.Aim) → command_of words env ≡ Some command → option_map aim_of found ≡ aim_for command → found ≡ Some aim
+    → aim_asked (command_of words env) ≡ Some (aim_of aim)
+asked words env command found aim is finds e = ap aim_asked is ∙ (sym finds ∙ ap (option_map aim_of) e)
+
+-- words whose command runs nothing, by the calls that found that
+pub unasked : (words : List (List ℕ)) (env : Variables) (command : Command) (found : Option given.Aim.Aim) → command_of words env ≡ Some command → option_map aim_of found ≡ aim_for command → found ≡ None
+    → aim_asked (command_of words env) ≡ None
+unasked words env command found is finds e = ap aim_asked is ∙ (sym finds ∙ ap (option_map aim_of) e)
+
+-- a fact on what a run is for holds where nothing is run
+pub idle : (words : List (List ℕ)) (env : Variables) (Fact : Aim → Type 0) → aim_asked (command_of words env) ≡ None → IfRuns words env Fact
+idle words env Fact none = subst (λ (aim : Option Aim). IfSome aim Fact) (sym none) tt

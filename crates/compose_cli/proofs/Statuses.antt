@@ -4,8 +4,9 @@ use Rattle.std.specs.Prelude.{Option}
 use Rattle.engine_types.specs.declared.Outcome.{Outcome}
 use Rattle.engine_types.specs.declared.SeenFault.{SeenFault}
 use Rattle.engine_types.specs.declared.WireEnd.{WireEnd}
+use Rattle.compose_words.specs.declared.WordsRefusal.{WordsRefusal}
 use Rattle.plain_services.specs.Statuses.{project_status, yaml_status}
-use Rattle.refusals.specs.Statuses.{refusal_status, status_of}
+use Rattle.refusals.specs.Statuses.{refusal_status, status_of, words_status}
 use Rattle.plain_services.specs.declared.LoadRefusal.{LoadRefusal}
 use Rattle.plain_services.specs.declared.ProjectRefusal.{ProjectRefusal}
 use Rattle.refusals.specs.declared.Refusal.{Refusal}
@@ -50,7 +51,18 @@ project_not_zero : (refusal : ProjectRefusal) → project_status refusal ≡ 0 �
 project_not_zero (ProjectRefusal.BadName name) e = absurd (cc e)
 project_not_zero (ProjectRefusal.TooManyServices count) e = absurd (cc e)
 
+words_not_zero : (refusal : WordsRefusal) → words_status refusal ≡ 0 → ⊥
+words_not_zero (WordsRefusal.UnknownWord at) e = absurd (cc e)
+words_not_zero (WordsRefusal.MissingValue at) e = absurd (cc e)
+words_not_zero (WordsRefusal.BadNumber at) e = absurd (cc e)
+words_not_zero (WordsRefusal.BadChoice at) e = absurd (cc e)
+words_not_zero (WordsRefusal.Twice at) e = absurd (cc e)
+words_not_zero WordsRefusal.NoCommand e = absurd (cc e)
+words_not_zero WordsRefusal.BadHost e = absurd (cc e)
+words_not_zero WordsRefusal.Memory e = absurd (cc e)
+
 refusal_not_zero : (refusal : Refusal) → refusal_status refusal ≡ 0 → ⊥
+refusal_not_zero (Refusal.Words refusal) e = words_not_zero refusal e
 refusal_not_zero (Refusal.NotBuilt Unbuilt.Words) e = absurd (cc e)
 refusal_not_zero (Refusal.NotBuilt (Unbuilt.Attribute path)) e = absurd (cc e)
 refusal_not_zero (Refusal.Load (LoadRefusal.NotFound path)) e = absurd (cc e)

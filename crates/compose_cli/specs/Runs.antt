@@ -6,6 +6,7 @@ use Rattle.engine_types.specs.declared.Exchange.{Exchange}
 use Rattle.engine_types.specs.declared.Purpose.{Purpose}
 use Rattle.engine_types.specs.declared.RunFault.{RunFault}
 use Rattle.engine_types.specs.declared.RunLimits.{RunLimits}
+use Rattle.asked_project.specs.Asking.{Variables, command_of}
 use Rattle.compose_cli.specs.declared.ended.Ended.{Ended}
 use Rattle.compose_config.specs.Commands.{ForProject}
 use Rattle.identity.specs.Declaring.{declared_of}
@@ -15,8 +16,7 @@ use Rattle.outside_api.specs.Accounts.{Account, account}
 use Rattle.outside_api.specs.Clock.{Clock}
 use Rattle.outside_api.specs.Hands.{Heard, HeardNothing}
 use Rattle.outside_files.specs.Sinks.{GrewBy}
-use Rattle.plain_services.specs.Commands.{command_of}
-use Rattle.plain_services.specs.declared.Command.{Command}
+use Rattle.compose_words.specs.declared.Command.{Command}
 use Rattle.service_attrs.specs.declared.Project.{Project}
 use Rattle.project_run.specs.Whole.{IfBegun, IsCaused, SparesKept, task_of}
 use Rattle.project_run.specs.Worlds.{EndsExact, EndsGone}
@@ -32,16 +32,20 @@ use Rattle.run_model.specs.Runs.{IsLeftByAll, IsRun, IsWorldOfRun, RunOptions, T
 use Rattle.run_model.specs.Worlds.{Move}
 use Rattle.outside_files.specs.Writing.{Says}
 
--- what a command's run is for: `up` and `down` leave volumes; `config` and other words run nothing
-abbrev pub aim_for : Option Command → Option Aim
-aim_for (Some (Command.Up orphans)) = Some (record { purpose = Purpose.Up; orphans = orphans; volumes = false })
-aim_for (Some (Command.Down orphans)) = Some (record { purpose = Purpose.Down; orphans = orphans; volumes = false })
-aim_for (Some Command.Config) = None
-aim_for None = None
+-- what a command's run is for: `up` and `down` leave volumes; the others run nothing
+abbrev pub aim_for : Command → Option Aim
+aim_for (Command.Up orphans wait seconds scale) = Some (record { purpose = Purpose.Up; orphans = orphans; volumes = false })
+aim_for (Command.Down orphans volumes seconds) = Some (record { purpose = Purpose.Down; orphans = orphans; volumes = false })
+aim_for _ = None
+
+-- what the run of words is for, where they are built and run anything
+abbrev pub aim_asked : Option Command → Option Aim
+aim_asked None = None
+aim_asked (Some command) = aim_for command
 
 -- a fact on what the words' run is for, where they run anything
-abbrev pub IfRuns : List (List ℕ) → (Aim → Type 0) → Type 0
-IfRuns words Fact = IfSome (aim_for (command_of words)) Fact
+abbrev pub IfRuns : List (List ℕ) → Variables → (Aim → Type 0) → Type 0
+IfRuns words env Fact = IfSome (aim_asked (command_of words env)) Fact
 
 -- what the words' options bound of a run: so far nothing, and there is one worker
 abbrev pub run_options : RunOptions
@@ -57,10 +61,10 @@ abbrev pub task_for : Aim → RunLimits → Project → Task
 task_for aim limits project = task_of (declared_of project) aim limits
 
 -- a fact on the task that a call runs: what its words ask for, within the limits that its options and the first reading of hand
--- 0's clock set, of the project that the words and the files give where the files are told, else of some project
-abbrev pub ForTask : List (List ℕ) → List ℕ → Option Contents → ℕ → (Task → Type 0) → Type 0
-ForTask words cwd told first Fact =
-    IfRuns words (λ aim. ForProject words cwd told (λ project. Fact (task_for aim (limits_of run_options first) project)))
+-- 0's clock set, of the project that the words, their variables and the files mean where the files are told, else of some project
+abbrev pub ForTask : List (List ℕ) → Variables → List ℕ → Option Contents → ℕ → (Task → Type 0) → Type 0
+ForTask words env cwd told first Fact =
+    IfRuns words env (λ aim. ForProject words env cwd told (λ project. Fact (task_for aim (limits_of run_options first) project)))
 
 -- what a call is refused with whose run has this fault, if any: that fault, or a fault of the output where the run has none, or
 -- want of memory
@@ -81,6 +85,7 @@ Reports report refusal old new faults_old faults_new =
 
 -- a call without a run was refused before it, or wanted memory
 abbrev pub IsUnbegun : Option Refusal → Type 0
+IsUnbegun (Some (Refusal.Words refusal)) = Unit {0}
 IsUnbegun (Some (Refusal.NotBuilt unbuilt)) = Unit {0}
 IsUnbegun (Some (Refusal.Load refusal)) = Unit {0}
 IsUnbegun (Some (Refusal.Name refusal)) = Unit {0}

@@ -1,41 +1,59 @@
 -- What the command `config` leaves.
-use Rattle.std.specs.Prelude.{◌≡◌, ◌≢◌, ◌≤◌, ℕ, List, Option, Some, None, IfSome, Ok, IfOk, length, take}
+use Rattle.std.specs.Prelude.{◌≡◌, ◌≤◌, ℕ, Bool, true, false, if◌then◌else◌, List, [], Option, Some, None, IfSome, Ok, Err, Result, IfOk, length, take}
+use Rattle.asked_project.specs.Asking.{Variables}
+use Rattle.asked_project.specs.Meaning.{meaning}
+use Rattle.compose_words.specs.declared.Command.{Command}
+use Rattle.compose_words.specs.declared.Options.{Options}
+use Rattle.compose_words.specs.declared.WordsRefusal.{WordsRefusal}
 use Rattle.project_print.specs.ProjectPages.{project_page}
 use Rattle.outside_files.specs.Counts.{Rose}
 use Rattle.outside_files.specs.Files.{Contents}
 use Rattle.outside_files.specs.Sinks.{GrewBy}
-use Rattle.plain_services.specs.Commands.{command_of}
-use Rattle.plain_services.specs.Loading.{IsSpelled, compose_path, loaded}
-use Rattle.plain_services.specs.declared.Command.{Command}
+use Rattle.plain_services.specs.Loading.{IsSpelled, compose_path}
 use Rattle.service_attrs.specs.declared.Project.{Project}
 use Rattle.plain_services.specs.declared.LoadRefusal.{LoadRefusal}
 use Rattle.refusals.specs.declared.Part.{Part}
 use Rattle.refusals.specs.declared.Refusal.{Refusal}
 
--- the command is `config`, or the words are those of none
-abbrev pub IsConfigOrNone : Option Command → Type 0
-IsConfigOrNone None = Unit {0}
-IsConfigOrNone (Some Command.Config) = Unit {0}
-IsConfigOrNone _ = ⊥
+-- the command is `config`
+abbrev pub IsConfig : Option Command → Type 0
+IsConfig (Some (Command.Config json quiet)) = Unit {0}
+IsConfig _ = ⊥
 
--- a fact on the project that a call loads: the one that its words and its files give where the files are told, else one that some
--- text of the Compose file spells
-abbrev pub ForProject : List (List ℕ) → List ℕ → Option Contents → (Project → Type 0) → Type 0
-ForProject words cwd None Fact = (project : Project) × IsSpelled cwd project × Fact project
-ForProject words cwd (Some contents) Fact = (project : Project) × (loaded words cwd contents ≡ Ok project) × Fact project
+-- words that read as `config`, or are refused
+abbrev pub IsConfigOrRefused : Result Options WordsRefusal → Type 0
+IsConfigOrRefused (Ok options) = IsConfig (Some options.command)
+IsConfigOrRefused (Err refusal) = Unit {0}
 
--- a fact that holds where the files are told and a project is loaded
-abbrev pub IfLoads : List (List ℕ) → List ℕ → Option Contents → Type 0 → Type 0
-IfLoads words cwd told Fact = IfSome told (λ contents. IfOk (loaded words cwd contents) (λ _. Fact))
+-- the command prints nothing
+abbrev pub is_quiet : Command → Bool
+is_quiet (Command.Config json quiet) = quiet
+is_quiet _ = false
 
--- the read of a file failed: the words are those of a command, the file is the Compose file, and the files' count of faults rose
-abbrev pub IsFailedRead : List (List ℕ) → List ℕ → ℕ → ℕ → List ℕ → Type 0
-IsFailedRead words cwd old new path = (command_of words ≢ None) × (path ≡ compose_path cwd) × Rose old new
+-- what a command prints of a project: its page, and nothing where `--quiet` was given
+abbrev pub page_for : Command → Project → List ℕ
+page_for command project = if is_quiet command then [] else project_page project
+
+-- what `config` prints of a project, where the words are built
+abbrev pub page_asked : Option Command → Project → List ℕ
+page_asked None project = []
+page_asked (Some command) project = page_for command project
+
+-- a fact on the project that a call loads: the one that its words, variables and files mean where the files are told, else one that
+-- some text of the Compose file spells
+abbrev pub ForProject : List (List ℕ) → Variables → List ℕ → Option Contents → (Project → Type 0) → Type 0
+ForProject words env cwd None Fact = (project : Project) × IsSpelled cwd project × Fact project
+ForProject words env cwd (Some contents) Fact = (project : Project) × (meaning words env cwd contents ≡ Ok project) × Fact project
+
+-- a fact that holds where the files are told and a project is meant
+abbrev pub IfLoads : List (List ℕ) → Variables → List ℕ → Option Contents → Type 0 → Type 0
+IfLoads words env cwd told Fact = IfSome told (λ contents. IfOk (meaning words env cwd contents) (λ _. Fact))
 
 -- what `config` may be refused with: the words, loading, the project's name, what it declares, a fault of the output, or a want
 -- of memory
 abbrev pub IsOfConfig : Option Refusal → Type 0
 IsOfConfig None = Unit {0}
+IsOfConfig (Some (Refusal.Words refusal)) = Unit {0}
 IsOfConfig (Some (Refusal.NotBuilt unbuilt)) = Unit {0}
 IsOfConfig (Some (Refusal.Load refusal)) = Unit {0}
 IsOfConfig (Some (Refusal.Name refusal)) = Unit {0}
@@ -44,16 +62,16 @@ IsOfConfig (Some (Refusal.Outside Part.Out)) = Unit {0}
 IsOfConfig (Some Refusal.Memory) = Unit {0}
 IsOfConfig _ = ⊥
 
--- the output grew by a prefix of the project's page
-abbrev pub GrewByPrefix : Option (List ℕ) → Option (List ℕ) → Project → Type 0
-GrewByPrefix old new project = (n : ℕ) × (n ≤ length (project_page project)) × GrewBy old (take n (project_page project)) new
+-- the output grew by a prefix of a page
+abbrev pub GrewByPrefix : Option (List ℕ) → Option (List ℕ) → List ℕ → Type 0
+GrewByPrefix old new page = (n : ℕ) × (n ≤ length page) × GrewBy old (take n page) new
 
--- what became of a project's page: it was written whole; or the output failed, or memory was wanted, after a prefix of it
-abbrev pub PrintsPage : Project → Option Refusal → Option (List ℕ) → Option (List ℕ) → ℕ → ℕ → Type 0
-PrintsPage project None old new faults_old faults_new = GrewBy old (project_page project) new
-PrintsPage project (Some (Refusal.Outside Part.Out)) old new faults_old faults_new = Rose faults_old faults_new × GrewByPrefix old new project
-PrintsPage project (Some Refusal.Memory) old new faults_old faults_new = GrewByPrefix old new project
-PrintsPage project _ old new faults_old faults_new = ⊥
+-- what became of a page: it was written whole; or the output failed, or memory was wanted, after a prefix of it
+abbrev pub PrintsPage : List ℕ → Option Refusal → Option (List ℕ) → Option (List ℕ) → ℕ → ℕ → Type 0
+PrintsPage page None old new faults_old faults_new = GrewBy old page new
+PrintsPage page (Some (Refusal.Outside Part.Out)) old new faults_old faults_new = Rose faults_old faults_new × GrewByPrefix old new page
+PrintsPage page (Some Refusal.Memory) old new faults_old faults_new = GrewByPrefix old new page
+PrintsPage page _ old new faults_old faults_new = ⊥
 
 -- a call is refused since the read of the Compose file failed, which the files counted
 abbrev pub IsReadFault : List ℕ → ℕ → ℕ → Option Refusal → Type 0

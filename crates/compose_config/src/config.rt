@@ -1,22 +1,22 @@
-ghost use Rattle.std.specs.Prelude.{◌≡◌, ◌⊎◌, ◌↔◌, Some, None, IfSome, IfErr};
-ghost use Rattle.compose_config.specs.Commands.{ForProject, GrewByPrefix, IfLoads, IsConfigOrNone, IsFailedRead, IsOfConfig, OnlyOutsideFails, PrintsPage};
+ghost use Rattle.std.specs.Prelude.{◌≡◌, ◌⊎◌, ◌<◌, ◌^◌, ◌↔◌, Err, None, Some, IfErr, IfSome, IsTrue, length};
+ghost use Rattle.asked_project.specs.Asking.{command_of, options_asked};
+ghost use Rattle.asked_project.specs.Meaning.{IsFailedRead, meaning};
+ghost use Rattle.compose_config.specs.Commands.{ForProject, GrewByPrefix, IfLoads, IsConfigOrRefused, IsOfConfig, OnlyOutsideFails, PrintsPage, is_quiet, page_asked, page_for};
+ghost use Rattle.compose_words.specs.Reading.{options_of};
 ghost use Rattle.project_print.specs.ProjectPages.{project_page};
 ghost use Rattle.outside_files.specs.Counts.{Rose};
 ghost use Rattle.outside_files.specs.Sinks.{GrewBy};
-ghost use Rattle.plain_services.specs.Commands.{command_of};
-ghost use Rattle.plain_services.specs.Loading.{loaded};
 ghost use Rattle.service_attrs.specs.Projects.{IsInOrder};
-ghost use Rattle.refusals.specs.Origins.{IsOfLoading, loading_refusal};
+ghost use Rattle.refusals.specs.Origins.{IsOfLoading, is_of_words};
 ghost use Rattle.refusals.specs.Statuses.{status_of};
 ghost use Rattle.plain_services.specs.declared.LoadRefusal.{LoadRefusal};
 ghost use Rattle.refusals.specs.declared.Part.{Part};
 ghost use Rattle.refusals.specs.declared.Refusal.{Refusal};
-ghost use Rattle.plain_services.specs.declared.Unbuilt.{Unbuilt};
 ghost use Rattle.refusals.specs.Refused.{IsRefusal};
-ghost use Rattle.refusals.specs.Saying.{IsSaid, SaysRefusal};
+ghost use Rattle.refusals.specs.Saying.{IsSaid, IsSaidIfAny, SaysRefusal};
 
+use asked_project::{Asked, Command, project_asked};
 use outside_files::{Files, Sink, write_all};
-use plain_services::load;
 use project_print::page;
 use refusals::{Part, Refusal, say_if_any, status_of};
 use service_attrs::Project;
@@ -32,8 +32,8 @@ pub struct ConfigEnd {
 
 /// Prints the project that the words of the command line ask for, and always returns.
 ///
-/// The Compose file is `compose.yaml` in the working directory `cwd`. The page of its project is written to `out`, and
-/// the line of a refusal to `err`. No variable is read so far.
+/// The words have to be those of `config`, or of no command. The Compose file is `compose.yaml` in the working directory `cwd`.
+/// The page of its project is written to `out`, and nothing of it with `--quiet`; the line of a refusal is written to `err`.
 pub fn config_run<F: Files, O: Sink, G: Sink>(
     alloc: Global,
     words: &List<Text>,
@@ -43,26 +43,29 @@ pub fn config_run<F: Files, O: Sink, G: Sink>(
     out: &mut O,
     err: &mut G,
 ) -> ConfigEnd
-    requires { IsConfigOrNone (command_of words.now) }
+    requires count { length words.now < 2 ^ 32 }
+    requires command { IsConfigOrRefused (options_of words.now) }
 
-    // Where the words aren't built, or the files are told, what loading refuses is what the call is refused with.
-    ensures words { command_of words.now ≡ None → IsSaid (Refusal.NotBuilt Unbuilt.Words) result.refusal }
-    ensures words_only { result.refusal ≡ Some (Refusal.NotBuilt Unbuilt.Words) → command_of words.now ≡ None }
-    ensures loading { IfSome (F.told files.old) (λ contents. IfErr (loaded words.now cwd.now contents) (λ refusal. IsRefusal (loading_refusal refusal) result.refusal)) }
+    // Where the words are refused, or the files are told, what is meant to be refused is what the call is refused with.
+    ensures words { IfErr (options_asked words.now env.now) (λ refusal. IsSaid refusal result.refusal) }
+    ensures words_only { (refusal : _) → IsTrue (is_of_words refusal) → result.refusal ≡ Some refusal → options_asked words.now env.now ≡ Err refusal }
+    ensures loading { IfSome (F.told files.old) (λ contents. IfErr (meaning words.now env.now cwd.now contents) (λ refusal. IsRefusal refusal result.refusal)) }
 
     // No other refusals than these come, and a fault is told only where something outside failed.
     ensures kind { IsOfConfig result.refusal }
     ensures read_fault { (path : _) → result.refusal ≡ Some (Refusal.Load (LoadRefusal.ReadFault path))
-        → IsFailedRead words.now cwd.now (F.faults files.old) (F.faults files.new) path }
+        → IsFailedRead words.now env.now cwd.now (F.faults files.old) (F.faults files.new) path }
     ensures output_fault { result.refusal ≡ Some (Refusal.Outside Part.Out) → Rose (O.faults out.old) (O.faults out.new) }
 
-    // At status 0 the page of the project was written whole, and else nothing, or a prefix of it.
-    ensures page { result.status ≡ 0 → ForProject words.now cwd.now (F.told files.old) (λ project. GrewBy (O.written out.old) (project_page project) (O.written out.new)) }
-    ensures prefix { (O.written out.new ≡ O.written out.old) ⊎ ForProject words.now cwd.now (F.told files.old) (GrewByPrefix (O.written out.old) (O.written out.new)) }
+    // At status 0 the page of the project was written whole, or nothing with `--quiet`; and else nothing, or a prefix of it.
+    ensures page { result.status ≡ 0 → ForProject words.now env.now cwd.now (F.told files.old) (λ project.
+        GrewBy (O.written out.old) (page_asked (command_of words.now env.now) project) (O.written out.new)) }
+    ensures prefix { (O.written out.new ≡ O.written out.old) ⊎ ForProject words.now env.now cwd.now (F.told files.old) (λ project.
+        GrewByPrefix (O.written out.old) (O.written out.new) (page_asked (command_of words.now env.now) project)) }
     ensures quiet { IsOfLoading result.refusal → O.written out.new ≡ O.written out.old }
 
     // A project that loading gives is printed, unless memory is wanted or something outside fails.
-    ensures complete { IfLoads words.now cwd.now (F.told files.old)
+    ensures complete { IfLoads words.now env.now cwd.now (F.told files.old)
         (OnlyOutsideFails cwd.now (F.faults files.old) (F.faults files.new) (O.faults out.old) (O.faults out.new) result.refusal) }
 
     // The status is that of the refusal, whose line is written to `err`.
@@ -71,8 +74,19 @@ pub fn config_run<F: Files, O: Sink, G: Sink>(
     ensures line { SaysRefusal result.refusal (G.written err.old) (G.written err.new) (G.faults err.old) (G.faults err.new) }
     ensures kept { F.told files.new ≡ F.told files.old }
 {
-    let _ = env;
-    let refusal = print(alloc, words, cwd, files, out);
+    match project_asked(alloc, words, env, cwd, files) {
+        Ok(asked) => print_asked(alloc, &asked, out, err),
+        Err(refusal) => ended(alloc, Some(refusal), err),
+    }
+}
+
+/// Ends a call: writes the line of its refusal, if any.
+fn ended<G: Sink>(alloc: Global, refusal: Option<Refusal>, err: &mut G) -> ConfigEnd
+    ensures refusal { IsSaidIfAny refusal result.refusal }
+    ensures status { result.status ≡ status_of result.refusal }
+    ensures none { (result.refusal ≡ None) ↔ (result.status ≡ 0) }
+    ensures line { SaysRefusal result.refusal (G.written err.old) (G.written err.new) (G.faults err.old) (G.faults err.new) }
+{
     let refusal = say_if_any(alloc, refusal, err);
     ConfigEnd {
         status: status_of(&refusal),
@@ -80,37 +94,55 @@ pub fn config_run<F: Files, O: Sink, G: Sink>(
     }
 }
 
-/// Loads the project and writes its page.
-fn print<F: Files, O: Sink>(
+/// Prints what a call is asked for: the page of the project, or nothing with `--quiet`. The line of a refusal, a fault of
+/// the output or a want of memory, is written to `err`.
+pub fn print_asked<O: Sink, G: Sink>(
     alloc: Global,
-    words: &List<Text>,
-    cwd: &Text,
-    files: &mut F,
+    asked: &Asked,
     out: &mut O,
-) -> Option<Refusal>
-    ensures words { command_of words.now ≡ None → result ≡ Some (Refusal.NotBuilt Unbuilt.Words) }
-    ensures words_only { result ≡ Some (Refusal.NotBuilt Unbuilt.Words) → command_of words.now ≡ None }
-    ensures loading { IfSome (F.told files.old) (λ contents. IfErr (loaded words.now cwd.now contents) (λ refusal. IsRefusal (loading_refusal refusal) result)) }
-    ensures kind { IsOfConfig result }
-    ensures read_fault { (path : _) → result ≡ Some (Refusal.Load (LoadRefusal.ReadFault path)) → IsFailedRead words.now cwd.now (F.faults files.old) (F.faults files.new) path }
-    ensures output_fault { result ≡ Some (Refusal.Outside Part.Out) → Rose (O.faults out.old) (O.faults out.new) }
-    ensures page { result ≡ None → ForProject words.now cwd.now (F.told files.old) (λ project. GrewBy (O.written out.old) (project_page project) (O.written out.new)) }
-    ensures prefix { (O.written out.new ≡ O.written out.old) ⊎ ForProject words.now cwd.now (F.told files.old) (GrewByPrefix (O.written out.old) (O.written out.new)) }
-    ensures quiet { IsOfLoading result → O.written out.new ≡ O.written out.old }
-    ensures complete { IfLoads words.now cwd.now (F.told files.old)
-        (OnlyOutsideFails cwd.now (F.faults files.old) (F.faults files.new) (O.faults out.old) (O.faults out.new) result) }
-    ensures kept { F.told files.new ≡ F.told files.old }
+    err: &mut G,
+) -> ConfigEnd
+    requires order { IsInOrder asked.now.project.services }
+    ensures printed { PrintsPage (page_for asked.now.options.command asked.now.project) result.refusal (O.written out.old) (O.written out.new) (O.faults out.old) (O.faults out.new) }
+    ensures status { result.status ≡ status_of result.refusal }
+    ensures none { (result.refusal ≡ None) ↔ (result.status ≡ 0) }
+    ensures line { SaysRefusal result.refusal (G.written err.old) (G.written err.new) (G.faults err.old) (G.faults err.new) }
 {
-    match load(alloc, words, cwd, files) {
-        Ok(project) => write_page(alloc, &project, out),
-        Err(refusal) => Some(Refusal::from(refusal)),
+    let refusal = write_asked(alloc, asked, out);
+    ended(alloc, refusal, err)
+}
+
+/// Writes what a command prints of a project.
+fn write_asked<O: Sink>(alloc: Global, asked: &Asked, out: &mut O) -> Option<Refusal>
+    requires order { IsInOrder asked.now.project.services }
+    ensures { PrintsPage (page_for asked.now.options.command asked.now.project) result (O.written out.old) (O.written out.new) (O.faults out.old) (O.faults out.new) }
+{
+    if is_quiet(&asked.options.command) {
+        None
+    } else {
+        write_page(alloc, &asked.project, out)
+    }
+}
+
+/// Whether a command prints nothing. No memory.
+fn is_quiet(command: &Command) -> bool
+    ensures { result ≡ is_quiet command.now }
+{
+    match command {
+        Command::Config { quiet, .. } => *quiet,
+        Command::Up { .. } => false,
+        Command::Down { .. } => false,
+        Command::Simulate { .. } => false,
+        Command::Wait => false,
+        Command::Logs => false,
+        Command::EngineSim { .. } => false,
     }
 }
 
 /// Writes the page of a project.
 fn write_page<O: Sink>(alloc: Global, project: &Project, out: &mut O) -> Option<Refusal>
     requires order { IsInOrder project.now.services }
-    ensures { PrintsPage project.now result (O.written out.old) (O.written out.new) (O.faults out.old) (O.faults out.new) }
+    ensures { PrintsPage (project_page project.now) result (O.written out.old) (O.written out.new) (O.faults out.old) (O.faults out.new) }
 {
     let Ok(page) = page(alloc, project) else {
         return Some(Refusal::Memory);

@@ -8,5 +8,5 @@
 mod config;
 mod laws;
 
-pub use config::{ConfigEnd, config_run};
+pub use config::{ConfigEnd, config_run, print_asked};
 pub use laws::{empty_projects_have_two_lines, pages_have_their_lines, plain_pages_are_files};

@@ -1,6 +1,6 @@
 -- Each number that was read is within the bounds of its option or command.
 use Rattle.std.proofs.Common.{◌≡◌, ℕ, ◌+◌, ◌≤◌, Bool, true, false, cond, leb, List, [], ◌∷◌, sym, subst, refl, ap, ◌∙◌, arith}
-use Rattle.std.specs.Prelude.{Result, Ok, Err, Option, Some, None, IfSome, IfOk, slice_get, unwrap_or, find, ◌&&◌, codes}
+use Rattle.std.specs.Prelude.{Result, Ok, Err, Option, Some, None, IfSome, IfOk, length, slice_get, unwrap_or, find, ◌&&◌, ◌==◌, codes}
 use Rattle.std.specs.List.{AllByRecursion, filter_map, cons_option}
 use Rattle.std.specs.Option.{option_map, option_map_or, option_and_then, option_or}
 use Rattle.std.specs.Str.{bytes_eq}
@@ -8,17 +8,18 @@ use Rattle.std.specs.Str.Parse.{digits_value}
 use Rattle.std.proofs.lemmas.Bool.{eqb-true}
 use Rattle.std.proofs.lemmas.Bool.Decides.{nat_tests}
 use Rattle.compose_words.specs.Bounds.{IsBounded, CommandIsBounded}
-use Rattle.compose_words.specs.Contents.{content_of, is_numeral}
-use Rattle.compose_words.specs.Items.{items_from, items_of, item_of, role_of, option_role, plain_role, kind_of, own_text, value_at, takes_next, split_at_equals}
-use Rattle.compose_words.specs.Lookups.{first_given, value_given, number_in, first_verb, verb_of, verb_with, verb_named, options_with, command_with}
+use Rattle.compose_words.specs.Contents.{content_of, is_numeral, scale_of, split_at_equals}
+use Rattle.compose_words.specs.Items.{items_from, items_of, item_of, role_of, option_role, plain_role, kind_of, own_text, value_at, takes_next}
+use Rattle.compose_words.specs.Lookups.{first_given, value_given, values_given, number_in, scale_in, first_verb, verb_of, verb_with, verb_named, options_with, command_with}
 use Rattle.compose_words.specs.Reading.{IsUnlessMemory, refused_or, and_then, options_of, options_of_items, options_of_verb}
-use Rattle.compose_words.specs.Refusals.{role_gives, first_refusal}
+use Rattle.compose_words.specs.Refusals.{gives, role_gives, first_refusal}
 use Rattle.compose_words.specs.Table.{OptionNames, CommandNames, option_table, command_table, option_named, option_assigned, command_named, is_named, is_assignable, is_word, option_number, same_option, takes_value}
 use Rattle.compose_words.specs.declared.content.Content.{Content}
 use Rattle.compose_words.specs.declared.item.Item.{Item}
 use Rattle.compose_words.specs.declared.item.Role.{Role}
 use Rattle.compose_words.specs.declared.item.Value.{Value}
 use Rattle.compose_words.specs.declared.options.Options.{Options}
+use Rattle.compose_words.specs.declared.options.Scale.{Scale}
 use Rattle.compose_words.specs.declared.options.Verb.{Verb}
 use Rattle.compose_words.specs.declared.refusal.WordsRefusal.{WordsRefusal}
 use Rattle.compose_words.specs.declared.table.CommandName.{CommandName}
@@ -38,6 +39,7 @@ abbrev OptionAllows : OptionName → ℕ → Type 0
 OptionAllows OptionName.Parallel n = (1 ≤ n) × (n ≤ 16)
 OptionAllows OptionName.WaitTimeout n = n ≤ 1000000
 OptionAllows OptionName.Timeout n = n ≤ 1000000
+OptionAllows OptionName.Connections n = (1 ≤ n) × (n ≤ 1000000)
 OptionAllows _ n = Unit {0}
 
 -- a number that a command may have
@@ -53,11 +55,11 @@ CommandFits rule = (n : ℕ) → Allows rule.value n → CommandAllows rule.name
 
 options_fit : AllByRecursion (λ (names : OptionNames). OptionFits names.rule) option_table
 unfolding option_table
-options_fit = (λ n h. tt, (λ n h. tt, (λ n h. tt, (λ n h. tt, (λ n h. tt, (λ n h. h, (λ n h. tt, (λ n h. tt, (λ n h. tt, (λ n h. tt, (λ n h. tt, (λ n h. tt, (λ n h. tt, (λ n h. tt, (λ n h. h.1, (λ n h. tt, (λ n h. h.1, tt)))))))))))))))))
+options_fit = (λ n h. tt, (λ n h. tt, (λ n h. tt, (λ n h. tt, (λ n h. tt, (λ n h. h, (λ n h. tt, (λ n h. tt, (λ n h. tt, (λ n h. tt, (λ n h. tt, (λ n h. tt, (λ n h. tt, (λ n h. tt, (λ n h. h.1, (λ n h. tt, (λ n h. h.1, (λ n h. tt, (λ n h. h, tt)))))))))))))))))))
 
 commands_fit : AllByRecursion (λ (names : CommandNames). CommandFits names.rule) command_table
 unfolding command_table
-commands_fit = (λ n h. tt, (λ n h. tt, (λ n h. tt, (λ n h. h, tt))))
+commands_fit = (λ n h. tt, (λ n h. tt, (λ n h. tt, (λ n h. h, (λ n h. tt, (λ n h. tt, (λ n h. tt, tt)))))))
 
 module _ {X : Type 0} (P : X → Type 0) (test : X → Bool) where
   -- what holds of a head that is taken or not, and of the rest, holds of what is found
@@ -116,6 +118,7 @@ role_of-fits word = split-fits word (split_at_equals word)
 -- what a value says is allowed to its kind
 abbrev ContentFits : ValueKind → Content → Type 0
 ContentFits kind (Content.Number n) = Allows kind n
+ContentFits kind (Content.Scale scale) = scale.number ≤ 100
 ContentFits kind _ = Unit {0}
 
 both_within : (a : Bool) (least most n : ℕ) → (a && (leb least n && leb n most)) ≡ true → (least ≤ n) × (n ≤ most)
@@ -135,12 +138,28 @@ format-fits true json = tt
 format-fits false true = tt
 format-fits false false = tt
 
+below_all : (a : Bool) (n : ℕ) → (a && leb n 100) ≡ true → n ≤ 100
+below_all a n e = grind (arith, nat_tests)
+
+scale-fits : (empty within : Bool) (scale : Scale) → (within ≡ true → scale.number ≤ 100) → ContentFits ValueKind.Scale (cond empty Content.Wrong (cond within (Content.Scale scale) Content.Wrong))
+scale-fits true within scale h = tt
+scale-fits false true scale h = h refl
+scale-fits false false scale h = tt
+
+scale_of-fits : (service number : List ℕ) → ContentFits ValueKind.Scale (scale_of service number)
+scale_of-fits service number = scale-fits (length service == 0) (is_numeral number && leb (digits_value 10 number) 100) (record { service = service; number = digits_value 10 number }) (below_all (is_numeral number) (digits_value 10 number))
+
+scale_parts-fit : (parts : Option (List ℕ × List ℕ)) → ContentFits ValueKind.Scale (option_map_or (λ parts. scale_of parts.0 parts.1) parts Content.Wrong)
+scale_parts-fit None = tt
+scale_parts-fit (Some parts) = scale_of-fits parts.0 parts.1
+
 content_of-fits : (kind : ValueKind) (text : List ℕ) → ContentFits kind (content_of kind text)
 content_of-fits ValueKind.Flag text = tt
 content_of-fits ValueKind.Text text = tt
 content_of-fits (ValueKind.Number least most) text = number-fits _ least most (digits_value 10 text) (both_within (is_numeral text) least most (digits_value 10 text))
 content_of-fits ValueKind.Workers text = workers-fits (bytes_eq (codes "-1") text) _ (digits_value 10 text) (both_within (is_numeral text) 1 16 (digits_value 10 text))
 content_of-fits ValueKind.Format text = format-fits (bytes_eq (codes "yaml") text) (bytes_eq (codes "json") text)
+content_of-fits ValueKind.Scale text = scale_parts-fit (split_at_equals text)
 
 abbrev ValueFits : ValueKind → Option Value → Type 0
 ValueFits kind value = IfSome value (λ (v : Value). ContentFits kind v.content)
@@ -194,6 +213,8 @@ options_by_number = OptionName.File
     ∷ OptionName.WaitTimeout
     ∷ OptionName.Volumes
     ∷ OptionName.Timeout
+    ∷ OptionName.Scale
+    ∷ OptionName.Connections
     ∷ []
 
 at_number : (name : OptionName) → slice_get options_by_number (option_number name) ≡ Some name
@@ -214,6 +235,8 @@ at_number OptionName.Wait = refl
 at_number OptionName.WaitTimeout = refl
 at_number OptionName.Volumes = refl
 at_number OptionName.Timeout = refl
+at_number OptionName.Scale = refl
+at_number OptionName.Connections = refl
 
 one_option : (a b : OptionName) → same_option a b ≡ true → a ≡ b
 one_option a b same =
@@ -229,6 +252,7 @@ number_given-fits name item fits = given (item.role) item.value fits.role fits.v
     allowed kind (Content.Text text) h k = tt
     allowed kind (Content.Number n) h k = h n k
     allowed kind (Content.Format json) h k = tt
+    allowed kind (Content.Scale scale) h k = tt
     allowed kind Content.Wrong h k = tt
 
     valued : (kind : ValueKind) (value : Option Value) → ((n : ℕ) → Allows kind n → OptionAllows name n) → ValueFits kind value → IfSome (option_and_then (λ (v : Value). number_in v.content) value) (OptionAllows name)
@@ -253,6 +277,9 @@ VerbFits Verb.Config = Unit {0}
 VerbFits Verb.Up = Unit {0}
 VerbFits Verb.Down = Unit {0}
 VerbFits (Verb.Simulate number) = (1 ≤ number) × (number ≤ 1000)
+VerbFits Verb.Wait = Unit {0}
+VerbFits Verb.Logs = Unit {0}
+VerbFits Verb.EngineSim = Unit {0}
 
 -- the number of a command is allowed to it
 verb_of-fits : (item : Item) → ItemFits item → IfSome (verb_of item) VerbFits
@@ -262,12 +289,16 @@ verb_of-fits item fits = with_role item.role item.value fits.role fits.value
     simulated kind (Content.Text text) h k = tt
     simulated kind (Content.Number n) h k = h n k
     simulated kind (Content.Format json) h k = tt
+    simulated kind (Content.Scale scale) h k = tt
     simulated kind Content.Wrong h k = tt
 
     named : (name : CommandName) (kind : ValueKind) (value : Option Value) → ((n : ℕ) → Allows kind n → CommandAllows name n) → ValueFits kind value → IfSome (verb_named name (option_map (λ (v : Value). v.content) value)) VerbFits
     named CommandName.Config kind value h k = tt
     named CommandName.Up kind value h k = tt
     named CommandName.Down kind value h k = tt
+    named CommandName.Wait kind value h k = tt
+    named CommandName.Logs kind value h k = tt
+    named CommandName.EngineSim kind value h k = tt
     named CommandName.Simulate kind None h k = tt
     named CommandName.Simulate kind (Some value) h k = simulated kind value.content h k
 
@@ -283,11 +314,45 @@ workers_or : (o : Option ℕ) → IfSome o (λ n. (1 ≤ n) × (n ≤ 16)) → (
 workers_or None h = (omega arith, omega arith)
 workers_or (Some n) h = h
 
+-- the number of containers that an item gives to a service is allowed
+scale_given-fits : (item : Item) → ItemFits item → IfSome (value_given scale_in OptionName.Scale item) (λ (s : Scale). s.number ≤ 100)
+scale_given-fits item fits = given (gives OptionName.Scale item) (kind_of item.role) item.value fits.value
+  where
+    allowed : (kind : ValueKind) (content : Content) → ContentFits kind content → IfSome (scale_in content) (λ (s : Scale). s.number ≤ 100)
+    allowed kind (Content.Text text) h = tt
+    allowed kind (Content.Number n) h = tt
+    allowed kind (Content.Format json) h = tt
+    allowed kind (Content.Scale scale) h = h
+    allowed kind Content.Wrong h = tt
+
+    given : (same : Bool) (kind : ValueKind) (value : Option Value) → ValueFits kind value → IfSome (cond same (option_and_then (λ (v : Value). scale_in v.content) value) None) (λ (s : Scale). s.number ≤ 100)
+    given false kind value h = tt
+    given true kind None h = tt
+    given true kind (Some value) h = allowed kind value.content h
+
+all_kept : {X Y : Type 0} (P : X → Type 0) (Q : Y → Type 0) (h : X → Option Y) → ((x : X) → P x → IfSome (h x) Q) → (xs : List X) → AllByRecursion P xs → AllByRecursion Q (filter_map h xs)
+all_kept {X} {Y} P Q h each [] all = tt
+all_kept {X} {Y} P Q h each (x ∷ xs) all = one (h x) (filter_map h xs) (each x all.0) (all_kept P Q h each xs all.1)
+  where
+    one : (y : Option Y) (rest : List Y) → IfSome y Q → AllByRecursion Q rest → AllByRecursion Q (cons_option y rest)
+    one None rest p q = q
+    one (Some y) rest p q = (p, q)
+
+scales-fit : (items : List Item) → ItemsFit items → AllByRecursion (λ (s : Scale). s.number ≤ 100) (values_given scale_in OptionName.Scale items)
+scales-fit items fit = all_kept ItemFits (λ (s : Scale). s.number ≤ 100) (value_given scale_in OptionName.Scale) scale_given-fits items fit
+
+connections_or : (o : Option ℕ) → IfSome o (λ n. (1 ≤ n) × (n ≤ 1000000)) → (1 ≤ unwrap_or o 1) × (unwrap_or o 1 ≤ 1000000)
+connections_or None h = (omega arith, omega arith)
+connections_or (Some n) h = h
+
 command_with-bounded : (verb : Verb) (items : List Item) → VerbFits verb → ItemsFit items → CommandIsBounded (command_with verb items)
 command_with-bounded Verb.Config items h fit = tt
-command_with-bounded Verb.Up items h fit = first_number-fits OptionName.WaitTimeout items fit
+command_with-bounded Verb.Up items h fit = (first_number-fits OptionName.WaitTimeout items fit, scales-fit items fit)
 command_with-bounded Verb.Down items h fit = first_number-fits OptionName.Timeout items fit
 command_with-bounded (Verb.Simulate number) items h fit = h
+command_with-bounded Verb.Wait items h fit = tt
+command_with-bounded Verb.Logs items h fit = tt
+command_with-bounded Verb.EngineSim items h fit = connections_or _ (first_number-fits OptionName.Connections items fit)
 
 options_with-bounded : (verb : Verb) (items : List Item) → VerbFits verb → ItemsFit items → IsBounded (options_with verb items)
 options_with-bounded verb items h fit = record {

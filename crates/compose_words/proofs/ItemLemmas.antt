@@ -53,6 +53,8 @@ width-alone ValueKind.Workers at None = refl
 width-alone ValueKind.Workers at (Some text) = same_place at _ refl
 width-alone ValueKind.Format at None = refl
 width-alone ValueKind.Format at (Some text) = same_place at _ refl
+width-alone ValueKind.Scale at None = refl
+width-alone ValueKind.Scale at (Some text) = same_place at _ refl
 
 pub width_alone : (at : ℕ) (word : List ℕ) → width_of (item_of at word None) ≡ 1
 width_alone at word = width-alone (kind_of (role_of word)) at (own_text word)
@@ -68,6 +70,8 @@ width-next ValueKind.Workers at None next = next_place at _ refl
 width-next ValueKind.Workers at (Some text) next = same_place at _ refl
 width-next ValueKind.Format at None next = next_place at _ refl
 width-next ValueKind.Format at (Some text) next = same_place at _ refl
+width-next ValueKind.Scale at None next = next_place at _ refl
+width-next ValueKind.Scale at (Some text) next = same_place at _ refl
 
 taken : (takes : Bool) (at width : ℕ) (item : Item) (next : List ℕ) (words : List (List ℕ)) → width ≡ cond takes 2 1
     → item ∷ (cond takes (items_from (at + 2) words) (items_from (at + 1) (next ∷ words))) ≡ item ∷ items_from (at + width) (drop (width - 1) (next ∷ words))

@@ -7,7 +7,7 @@ use Rattle.compose_words.specs.Bounds.{IsWithin}
 use Rattle.compose_words.specs.Items.{items_from, items_of, item_of, role_of, kind_of, own_text, value_at, takes_next}
 use Rattle.compose_words.specs.Lookups.{first_verb, name_of}
 use Rattle.compose_words.specs.Reading.{IsUnlessMemory, refused_or, and_then, items_or_refusal, options_of, options_of_items, options_of_verb}
-use Rattle.compose_words.specs.Refusals.{first_refusal, role_refusal, value_refusal, content_refusal, wrong_value, foreign_refusal, gives, is_command, is_foreign}
+use Rattle.compose_words.specs.Refusals.{again_refusal, content_refusal, first_refusal, foreign_refusal, gives, is_command, is_foreign, role_refusal, scale_refusal, scales, server_refusal, unserved_refusal, value_refusal, wrong_value}
 use Rattle.compose_words.specs.Table.{takes_value}
 use Rattle.compose_words.specs.declared.content.Content.{Content}
 use Rattle.compose_words.specs.declared.item.Item.{Item}
@@ -16,6 +16,7 @@ use Rattle.compose_words.specs.declared.item.Value.{Value}
 use Rattle.compose_words.specs.declared.options.Verb.{Verb}
 use Rattle.compose_words.specs.declared.refusal.WordsRefusal.{WordsRefusal}
 use Rattle.compose_words.specs.declared.table.CommandName.{CommandName}
+use Rattle.compose_words.specs.declared.table.OptionName.{OptionName}
 use Rattle.compose_words.specs.declared.table.ValueKind.{ValueKind}
 
 module _ (count : ℕ) where
@@ -68,19 +69,33 @@ module _ (count : ℕ) where
   wrong-placed (ValueKind.Number least most) at h = h
   wrong-placed ValueKind.Workers at h = h
   wrong-placed ValueKind.Format at h = h
+  wrong-placed ValueKind.Scale at h = h
 
   content-placed : (kind : ValueKind) (at : ℕ) (content : Content) → at < count → IsPlaced (content_refusal kind at content)
   content-placed kind at (Content.Text text) h = tt
   content-placed kind at (Content.Number n) h = tt
   content-placed kind at (Content.Format json) h = tt
+  content-placed kind at (Content.Scale scale) h = tt
   content-placed kind at Content.Wrong h = wrong-placed kind at h
 
   value-placed : (at : ℕ) (kind : ValueKind) (value : Option Value) → at < count → IfSome value (λ (v : Value). v.at < count) → IsPlaced (value_refusal at kind value)
   value-placed at kind (Some value) h k = content-placed kind value.at value.content k
   value-placed at kind None h k = either-placed (takes_value kind) _ _ h tt
 
+  scale-placed : (before : List Item) (at : ℕ) (content : Content) → at < count → IsPlaced (scale_refusal before at content)
+  scale-placed before at (Content.Scale scale) h = either-placed (list_any (scales scale.service) before) (Some (WordsRefusal.Twice at)) None h tt
+  scale-placed before at (Content.Text text) h = tt
+  scale-placed before at (Content.Number n) h = tt
+  scale-placed before at (Content.Format json) h = tt
+  scale-placed before at Content.Wrong h = tt
+
+  again-placed : (before : List Item) (value : Option Value) → IfSome value (λ (v : Value). v.at < count) → IsPlaced (again_refusal before value)
+  again-placed before (Some value) h = scale-placed before value.at value.content h
+  again-placed before None h = tt
+
   role-placed : (before : List Item) (item : Item) (role : Role) → Lies item → IsPlaced (role_refusal before item role)
-  role-placed before item (Role.Option rule) h = either-placed (not rule.repeats && list_any (gives rule.name) before) (Some (WordsRefusal.Twice item.at)) (value_refusal item.at rule.value item.value) h.own (value-placed item.at rule.value item.value h.own h.value)
+  role-placed before item (Role.Option rule) h = either-placed (not rule.repeats && list_any (gives rule.name) before) (Some (WordsRefusal.Twice item.at)) (option_or (value_refusal item.at rule.value item.value) (again_refusal before item.value)) h.own
+      (first-placed (value_refusal item.at rule.value item.value) (again_refusal before item.value) (value-placed item.at rule.value item.value h.own h.value) (again-placed before item.value h.value))
   role-placed before item (Role.Command rule) h = either-placed (list_any is_command before) (Some (WordsRefusal.UnknownWord item.at)) (value_refusal item.at rule.value item.value) h.own (value-placed item.at rule.value item.value h.own h.value)
   role-placed before item Role.Stray h = h.own
 
@@ -99,13 +114,36 @@ module _ (count : ℕ) where
   foreign-placed command [] h = tt
   foreign-placed command (item ∷ items) h = found-placed (is_foreign command item) item (find (is_foreign command) items) h.0.own (foreign-placed command items h.1)
 
+  abbrev missing_at : Option Item → Option WordsRefusal
+  missing_at found = option_map (λ (item : Item). WordsRefusal.MissingValue item.at) found
+
+  lacking-placed : (b : Bool) (item : Item) (rest : Option Item) → item.at < count → IsPlaced (missing_at rest) → IsPlaced (missing_at (cond b (Some item) rest))
+  lacking-placed true item rest h k = h
+  lacking-placed false item rest h k = k
+
+  command-placed : (items : List Item) → AllLie items → IsPlaced (missing_at (find is_command items))
+  command-placed [] h = tt
+  command-placed (item ∷ items) h = lacking-placed (is_command item) item (find is_command items) h.0.own (command-placed items h.1)
+
+  server-placed : (items : List Item) → AllLie items → IsPlaced (server_refusal items)
+  server-placed items h = either-placed (list_any (gives OptionName.Socket) items && list_any (gives OptionName.Connections) items) None (missing_at (find is_command items)) tt (command-placed items h)
+
+  unserved-placed : (verb : Verb) (items : List Item) → AllLie items → IsPlaced (unserved_refusal verb items)
+  unserved-placed Verb.EngineSim items h = server-placed items h
+  unserved-placed Verb.Config items h = tt
+  unserved-placed Verb.Up items h = tt
+  unserved-placed Verb.Down items h = tt
+  unserved-placed (Verb.Simulate number) items h = tt
+  unserved-placed Verb.Wait items h = tt
+  unserved-placed Verb.Logs items h = tt
+
   refused-placed : {A : Type 0} (refusal : Option WordsRefusal) (value : A) → IsPlaced refusal → IfErr (refused_or refusal value) (IsWithin count)
   refused-placed None value h = tt
   refused-placed (Some refusal) value h = h
 
   verb-placed : (items : List Item) (verb : Option Verb) → AllLie items → IfErr (option_map_or (options_of_verb items) verb (Err WordsRefusal.NoCommand)) (IsWithin count)
   verb-placed items None h = tt
-  verb-placed items (Some verb) h = refused-placed _ _ (foreign-placed (name_of verb) items h)
+  verb-placed items (Some verb) h = refused-placed _ _ (first-placed (foreign_refusal (name_of verb) items) (unserved_refusal verb items) (foreign-placed (name_of verb) items h) (unserved-placed verb items h))
 
   words-placed : (items : List Item) (refusal : Option WordsRefusal) → AllLie items → IsPlaced refusal → IfErr (and_then options_of_items (refused_or refusal items)) (IsWithin count)
   words-placed items None h k = verb-placed items (first_verb items) h

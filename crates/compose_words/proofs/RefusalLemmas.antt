@@ -1,16 +1,18 @@
 -- Answers that are refusals.
 use Rattle.std.proofs.Common.{◌≡◌, ℕ, ◌≤◌, Bool, true, false, cond, List, [], ◌∷◌, ◌++◌, length, drop, sym, subst, ap, ◌∙◌, append_assoc, append-nil}
 use Rattle.std.proofs.Math.ListN.{drop_of_length-le}
-use Rattle.std.specs.Option.{option_or}
-use Rattle.std.specs.Prelude.{Result, Ok, Err, Option, Some, None}
+use Rattle.std.specs.Option.{option_map, option_map_or, option_or}
+use Rattle.std.specs.Prelude.{Result, Ok, Err, Option, Some, None, find}
 use Rattle.compose_words.specs.Items.{items_from, items_of}
-use Rattle.compose_words.specs.Refusals.{first_refusal, item_refusal, role_refusal, value_refusal, content_refusal, wrong_value}
+use Rattle.compose_words.specs.Refusals.{again_refusal, first_refusal, is_command, is_foreign, item_refusal, role_refusal, scale_refusal, unserved_refusal, value_refusal, content_refusal, wrong_value}
 use Rattle.compose_words.specs.Table.{takes_value}
 use Rattle.compose_words.specs.declared.content.Content.{Content}
 use Rattle.compose_words.specs.declared.item.Role.{Role}
 use Rattle.compose_words.specs.declared.item.Value.{Value}
 use Rattle.compose_words.specs.declared.table.ValueKind.{ValueKind}
-use Rattle.compose_words.specs.Reading.{IsUnlessMemory, refused_or, and_then, items_or_refusal}
+use Rattle.compose_words.specs.Lookups.{first_verb, name_of}
+use Rattle.compose_words.specs.Reading.{IsUnlessMemory, refused_or, and_then, items_or_refusal, options_of_items, options_of_verb}
+use Rattle.compose_words.specs.declared.options.Verb.{Verb}
 use Rattle.compose_words.specs.declared.item.Item.{Item}
 use Rattle.compose_words.specs.declared.refusal.WordsRefusal.{WordsRefusal}
 
@@ -102,19 +104,32 @@ wrong_value-words ValueKind.Text at = λ e. cc
 wrong_value-words (ValueKind.Number least most) at = λ e. cc
 wrong_value-words ValueKind.Workers at = λ e. cc
 wrong_value-words ValueKind.Format at = λ e. cc
+wrong_value-words ValueKind.Scale at = λ e. cc
 
 content_refusal-words : (kind : ValueKind) (at : ℕ) (content : Content) → IsOfWords (content_refusal kind at content)
 content_refusal-words kind at (Content.Text text) = λ e. cc
 content_refusal-words kind at (Content.Number n) = λ e. cc
 content_refusal-words kind at (Content.Format json) = λ e. cc
+content_refusal-words kind at (Content.Scale scale) = λ e. cc
 content_refusal-words kind at Content.Wrong = wrong_value-words kind at
 
 value_refusal-words : (at : ℕ) (kind : ValueKind) (value : Option Value) → IsOfWords (value_refusal at kind value)
 value_refusal-words at kind (Some value) = content_refusal-words kind value.at value.content
 value_refusal-words at kind None = either (takes_value kind) _ _ (missing-words at) nothing-words
 
+scale_refusal-words : (before : List Item) (at : ℕ) (content : Content) → IsOfWords (scale_refusal before at content)
+scale_refusal-words before at (Content.Scale scale) = either _ _ _ (twice-words at) nothing-words
+scale_refusal-words before at (Content.Text text) = λ e. cc
+scale_refusal-words before at (Content.Number n) = λ e. cc
+scale_refusal-words before at (Content.Format json) = λ e. cc
+scale_refusal-words before at Content.Wrong = λ e. cc
+
+again_refusal-words : (before : List Item) (value : Option Value) → IsOfWords (again_refusal before value)
+again_refusal-words before (Some value) = scale_refusal-words before value.at value.content
+again_refusal-words before None = nothing-words
+
 role_refusal-words : (before : List Item) (item : Item) (role : Role) → IsOfWords (role_refusal before item role)
-role_refusal-words before item (Role.Option rule) = either _ _ _ (twice-words item.at) (value_refusal-words item.at rule.value item.value)
+role_refusal-words before item (Role.Option rule) = either _ _ _ (twice-words item.at) (first_of_two _ _ (value_refusal-words item.at rule.value item.value) (again_refusal-words before item.value))
 role_refusal-words before item (Role.Command rule) = either _ _ _ (unknown-words item.at) (value_refusal-words item.at rule.value item.value)
 role_refusal-words before item Role.Stray = unknown-words item.at
 
@@ -137,3 +152,28 @@ module _ {A : Type 0} where
 -- no item is refused for the Engine's address
 pub items_or_refusal-words : (words : List (List ℕ)) → AnswersWords (items_or_refusal words)
 items_or_refusal-words words = refused_or-words _ _ (first_refusal-words [] (items_of words))
+
+unknown_at-words : (found : Option Item) → IsOfWords (option_map (λ (item : Item). WordsRefusal.UnknownWord item.at) found)
+unknown_at-words None = λ e. cc
+unknown_at-words (Some item) = λ e. cc
+
+missing_at-words : (found : Option Item) → IsOfWords (option_map (λ (item : Item). WordsRefusal.MissingValue item.at) found)
+missing_at-words None = λ e. cc
+missing_at-words (Some item) = λ e. cc
+
+unserved-words : (verb : Verb) (items : List Item) → IsOfWords (unserved_refusal verb items)
+unserved-words Verb.EngineSim items = either _ _ _ nothing-words (missing_at-words (find is_command items))
+unserved-words Verb.Config items = nothing-words
+unserved-words Verb.Up items = nothing-words
+unserved-words Verb.Down items = nothing-words
+unserved-words (Verb.Simulate number) items = nothing-words
+unserved-words Verb.Wait items = nothing-words
+unserved-words Verb.Logs items = nothing-words
+
+-- no command is refused for the Engine's address
+pub options_of_items-words : (items : List Item) → AnswersWords (options_of_items items)
+options_of_items-words items = at (first_verb items)
+  where
+    at : (verb : Option Verb) → AnswersWords (option_map_or (options_of_verb items) verb (Err WordsRefusal.NoCommand))
+    at None = λ e. cc
+    at (Some verb) = refused_or-words _ _ (first_of_two _ _ (unknown_at-words (find (is_foreign (name_of verb)) items)) (unserved-words verb items))

@@ -1,15 +1,21 @@
 -- The numbers of a command line are within their bounds, and the places of refusals within the words.
 use Rattle.std.specs.Prelude.{◌≤◌, ◌<◌, ℕ, IfSome}
+use Rattle.std.specs.List.{AllByRecursion}
 use Rattle.compose_words.specs.declared.options.Command.{Command}
 use Rattle.compose_words.specs.declared.options.Options.{Options}
+use Rattle.compose_words.specs.declared.options.Scale.{Scale}
 use Rattle.compose_words.specs.declared.refusal.WordsRefusal.{WordsRefusal}
 
--- a time is at most a million seconds, and a simulated project has 1 to 1,000 services
+-- a time is at most a million seconds, a service has at most 100 containers, a simulated project has 1 to 1,000 services, and 1 to a
+-- million connections are served
 abbrev pub CommandIsBounded : Command → Type 0
 CommandIsBounded (Command.Config json quiet) = Unit {0}
-CommandIsBounded (Command.Up orphans wait seconds) = IfSome seconds (λ s. s ≤ 1000000)
+CommandIsBounded (Command.Up orphans wait seconds scale) = IfSome seconds (λ s. s ≤ 1000000) × AllByRecursion (λ (s : Scale). s.number ≤ 100) scale
 CommandIsBounded (Command.Down orphans volumes seconds) = IfSome seconds (λ s. s ≤ 1000000)
 CommandIsBounded (Command.Simulate number) = (1 ≤ number) × (number ≤ 1000)
+CommandIsBounded Command.Wait = Unit {0}
+CommandIsBounded Command.Logs = Unit {0}
+CommandIsBounded (Command.EngineSim connections) = (1 ≤ connections) × (connections ≤ 1000000)
 
 -- the options of a run that can be made: with 1 to 16 workers
 pub record IsBounded (options : Options) : Type 0 where

@@ -1,8 +1,7 @@
 -- The words of a command line as items: an option with its value, a command with its value, or a stray word.
-use Rattle.std.specs.Prelude.{ℕ, ◌+◌, ◌==◌, Bool, ◌&&◌, List, [], ◌∷◌, Option, Some, None, length, nat_lt, is_none, if◌then◌else◌}
-use Rattle.std.specs.List.{position_or_len, before_first, after_first}
+use Rattle.std.specs.Prelude.{ℕ, ◌+◌, ◌==◌, Bool, ◌&&◌, List, [], ◌∷◌, Option, Some, None, is_none, if◌then◌else◌}
 use Rattle.std.specs.Option.{option_map, option_map_or, option_or}
-use Rattle.compose_words.specs.Contents.{content_of}
+use Rattle.compose_words.specs.Contents.{content_of, split_at_equals}
 use Rattle.compose_words.specs.Table.{takes_value, option_named, option_assigned, command_named}
 use Rattle.compose_words.specs.declared.table.ValueKind.{ValueKind}
 use Rattle.compose_words.specs.declared.table.OptionRule.{OptionRule}
@@ -10,12 +9,6 @@ use Rattle.compose_words.specs.declared.table.CommandRule.{CommandRule}
 use Rattle.compose_words.specs.declared.item.Item.{Item}
 use Rattle.compose_words.specs.declared.item.Role.{Role}
 use Rattle.compose_words.specs.declared.item.Value.{Value}
-
--- what stands before and behind the first `=` of a word
-abbrev pub split_at_equals : List ℕ → Option (List ℕ × List ℕ)
-split_at_equals word =
-    if nat_lt (position_or_len (λ b. b == 61) word) (length word)
-    then Some (before_first (λ b. b == 61) word, after_first (λ b. b == 61) word) else None
 
 -- the role of a word that names this option, if it names one
 abbrev pub option_role : Option OptionRule → Role

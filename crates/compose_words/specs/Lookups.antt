@@ -9,10 +9,11 @@ use Rattle.compose_words.specs.declared.item.Role.{Role}
 use Rattle.compose_words.specs.declared.item.Value.{Value}
 use Rattle.compose_words.specs.declared.options.Command.{Command}
 use Rattle.compose_words.specs.declared.options.Options.{Options}
+use Rattle.compose_words.specs.declared.options.Scale.{Scale}
 use Rattle.compose_words.specs.declared.options.Verb.{Verb}
 use Rattle.compose_words.specs.declared.table.CommandName.{CommandName}
 use Rattle.compose_words.specs.declared.table.OptionName.{OptionName}
-use Rattle.compose_words.specs.declared.table.OptionName.TheVariants.{File, ProjectName, ProjectDirectory, Profile, EnvFile, Parallel, Socket, Memory, StopFile, Format, Quiet, RemoveOrphans, Wait, WaitTimeout, Volumes, Timeout}
+use Rattle.compose_words.specs.declared.table.OptionName.TheVariants.{File, ProjectName, ProjectDirectory, Profile, EnvFile, Parallel, Socket, Memory, StopFile, Format, Quiet, RemoveOrphans, Wait, WaitTimeout, Volumes, Timeout, Connections}
 
 -- the text that a value says
 abbrev pub text_in : Content → Option (List ℕ)
@@ -28,6 +29,11 @@ number_in _ = None
 abbrev pub format_in : Content → Option Bool
 format_in (Content.Format json) = Some json
 format_in _ = None
+
+-- how many containers of which service a value says
+abbrev pub scale_in : Content → Option Scale
+scale_in (Content.Scale scale) = Some scale
+scale_in _ = None
 
 module _ {A : Type 0} (part : Content → Option A) (name : OptionName) where
   -- what an item gives to the option
@@ -52,6 +58,9 @@ verb_named CommandName.Config content = Some Verb.Config
 verb_named CommandName.Up content = Some Verb.Up
 verb_named CommandName.Down content = Some Verb.Down
 verb_named CommandName.Simulate content = option_map Verb.Simulate (option_and_then number_in content)
+verb_named CommandName.Wait content = Some Verb.Wait
+verb_named CommandName.Logs content = Some Verb.Logs
+verb_named CommandName.EngineSim content = Some Verb.EngineSim
 
 -- the command of a word of this role
 abbrev pub verb_with : Option Value → Role → Option Verb
@@ -72,13 +81,19 @@ name_of Verb.Config = CommandName.Config
 name_of Verb.Up = CommandName.Up
 name_of Verb.Down = CommandName.Down
 name_of (Verb.Simulate number) = CommandName.Simulate
+name_of Verb.Wait = CommandName.Wait
+name_of Verb.Logs = CommandName.Logs
+name_of Verb.EngineSim = CommandName.EngineSim
 
 -- the command with its own options
 abbrev pub command_with : Verb → List Item → Command
 command_with Verb.Config items = Command.Config (unwrap_or (first_given format_in Format items) false) (is_given Quiet items)
-command_with Verb.Up items = Command.Up (is_given RemoveOrphans items) (is_given Wait items) (first_given number_in WaitTimeout items)
+command_with Verb.Up items = Command.Up (is_given RemoveOrphans items) (is_given Wait items) (first_given number_in WaitTimeout items) (values_given scale_in OptionName.Scale items)
 command_with Verb.Down items = Command.Down (is_given RemoveOrphans items) (is_given Volumes items) (first_given number_in Timeout items)
 command_with (Verb.Simulate number) items = Command.Simulate number
+command_with Verb.Wait items = Command.Wait
+command_with Verb.Logs items = Command.Logs
+command_with Verb.EngineSim items = Command.EngineSim (unwrap_or (first_given number_in Connections items) 1)
 
 -- a command and its options as a whole: a run has 4 workers where nothing else is said
 abbrev pub options_with : Verb → List Item → Options

@@ -1,9 +1,9 @@
 -- What a command line means.
 use Rattle.std.specs.Prelude.{◌≡◌, ℕ, List, [], Option, Some, None, Result, Ok, Err}
-use Rattle.std.specs.Option.{option_map_or}
+use Rattle.std.specs.Option.{option_map_or, option_or}
 use Rattle.compose_words.specs.Items.{items_of}
 use Rattle.compose_words.specs.Lookups.{first_verb, name_of, options_with}
-use Rattle.compose_words.specs.Refusals.{first_refusal, foreign_refusal}
+use Rattle.compose_words.specs.Refusals.{first_refusal, foreign_refusal, unserved_refusal}
 use Rattle.compose_words.specs.declared.item.Item.{Item}
 use Rattle.compose_words.specs.declared.options.Options.{Options}
 use Rattle.compose_words.specs.declared.options.Verb.{Verb}
@@ -25,9 +25,9 @@ module _ {A : Type 0} where
 abbrev pub items_or_refusal : List (List ℕ) → Result (List Item) WordsRefusal
 items_or_refusal words = refused_or (first_refusal [] (items_of words)) (items_of words)
 
--- the options of a command, unless one of another command was given
+-- the options of a command, unless one of another command was given, or the command lacks some
 abbrev pub options_of_verb : List Item → Verb → Result Options WordsRefusal
-options_of_verb items verb = refused_or (foreign_refusal (name_of verb) items) (options_with verb items)
+options_of_verb items verb = refused_or (option_or (foreign_refusal (name_of verb) items) (unserved_refusal verb items)) (options_with verb items)
 
 -- the options that items give: there has to be a command
 abbrev pub options_of_items : List Item → Result Options WordsRefusal
@@ -39,6 +39,6 @@ and_then f (Ok value) = f value
 and_then f (Err refusal) = Err refusal
 
 -- what a command line means: the first refusal from the left, then a missing command, then the first
--- option that isn't the command's, and else the options
+-- option that isn't the command's, then one that the command lacks, and else the options
 abbrev pub options_of : List (List ℕ) → Result Options WordsRefusal
 options_of words = and_then options_of_items (items_or_refusal words)

@@ -3,9 +3,9 @@ use Rattle.std.specs.Prelude.{ℕ, Bool, true, false, ◌||◌, ◌&&◌, List, 
 use Rattle.std.specs.Option.{option_map, option_map_or, option_copied}
 use Rattle.std.specs.Str.{bytes_eq}
 use Rattle.compose_words.specs.declared.table.OptionName.{OptionName}
-use Rattle.compose_words.specs.declared.table.OptionName.TheVariants.{File, ProjectName, ProjectDirectory, Profile, EnvFile, Parallel, Socket, Memory, StopFile, Format, Quiet, Detach, RemoveOrphans, Wait, WaitTimeout, Volumes, Timeout}
+use Rattle.compose_words.specs.declared.table.OptionName.TheVariants.{File, ProjectName, ProjectDirectory, Profile, EnvFile, Parallel, Socket, Memory, StopFile, Format, Quiet, Detach, RemoveOrphans, Wait, WaitTimeout, Volumes, Timeout, Scale, Connections}
 use Rattle.compose_words.specs.declared.table.CommandName.{CommandName}
-use Rattle.compose_words.specs.declared.table.CommandName.TheVariants.{Config, Up, Down, Simulate}
+use Rattle.compose_words.specs.declared.table.CommandName.TheVariants.{Config, Up, Down, Simulate, Logs, EngineSim}
 use Rattle.compose_words.specs.declared.table.ValueKind.{ValueKind}
 use Rattle.compose_words.specs.declared.table.Users.{Users}
 use Rattle.compose_words.specs.declared.table.Users.TheVariants.{Every, One, Two}
@@ -32,6 +32,10 @@ once long short name value users = record { long = long; short = short; rule = r
 abbrev pub seconds : ValueKind
 seconds = ValueKind.Number 0 1000000
 
+-- a number of connections
+abbrev pub connections : ValueKind
+connections = ValueKind.Number 1 1000000
+
 -- the table of options
 unfoldable pub option_table : List OptionNames
 option_table =
@@ -52,6 +56,8 @@ option_table =
     ∷ once (codes "--wait-timeout") None WaitTimeout seconds (One Up)
     ∷ many (codes "--volumes") (Some (codes "-v")) Volumes ValueKind.Flag (One Down)
     ∷ once (codes "--timeout") (Some (codes "-t")) Timeout seconds (One Down)
+    ∷ many (codes "--scale") None Scale ValueKind.Scale (One Up)
+    ∷ once (codes "--connections") None Connections connections (One EngineSim)
     ∷ []
 
 -- a command's word, and what holds of it
@@ -66,6 +72,9 @@ command_table =
     ∷ record { word = codes "up"; rule = record { name = Up; value = ValueKind.Flag } }
     ∷ record { word = codes "down"; rule = record { name = Down; value = ValueKind.Flag } }
     ∷ record { word = codes "simulate"; rule = record { name = Simulate; value = ValueKind.Number 1 1000 } }
+    ∷ record { word = codes "wait"; rule = record { name = CommandName.Wait; value = ValueKind.Flag } }
+    ∷ record { word = codes "logs"; rule = record { name = Logs; value = ValueKind.Flag } }
+    ∷ record { word = codes "enginesim"; rule = record { name = EngineSim; value = ValueKind.Flag } }
     ∷ []
 
 -- whether a value belongs to what takes this kind
@@ -75,6 +84,7 @@ takes_value ValueKind.Text = true
 takes_value (ValueKind.Number least most) = true
 takes_value ValueKind.Workers = true
 takes_value ValueKind.Format = true
+takes_value ValueKind.Scale = true
 
 -- a word is the option's long name or its short one
 abbrev pub is_named : List ℕ → OptionNames → Bool
@@ -127,6 +137,8 @@ option_number Wait = 13
 option_number WaitTimeout = 14
 option_number Volumes = 15
 option_number Timeout = 16
+option_number Scale = 17
+option_number Connections = 18
 
 -- two options are one
 abbrev pub same_option : OptionName → OptionName → Bool
@@ -138,6 +150,9 @@ command_number Config = 0
 command_number Up = 1
 command_number Down = 2
 command_number Simulate = 3
+command_number CommandName.Wait = 4
+command_number Logs = 5
+command_number EngineSim = 6
 
 -- two commands are one
 abbrev pub same_command : CommandName → CommandName → Bool

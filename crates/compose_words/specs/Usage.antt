@@ -37,6 +37,8 @@ shown_options =
     ∷ shown (codes "N") (codes "wait for at most N seconds")
     ∷ shown (codes "") (codes "remove the project's volumes too")
     ∷ shown (codes "N") (codes "give a container N seconds to stop")
+    ∷ shown (codes "SERVICE=N") (codes "run N containers of this service, 0 to 100")
+    ∷ shown (codes "N") (codes "serve N connections, 1 to 1000000")
     ∷ []
 
 -- what is shown of each command, in the order of the table
@@ -46,6 +48,9 @@ shown_commands =
     ∷ shown (codes "") (codes "create and start what the project declares")
     ∷ shown (codes "") (codes "stop and remove the project's containers and networks")
     ∷ shown (codes "N") (codes "run a project of N services, 1 to 1000, against an Engine in memory")
+    ∷ shown (codes "") (codes "wait until the services run, are healthy or have completed")
+    ∷ shown (codes "") (codes "print what the project's containers wrote")
+    ∷ shown (codes "") (codes "serve an Engine in memory at a socket")
     ∷ []
 
 -- what is only shown of a line of the program's own tables
@@ -112,6 +117,9 @@ unfoldable pub usage_end : List ℕ
 usage_end =
     codes "\n"
     ++ codes "compose --help and compose --version print this text and the version.\n"
+    ++ codes "\n"
+    ++ codes "Built so far: config, also with --quiet; up and down with --memory, also with --remove-orphans.\n"
+    ++ codes "Other words of this page are read, and then refused by the line `not built: words`.\n"
     ++ codes "\n"
     ++ codes "Exit statuses:\n"
     ++ codes "  0  done\n"

@@ -2,14 +2,18 @@ ghost use Rattle.std.specs.Prelude.{◌≡◌, ◌<◌, ◌^◌, IfOk, IsTrue};
 ghost use Rattle.std.specs.Option.{SomeIff};
 ghost use Rattle.std.specs.Str.{all_ascii_digits};
 ghost use Rattle.std.specs.Str.Parse.{digits_value};
-ghost use Rattle.compose_words.specs.Contents.{content_of, format_content, is_numeral, number_content, workers_content};
+ghost use Rattle.compose_words.specs.Contents.{content_of, format_content, is_numeral, number_content, scale_content, scale_of, workers_content};
 
+use crate::options::Scale;
 use crate::table::ValueKind;
 use std::alloc::Global;
 use tree_base::{Memory, Text};
 
 /// The most workers that there may be.
 const MOST_WORKERS: u32 = 16;
+
+/// The most containers that a service may have.
+const MOST_CONTAINERS: u32 = 100;
 
 /// What a value says.
 #[derive(Drop)]
@@ -18,6 +22,8 @@ pub enum Content {
     Number(u32),
     /// Whether the page is JSON.
     Format(bool),
+    /// How many containers a service has.
+    Scale(Scale),
     /// Nothing that its kind wants.
     Wrong,
 }
@@ -32,6 +38,7 @@ pub(crate) fn content_of(alloc: Global, kind: ValueKind, text: &str) -> Result<C
         ValueKind::Number { least, most } => Ok(number_content(least, most, text)),
         ValueKind::Workers => Ok(workers_content(text)),
         ValueKind::Format => Ok(format_content(text)),
+        ValueKind::Scale => scale_content(alloc, text),
     }
 }
 
@@ -55,6 +62,30 @@ fn format_content(text: &str) -> Content
         return Content::Format(true);
     }
     Content::Wrong
+}
+
+fn scale_content(alloc: Global, text: &str) -> Result<Content, Memory>
+    ensures { IfOk result (λ content. content ≡ scale_content text.now) }
+{
+    match text.split_once('=') {
+        None => Ok(Content::Wrong),
+        Some((service, number)) => scale_of(alloc, service, number),
+    }
+}
+
+fn scale_of(alloc: Global, service: &str, number: &str) -> Result<Content, Memory>
+    ensures { IfOk result (λ content. content ≡ scale_of service.now number.now) }
+{
+    if service.is_empty() {
+        return Ok(Content::Wrong);
+    }
+    match numeral(number) {
+        Some(number) if number <= MOST_CONTAINERS => Ok(Content::Scale(Scale {
+            service: Text::from_str(alloc, service)?,
+            number,
+        })),
+        _ => Ok(Content::Wrong),
+    }
 }
 
 fn number_content(least: u32, most: u32, text: &str) -> Content

@@ -19,7 +19,7 @@ mod usage;
 
 pub use law::items_tile_words;
 pub use notice::{Notice, notice_of};
-pub use options::{Command, Options};
+pub use options::{Command, Options, Scale};
 pub use read::read_words;
 pub use refusal::WordsRefusal;
 pub use usage::{help_text, version_text};

@@ -1,10 +1,11 @@
 ghost use Rattle.std.specs.Prelude.{◌≡◌, IfOk};
 ghost use Rattle.std.specs.Option.{option_copied, option_map};
-ghost use Rattle.compose_words.specs.Lookups.{first_given, first_verb, format_in, number_in, text_in, value_given, values_given, verb_of};
+ghost use Rattle.compose_words.specs.Lookups.{first_given, first_verb, format_in, number_in, scale_in, text_in, value_given, values_given, verb_of};
+ghost use Rattle.compose_words.specs.declared.table.OptionName.{OptionName};
 
 use crate::content::Content;
 use crate::item::{Item, Role, Value};
-use crate::options::Verb;
+use crate::options::{Scale, Verb};
 use crate::table::{CommandName, OptionName};
 use std::alloc::Global;
 use tree_base::{List, Memory, Text};
@@ -17,6 +18,7 @@ impl Content {
             Content::Text(text) => Some(text),
             Content::Number(_) => None,
             Content::Format(_) => None,
+            Content::Scale(_) => None,
             Content::Wrong => None,
         }
     }
@@ -28,6 +30,7 @@ impl Content {
             Content::Text(_) => None,
             Content::Number(number) => Some(*number),
             Content::Format(_) => None,
+            Content::Scale(_) => None,
             Content::Wrong => None,
         }
     }
@@ -39,6 +42,19 @@ impl Content {
             Content::Text(_) => None,
             Content::Number(_) => None,
             Content::Format(json) => Some(*json),
+            Content::Scale(_) => None,
+            Content::Wrong => None,
+        }
+    }
+
+    fn scale(&self) -> Option<&Scale>
+        ensures { option_copied result ≡ scale_in self.now }
+    {
+        match self {
+            Content::Text(_) => None,
+            Content::Number(_) => None,
+            Content::Format(_) => None,
+            Content::Scale(scale) => Some(scale),
             Content::Wrong => None,
         }
     }
@@ -72,6 +88,15 @@ impl Item {
         }
     }
 
+    fn scale_given(&self, name: OptionName) -> Option<&Scale>
+        ensures { option_copied result ≡ value_given scale_in name self.now }
+    {
+        match &self.value {
+            Some(value) if self.gives(name) => value.content.scale(),
+            _ => None,
+        }
+    }
+
     fn verb(&self) -> Option<Verb>
         ensures { result ≡ verb_of self.now }
     {
@@ -86,6 +111,9 @@ impl Item {
                 Some(value) => simulation(value),
                 None => None,
             },
+            CommandName::Wait => Some(Verb::Wait),
+            CommandName::Logs => Some(Verb::Logs),
+            CommandName::EngineSim => Some(Verb::EngineSim),
         }
     }
 }
@@ -110,6 +138,19 @@ pub(crate) fn texts(alloc: Global, items: &[Item], name: OptionName) -> Result<L
         }
     }
     Ok(texts)
+}
+
+/// How many containers were given to each service, from left to right.
+pub(crate) fn scales(alloc: Global, items: &[Item]) -> Result<List<Scale>, Memory>
+    ensures { IfOk result (λ scales. scales ≡ values_given scale_in OptionName.Scale items.now) }
+{
+    let mut scales = List::new(alloc);
+    for item in items {
+        if let Some(scale) = item.scale_given(OptionName::Scale) {
+            scales.push(scale.copy(alloc)?)?;
+        }
+    }
+    Ok(scales)
 }
 
 /// The text that was given to an option first.

@@ -2,7 +2,7 @@ ghost use Rattle.std.specs.Prelude.{◌≡◌, IfOk};
 ghost use Rattle.compose_words.specs.Lookups.{command_with, format_in, name_of, number_in, options_with, values_given, first_given, text_in};
 
 use crate::item::Item;
-use crate::lookup::{first_format, first_number, first_text, texts};
+use crate::lookup::{first_format, first_number, first_text, scales, texts};
 use crate::refusal::is_given;
 use crate::table::{CommandName, OptionName};
 use std::alloc::Global;
@@ -10,6 +10,25 @@ use tree_base::{List, Memory, Text};
 
 /// How many workers there are where nothing is said.
 const USUAL_WORKERS: u32 = 4;
+
+/// How many containers a service has: 0 to 100.
+#[derive(Debug, Drop)]
+pub struct Scale {
+    pub service: Text,
+    pub number: u32,
+}
+
+impl Scale {
+    /// A copy.
+    pub(crate) fn copy(&self, alloc: Global) -> Result<Scale, Memory>
+        ensures { IfOk result (λ copy. copy ≡ self.now) }
+    {
+        Ok(Scale {
+            service: self.service.copy(alloc)?,
+            number: self.number,
+        })
+    }
+}
 
 /// A command with its options, as a command line gives them. Paths and names stand as they were given.
 #[derive(Debug, Drop)]
@@ -37,7 +56,7 @@ pub struct Options {
 }
 
 /// A command with the options that are its own. Times are in seconds, at most 1,000,000.
-#[derive(Debug, Drop, Clone, Copy, PartialEq, Eq)]
+#[derive(Debug, Drop)]
 pub enum Command {
     /// Prints the project: as JSON, or nothing at all.
     Config {
@@ -49,6 +68,8 @@ pub enum Command {
         orphans: bool,
         wait: bool,
         wait_seconds: Option<u32>,
+        /// `--scale`, in order.
+        scale: List<Scale>,
     },
     /// Stops and removes it.
     Down {
@@ -60,6 +81,14 @@ pub enum Command {
     Simulate {
         number: u32,
     },
+    /// Waits until the project's services have reached their goals.
+    Wait,
+    /// Prints what the project's containers wrote.
+    Logs,
+    /// Serves so many connections to an Engine in memory, 1 to 1,000,000.
+    EngineSim {
+        connections: u32,
+    },
 }
 
 /// A command with its number alone.
@@ -69,6 +98,9 @@ pub enum Verb {
     Up,
     Down,
     Simulate(u32),
+    Wait,
+    Logs,
+    EngineSim,
 }
 
 impl Verb {
@@ -81,30 +113,39 @@ impl Verb {
             Verb::Up => CommandName::Up,
             Verb::Down => CommandName::Down,
             Verb::Simulate(_) => CommandName::Simulate,
+            Verb::Wait => CommandName::Wait,
+            Verb::Logs => CommandName::Logs,
+            Verb::EngineSim => CommandName::EngineSim,
         }
     }
 }
 
 /// The command with its own options.
-fn command_with(verb: Verb, items: &[Item]) -> Command
-    ensures { result ≡ command_with verb items.now }
+fn command_with(alloc: Global, verb: Verb, items: &[Item]) -> Result<Command, Memory>
+    ensures { IfOk result (λ command. command ≡ command_with verb items.now) }
 {
     match verb {
-        Verb::Config => Command::Config {
+        Verb::Config => Ok(Command::Config {
             json: first_format(items, OptionName::Format).unwrap_or(false),
             quiet: is_given(items, OptionName::Quiet),
-        },
-        Verb::Up => Command::Up {
+        }),
+        Verb::Up => Ok(Command::Up {
             orphans: is_given(items, OptionName::RemoveOrphans),
             wait: is_given(items, OptionName::Wait),
             wait_seconds: first_number(items, OptionName::WaitTimeout),
-        },
-        Verb::Down => Command::Down {
+            scale: scales(alloc, items)?,
+        }),
+        Verb::Down => Ok(Command::Down {
             orphans: is_given(items, OptionName::RemoveOrphans),
             volumes: is_given(items, OptionName::Volumes),
             seconds: first_number(items, OptionName::Timeout),
-        },
-        Verb::Simulate(number) => Command::Simulate { number },
+        }),
+        Verb::Simulate(number) => Ok(Command::Simulate { number }),
+        Verb::Wait => Ok(Command::Wait),
+        Verb::Logs => Ok(Command::Logs),
+        Verb::EngineSim => Ok(Command::EngineSim {
+            connections: first_number(items, OptionName::Connections).unwrap_or(1),
+        }),
     }
 }
 
@@ -114,7 +155,6 @@ pub(crate) fn options_with(alloc: Global, verb: Verb, items: &[Item]) -> Result<
 {
     let workers = first_number(items, OptionName::Parallel);
     Ok(Options {
-        command: command_with(verb, items),
         files: texts(alloc, items, OptionName::File)?,
         project: first_text(alloc, items, OptionName::ProjectName)?,
         directory: first_text(alloc, items, OptionName::ProjectDirectory)?,
@@ -124,5 +164,6 @@ pub(crate) fn options_with(alloc: Global, verb: Verb, items: &[Item]) -> Result<
         socket: first_text(alloc, items, OptionName::Socket)?,
         in_memory: is_given(items, OptionName::Memory),
         stop_file: first_text(alloc, items, OptionName::StopFile)?,
+        command: command_with(alloc, verb, items)?,
     })
 }

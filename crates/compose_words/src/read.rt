@@ -5,7 +5,7 @@ ghost use Rattle.compose_words.specs.Reading.{IsUnlessMemory, items_or_refusal, 
 use crate::item::{Item, item_of};
 use crate::lookup::first_verb;
 use crate::options::{Options, options_with};
-use crate::refusal::{WordsRefusal, foreign_refusal, item_refusal};
+use crate::refusal::{WordsRefusal, foreign_refusal, item_refusal, unserved_refusal};
 use std::alloc::Global;
 use tree_base::{List, Text};
 
@@ -13,8 +13,8 @@ use tree_base::{List, Text};
 ///
 /// An option may stand before or behind the command. Its value is the next word, whatever that is, or for
 /// a long name what stands behind `=`. The answer is the first refusal from the left; then `NoCommand`;
-/// then `UnknownWord` at the first option that isn't the command's; and else the options. `Memory` comes
-/// where no memory is left, and `BadHost` never. Numbers are within the bounds of their options, and the
+/// then `UnknownWord` at the first option that isn't the command's; then `MissingValue` at `enginesim` without
+/// `--socket` or `--connections`; and else the options. `Memory` comes where no memory is left, and `BadHost` never. Numbers are within the bounds of their options, and the
 /// place of a refusal is that of one of the words.
 pub fn read_words(alloc: Global, words: &List<Text>) -> Result<Options, WordsRefusal>
     requires { length words.now < 2 ^ 32 }
@@ -53,6 +53,9 @@ fn options_of_items(alloc: Global, items: &[Item]) -> Result<Options, WordsRefus
         return Err(WordsRefusal::NoCommand);
     };
     if let Some(refusal) = foreign_refusal(items, verb.name()) {
+        return Err(refusal);
+    }
+    if let Some(refusal) = unserved_refusal(items, verb) {
         return Err(refusal);
     }
     Ok(options_with(alloc, verb, items)?)

@@ -1,9 +1,11 @@
-ghost use Rattle.std.specs.Prelude.{◌≡◌};
+ghost use Rattle.std.specs.Prelude.{◌≡◌, None, Some, if◌then◌else◌};
 ghost use Rattle.std.specs.List.{list_any};
-ghost use Rattle.compose_words.specs.Refusals.{content_refusal, foreign_refusal, gives, is_command, is_foreign, item_refusal, option_refusal, command_refusal, value_refusal, wrong_value};
+ghost use Rattle.compose_words.specs.declared.refusal.WordsRefusal.{WordsRefusal};
+ghost use Rattle.compose_words.specs.Refusals.{again_refusal, command_refusal, content_refusal, content_scales, foreign_refusal, gives, has_server_options, is_command, is_foreign, item_refusal, missing_at_command, option_refusal, scale_refusal, scales, server_refusal, unserved_refusal, value_refusal, wrong_value};
 
 use crate::content::Content;
 use crate::item::{Item, Role, Value};
+use crate::options::Verb;
 use crate::table::{CommandName, CommandRule, OptionName, OptionRule, ValueKind};
 use std::error::Error;
 use std::fmt;
@@ -86,6 +88,15 @@ impl Item {
         }
     }
 
+    fn scales(&self, service: &str) -> bool
+        ensures { result ≡ scales service.now self.now }
+    {
+        match &self.value {
+            Some(value) => value.content.scales(service),
+            None => false,
+        }
+    }
+
     fn is_foreign(&self, command: CommandName) -> bool
         ensures { result ≡ is_foreign command self.now }
     {
@@ -93,6 +104,20 @@ impl Item {
             Role::Option(rule) => !rule.users.serves(command),
             Role::Command(_) => false,
             Role::Stray => false,
+        }
+    }
+}
+
+impl Content {
+    fn scales(&self, service: &str) -> bool
+        ensures { result ≡ content_scales service.now self.now }
+    {
+        match self {
+            Content::Text(_) => false,
+            Content::Number(_) => false,
+            Content::Format(_) => false,
+            Content::Scale(scale) => scale.service.as_str() == service,
+            Content::Wrong => false,
         }
     }
 }
@@ -127,7 +152,49 @@ fn option_refusal(before: &[Item], item: &Item, rule: OptionRule) -> Option<Word
     if !rule.repeats && is_given(before, rule.name) {
         return Some(WordsRefusal::Twice { at: item.at });
     }
-    value_refusal(item.at, rule.value, &item.value)
+    match value_refusal(item.at, rule.value, &item.value) {
+        Some(refusal) => Some(refusal),
+        None => again_refusal(before, &item.value),
+    }
+}
+
+/// The refusal of a value whose service was given a number before.
+fn again_refusal(before: &[Item], value: &Option<Value>) -> Option<WordsRefusal>
+    ensures { result ≡ again_refusal before.now value.now }
+{
+    match value {
+        Some(value) => scale_refusal(before, value.at, &value.content),
+        None => None,
+    }
+}
+
+fn scale_refusal(before: &[Item], at: u32, content: &Content) -> Option<WordsRefusal>
+    ensures { result ≡ scale_refusal before.now at content.now }
+{
+    match content {
+        Content::Text(_) => None,
+        Content::Number(_) => None,
+        Content::Format(_) => None,
+        Content::Scale(scale) => twice_if(is_scaled(before, scale.service.as_str()), at),
+        Content::Wrong => None,
+    }
+}
+
+fn twice_if(again: bool, at: u32) -> Option<WordsRefusal>
+    ensures { result ≡ (if again then Some (WordsRefusal.Twice at) else None) }
+{
+    if again {
+        Some(WordsRefusal::Twice { at })
+    } else {
+        None
+    }
+}
+
+/// Whether a number was given to a service.
+fn is_scaled(items: &[Item], service: &str) -> bool
+    ensures { result ≡ list_any (scales service.now) items.now }
+{
+    items.iter().any(|item| item.scales(service))
 }
 
 fn command_refusal(before: &[Item], item: &Item, rule: CommandRule) -> Option<WordsRefusal>
@@ -156,6 +223,7 @@ fn content_refusal(kind: ValueKind, at: u32, content: &Content) -> Option<WordsR
         Content::Text(_) => None,
         Content::Number(_) => None,
         Content::Format(_) => None,
+        Content::Scale(_) => None,
         Content::Wrong => Some(wrong_value(kind, at)),
     }
 }
@@ -177,4 +245,39 @@ pub(crate) fn foreign_refusal(items: &[Item], command: CommandName) -> Option<Wo
         .iter()
         .find(|item| item.is_foreign(command))
         .map(|item| WordsRefusal::UnknownWord { at: item.at })
+}
+
+/// The refusal of `enginesim` without its socket, or without the number of its connections: at the command's word.
+pub(crate) fn unserved_refusal(items: &[Item], verb: Verb) -> Option<WordsRefusal>
+    ensures { result ≡ unserved_refusal verb items.now }
+{
+    match verb {
+        Verb::EngineSim => server_refusal(items),
+        _ => None,
+    }
+}
+
+fn server_refusal(items: &[Item]) -> Option<WordsRefusal>
+    ensures { result ≡ server_refusal items.now }
+{
+    if has_server_options(items) {
+        None
+    } else {
+        missing_at_command(items)
+    }
+}
+
+fn has_server_options(items: &[Item]) -> bool
+    ensures { result ≡ has_server_options items.now }
+{
+    is_given(items, OptionName::Socket) && is_given(items, OptionName::Connections)
+}
+
+fn missing_at_command(items: &[Item]) -> Option<WordsRefusal>
+    ensures { result ≡ missing_at_command items.now }
+{
+    items
+        .iter()
+        .find(|item| item.is_command())
+        .map(|item| WordsRefusal::MissingValue { at: item.at })
 }

@@ -22,6 +22,8 @@ pub enum OptionName {
     WaitTimeout,
     Volumes,
     Timeout,
+    Scale,
+    Connections,
 }
 
 /// What a command does, whatever its word on the command line is.
@@ -31,6 +33,9 @@ pub enum CommandName {
     Up,
     Down,
     Simulate,
+    Wait,
+    Logs,
+    EngineSim,
 }
 
 /// The kind of value that belongs to an option or a command.
@@ -46,6 +51,8 @@ pub enum ValueKind {
     Workers,
     /// The form of a page: `yaml` or `json`.
     Format,
+    /// A service and how many containers it has: `SERVICE=NUM`.
+    Scale,
 }
 
 /// The commands that an option is for.
@@ -97,6 +104,11 @@ const SECONDS: ValueKind = ValueKind::Number {
     most: 1_000_000,
 };
 
+const CONNECTIONS: ValueKind = ValueKind::Number {
+    least: 1,
+    most: 1_000_000,
+};
+
 const UP: Users = Users::One(CommandName::Up);
 
 const DOWN: Users = Users::One(CommandName::Down);
@@ -104,6 +116,8 @@ const DOWN: Users = Users::One(CommandName::Down);
 const CONFIG: Users = Users::One(CommandName::Config);
 
 const UP_AND_DOWN: Users = Users::Two(CommandName::Up, CommandName::Down);
+
+const ENGINE_SIM: Users = Users::One(CommandName::EngineSim);
 
 const EVERY: Users = Users::Every;
 
@@ -135,7 +149,7 @@ macro_rules! option_lines {
 }
 
 /// The table of options. A flag may always be given again.
-static OPTIONS: [OptionLine; 17] = option_lines! {
+static OPTIONS: [OptionLine; 19] = option_lines! {
     "--file" "-f" File: many ValueKind::Text, for EVERY; "PATH" "read this Compose file; later ones are merged over earlier ones"
     "--project-name" "-p" ProjectName: once ValueKind::Text, for EVERY; "NAME" "name the project"
     "--project-directory" - ProjectDirectory: once ValueKind::Text, for EVERY; "PATH" "resolve relative paths against this directory"
@@ -153,6 +167,8 @@ static OPTIONS: [OptionLine; 17] = option_lines! {
     "--wait-timeout" - WaitTimeout: once SECONDS, for UP; "N" "wait for at most N seconds"
     "--volumes" "-v" Volumes: many ValueKind::Flag, for DOWN; "" "remove the project's volumes too"
     "--timeout" "-t" Timeout: once SECONDS, for DOWN; "N" "give a container N seconds to stop"
+    "--scale" - Scale: many ValueKind::Scale, for UP; "SERVICE=N" "run N containers of this service, 0 to 100"
+    "--connections" - Connections: once CONNECTIONS, for ENGINE_SIM; "N" "serve N connections, 1 to 1000000"
 };
 
 macro_rules! command_lines {
@@ -167,11 +183,14 @@ macro_rules! command_lines {
 }
 
 /// The table of commands.
-static COMMANDS: [CommandLine; 4] = command_lines! {
+static COMMANDS: [CommandLine; 7] = command_lines! {
     "config" Config: ValueKind::Flag; "" "print the project as one normalized page"
     "up" Up: ValueKind::Flag; "" "create and start what the project declares"
     "down" Down: ValueKind::Flag; "" "stop and remove the project's containers and networks"
     "simulate" Simulate: ValueKind::Number { least: 1, most: 1000 }; "N" "run a project of N services, 1 to 1000, against an Engine in memory"
+    "wait" Wait: ValueKind::Flag; "" "wait until the services run, are healthy or have completed"
+    "logs" Logs: ValueKind::Flag; "" "print what the project's containers wrote"
+    "enginesim" EngineSim: ValueKind::Flag; "" "serve an Engine in memory at a socket"
 };
 
 impl OptionLine {
@@ -207,6 +226,7 @@ impl ValueKind {
             ValueKind::Number { .. } => true,
             ValueKind::Workers => true,
             ValueKind::Format => true,
+            ValueKind::Scale => true,
         }
     }
 }

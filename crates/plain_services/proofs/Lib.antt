@@ -9,4 +9,3 @@ pub mod Ordering
 pub mod ReadBack
 pub mod Shapes
 pub mod Walks
-pub mod Words

@@ -1,12 +1,10 @@
 -- What is loaded, by what the read of the file was answered, and by the tree of its text.
 use Rattle.std.proofs.Common.{◌≡◌, ℕ, false, List, Option, Some, None, ◌≤◌, length, subst, refl, ap, sym, ◌∙◌, rules, tests}
-use Rattle.std.specs.Prelude.{Result, IfSome, is_none, nat_lt}
+use Rattle.std.specs.Prelude.{Result, IfSome, nat_lt}
 use Rattle.tree_base.specs.Entries.{value_at}
 use Rattle.outside_files.specs.Files.{Contents}
-use Rattle.plain_services.specs.Commands.{command_of}
 use Rattle.plain_services.specs.Directories.{base_name}
-use Rattle.plain_services.specs.Loading.{loaded, loaded_for, read, spelled, tree_in, compose_path, file_limit, LoadsAs}
-use Rattle.plain_services.specs.declared.command.Command.{Command}
+use Rattle.plain_services.specs.Loading.{loaded, read, spelled, tree_in, compose_path, file_limit, LoadsAs}
 use Rattle.service_attrs.specs.declared.Project.{Project}
 use Rattle.plain_services.specs.declared.refusal.PlainRefusal.{PlainRefusal}
 
@@ -14,17 +12,12 @@ pub IfSome-map : {A : Type 0} (o : Option A) (P Q : A → Type 0) → IfSome o P
 IfSome-map None P Q h k = tt
 IfSome-map (Some x) P Q h k = k x h
 
-module _ (words : List (List ℕ)) (directory : List ℕ) (files : Contents) (path base : List ℕ) (asked : is_none (command_of words) ≡ false) (path_is : path ≡ compose_path directory)
-    (base_is : base ≡ base_name directory) (answer : Result Project PlainRefusal) where
-  is_read : loaded words directory files ≡ read path base (value_at files path)
-  is_read = at (command_of words) asked ∙ ap (λ (p : List ℕ). read p (base_name directory) (value_at files p)) (sym path_is) ∙ ap (λ (b : List ℕ). read path b (value_at files path)) (sym base_is)
-    where
-      at : (o : Option Command) → is_none o ≡ false → loaded_for o directory files ≡ read (compose_path directory) (base_name directory) (value_at files (compose_path directory))
-      at None e = absurd (cc e)
-      at (Some command) e = refl
+module _ (directory : List ℕ) (files : Contents) (path base : List ℕ) (path_is : path ≡ compose_path directory) (base_is : base ≡ base_name directory) (answer : Result Project PlainRefusal) where
+  is_read : loaded directory files ≡ read path base (value_at files path)
+  is_read = ap (λ (p : List ℕ). read p (base_name directory) (value_at files p)) (sym path_is) ∙ ap (λ (b : List ℕ). read path b (value_at files path)) (sym base_is)
 
-  pub loads_bytes : (bytes : List ℕ) → value_at files path ≡ Some bytes → length bytes ≤ file_limit → LoadsAs (spelled path base (tree_in bytes)) answer → LoadsAs (loaded words directory files) answer
+  pub loads_bytes : (bytes : List ℕ) → value_at files path ≡ Some bytes → length bytes ≤ file_limit → LoadsAs (spelled path base (tree_in bytes)) answer → LoadsAs (loaded directory files) answer
   loads_bytes bytes there within h =
       let within_limit : nat_lt file_limit (length bytes) ≡ false = search (rules, tests) in
-      let e : loaded words directory files ≡ spelled path base (tree_in bytes) = is_read ∙ rw (there, within_limit) refl in
+      let e : loaded directory files ≡ spelled path base (tree_in bytes) = is_read ∙ rw (there, within_limit) refl in
       subst (λ expected. LoadsAs expected answer) (sym e) h

@@ -1,5 +1,4 @@
 pub mod Answers
-pub mod Commands
 pub mod Directories
 pub mod Laws
 pub mod Loading

@@ -1,19 +1,16 @@
--- What the words and the file in the working directory give: a project, or the first refusal.
+-- What the file in the working directory gives: a project, or the first refusal.
 use Rattle.std.specs.Prelude.{◌≡◌, ℕ, if◌then◌else◌, List, [], ◌∷◌, Option, Some, None, Result, Ok, Err, nat_lt, length, codes}
 use Rattle.tree_base.specs.Answers.{◌>>=◌}
 use Rattle.tree_base.specs.Entries.{value_at}
 use Rattle.tree_base.specs.declared.Tree.{Tree}
 use Rattle.outside_files.specs.Files.{Contents}
-use Rattle.plain_services.specs.Commands.{command_of}
 use Rattle.plain_services.specs.Directories.{path_in, base_name}
 use Rattle.plain_services.specs.ProjectNames.{name_from}
 use Rattle.plain_services.specs.Shape.{services_in}
-use Rattle.plain_services.specs.declared.command.Command.{Command}
 use Rattle.service_attrs.specs.declared.Project.{Project}
 use Rattle.plain_services.specs.declared.refusal.PlainRefusal.{PlainRefusal}
 use Rattle.plain_services.specs.declared.refusal.LoadRefusal.{LoadRefusal}
 use Rattle.plain_services.specs.declared.refusal.ProjectRefusal.{ProjectRefusal}
-use Rattle.plain_services.specs.declared.refusal.Unbuilt.{Unbuilt}
 use Rattle.yaml_lines.specs.Scan.{scan_of}
 use Rattle.yaml_lines.specs.declared.Lines.{Lines}
 use Rattle.yaml_lines.specs.declared.YamlRefusal.{YamlRefusal}
@@ -60,14 +57,9 @@ read path base (Some bytes) =
 abbrev pub IsSpelled : List ℕ → Project → Type 0
 IsSpelled directory project = (text : List ℕ) × (spelled (compose_path directory) (base_name directory) (tree_in text) ≡ Ok project)
 
--- what is loaded where this is the command
-abbrev pub loaded_for : Option Command → List ℕ → Contents → Result Project PlainRefusal
-loaded_for None directory files = Err (PlainRefusal.NotBuilt Unbuilt.Words)
-loaded_for (Some command) directory files = read (compose_path directory) (base_name directory) (value_at files (compose_path directory))
-
--- what is loaded: words before the file, the file before its text, the text before the project's name, and that before its services
-abbrev pub loaded : List (List ℕ) → List ℕ → Contents → Result Project PlainRefusal
-loaded words = loaded_for (command_of words)
+-- what is loaded: the file before its text, the text before the project's name, and that before its services
+abbrev pub loaded : List ℕ → Contents → Result Project PlainRefusal
+loaded directory files = read (compose_path directory) (base_name directory) (value_at files (compose_path directory))
 
 -- an answer is what is loaded; a read that failed and a want of memory may stand in its place
 abbrev pub LoadsAs : {X : Type 0} → Result X PlainRefusal → Result X PlainRefusal → Type 0

@@ -1,12 +1,11 @@
 //! Loads the project of a Compose file whose services have an image each and no network: the shape of a project that is
 //! built so far, with at most 1,000 services.
 //!
-//! The contract of `load` says which project the words, the directory and the files give, or the first refusal, whose
+//! The contract of `load` says which project the directory and the files give, or the first refusal, whose
 //! words and exit status this crate says too. Laws say that services, as a file has them, are loaded as those services,
 //! and that none is lost.
 #![tactic(auto)]
 
-mod command;
 mod directory;
 mod entries;
 mod laws;
@@ -21,7 +20,6 @@ mod shape;
 mod status;
 mod unbuilt;
 
-pub use command::{Command, command_of};
 pub use laws::{no_service_is_lost, services_read_back};
 pub use loading::load;
 pub use message::{load_words, project_words, refusal_words, unbuilt_words};

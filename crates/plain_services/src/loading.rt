@@ -1,6 +1,5 @@
-ghost use Rattle.std.specs.Prelude.{◌≡◌, Err, None, IfSome, IfOk, IsNone};
+ghost use Rattle.std.specs.Prelude.{◌≡◌, Err, IfSome, IfOk};
 ghost use Rattle.outside_files.specs.Counts.{Rose};
-ghost use Rattle.plain_services.specs.Commands.{command_of};
 ghost use Rattle.plain_services.specs.Directories.{base_name};
 ghost use Rattle.plain_services.specs.Loading.{loaded, spelled, project_of, named, tree_in, compose_path, IsSpelled, LoadsAs};
 ghost use Rattle.service_attrs.specs.Projects.{IsInOrder};
@@ -10,31 +9,31 @@ ghost use Rattle.plain_services.specs.declared.refusal.PlainRefusal.{PlainRefusa
 ghost use Rattle.plain_services.specs.declared.refusal.LoadRefusal.{LoadRefusal};
 ghost use Rattle.plain_services.specs.declared.refusal.Unbuilt.{Unbuilt};
 
-use crate::refusal::{LoadRefusal, PlainRefusal, ProjectRefusal, Unbuilt};
+use crate::refusal::{LoadRefusal, PlainRefusal, ProjectRefusal};
 use crate::shape::services_in;
-use crate::{command, directory, project_name};
+use crate::{directory, project_name};
 use outside_files::{FileAnswer, Files};
 use service_attrs::Project;
 use std::alloc::Global;
-use tree_base::{List, Memory, Text, Tree};
+use tree_base::{Memory, Text, Tree};
 use yaml_lines::{YamlRefusal, scan};
 
 /// The greatest number of bytes of a file.
 const FILE_LIMIT: u64 = 4_194_304;
 
-/// Loads the project of the Compose file in a directory, where the words are those of a command. The refusals, in their
-/// order: `NotBuilt(Words)` for other words; `Load(NotFound)` and `Load(FileTooLarge)` for the file; `Load(Yaml)` for the
-/// first fault of its text; `Name(BadName)`; `NotBuilt(Attribute)` and `Project(TooManyServices)` for what the file's tree
-/// has beside such services. `Load(ReadFault)` comes where a read failed, and `Memory` where memory was wanted.
+/// Loads the project of the Compose file in a directory. The refusals, in their order: `Load(NotFound)` and
+/// `Load(FileTooLarge)` for the file; `Load(Yaml)` for the first fault of its text; `Name(BadName)`; `NotBuilt(Attribute)` and
+/// `Project(TooManyServices)` for what the file's tree has beside such services. `Load(ReadFault)` comes where a read failed,
+/// and `Memory` where memory was wanted.
 pub fn load<F: Files>(
     alloc: Global,
-    words: &List<Text>,
     directory: &Text,
     files: &mut F,
 ) -> Result<Project, PlainRefusal>
-    ensures told { IfSome (F.told files.old) (λ contents. LoadsAs (loaded words.now directory.now contents) result) }
-    ensures words { IsNone (command_of words.now) → result ≡ Err (PlainRefusal.NotBuilt Unbuilt.Words) }
-    ensures words_only { result ≡ Err (PlainRefusal.NotBuilt Unbuilt.Words) → command_of words.now ≡ None }
+    ensures told { IfSome (F.told files.old) (λ contents. LoadsAs (loaded directory.now contents) result) }
+
+    // Words aren't read here, and so aren't refused.
+    ensures words { result ≡ Err (PlainRefusal.NotBuilt Unbuilt.Words) → ⊥ }
 
     // Also of files that aren't told: some text spells the project, and its services are in order.
     ensures text { IfOk result (IsSpelled directory.now) }
@@ -45,9 +44,6 @@ pub fn load<F: Files>(
     ensures read { (path : _) → result ≡ Err (PlainRefusal.Load (LoadRefusal.ReadFault path)) → Rose (F.faults files.old) (F.faults files.new) }
     ensures kept { F.told files.new ≡ F.told files.old }
 {
-    if command::command_of(words).is_none() {
-        return Err(PlainRefusal::NotBuilt(Unbuilt::Words));
-    }
     let Ok((path, base)) = locate(alloc, directory) else {
         return Err(PlainRefusal::Memory);
     };

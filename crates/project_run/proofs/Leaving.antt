@@ -1,5 +1,5 @@
 -- What a run leaves, from how it opened and how its plan was carried out.
-use Rattle.std.proofs.Common.{◌≡◌, List, [], ◌∷◌, ◌++◌, Option, Some, reverse, refl, sym, ap, ◌∙◌, subst, inl, inr}
+use Rattle.std.proofs.Common.{◌≡◌, ℕ, List, [], ◌∷◌, ◌++◌, Option, Some, reverse, refl, sym, ap, ◌∙◌, subst, inl, inr}
 use Rattle.std.specs.Prelude.{unwrap_or}
 use Rattle.engine_types.specs.declared.Action.{Action}
 use Rattle.engine_types.specs.declared.Declared.{Declared}
@@ -11,7 +11,7 @@ use Rattle.engine_types.specs.declared.Seen.{Seen}
 use Rattle.engine_types.specs.declared.SeenEnd.{SeenEnd}
 use Rattle.engine_types.specs.declared.SeenFault.{SeenFault}
 use Rattle.observe_project.specs.Exchanges.{HasCauseOfEnd}
-use Rattle.observe_project.proofs.Ways.{grows-append}
+use Rattle.observe_project.proofs.Ways.{grows-append, told-append}
 use Rattle.outside_api.proofs.Accounts.{caused-append}
 use Rattle.outside_api.specs.Accounts.{Account, AreCaused}
 use Rattle.run_model.specs.Ending.{first_fault}

@@ -8,6 +8,7 @@ use Rattle.refusals.specs.Saying.{IsSaid, IsSaidIfAny}
 pub said : (refusal : Refusal) (found : Option Refusal) → IsSaid refusal found → (P : Option Refusal → Type 0) → P (Some Refusal.Memory) → P (Some refusal) → P found
 said refusal None h P memory is = subst P (sym h) is
 said refusal (Some Refusal.Memory) h P memory is = memory
+said refusal (Some (Refusal.Words words)) h P memory is = subst P (sym h) is
 said refusal (Some (Refusal.NotBuilt unbuilt)) h P memory is = subst P (sym h) is
 said refusal (Some (Refusal.Load load)) h P memory is = subst P (sym h) is
 said refusal (Some (Refusal.Name name)) h P memory is = subst P (sym h) is

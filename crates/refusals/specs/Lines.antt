@@ -1,5 +1,6 @@
 -- The line that each refusal prints.
 use Rattle.std.specs.Prelude.{ℕ, List, ◌++◌, codes}
+use Rattle.compose_words.specs.Printed.{refusal_text}
 use Rattle.run_model.specs.Lines.{line, fault_words}
 use Rattle.engine_types.specs.declared.RunFault.{RunFault}
 use Rattle.plain_services.specs.Messages.{load_words, project_words, unbuilt_words}
@@ -13,6 +14,7 @@ part_words Part.Plug = codes "Plug"
 
 -- what a refusal says
 abbrev pub refusal_words : Refusal → List ℕ
+refusal_words (Refusal.Words refusal) = refusal_text refusal
 refusal_words (Refusal.NotBuilt unbuilt) = unbuilt_words unbuilt
 refusal_words (Refusal.Load refusal) = load_words refusal
 refusal_words (Refusal.Name refusal) = project_words refusal

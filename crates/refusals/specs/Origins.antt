@@ -1,20 +1,30 @@
 -- Where in a call a refusal comes from: before a hand is made, or from the run.
-use Rattle.std.specs.Prelude.{Option, Some}
+use Rattle.std.specs.Prelude.{Bool, true, false, Option, Some}
+use Rattle.compose_words.specs.declared.WordsRefusal.{WordsRefusal}
 use Rattle.engine_types.specs.declared.RunFault.{RunFault}
 use Rattle.plain_services.specs.declared.PlainRefusal.{PlainRefusal}
+use Rattle.plain_services.specs.declared.Unbuilt.{Unbuilt}
 use Rattle.refusals.specs.declared.refusal.Refusal.{Refusal}
 use Rattle.refusals.specs.declared.refusal.Part.{Part}
 
 -- a refusal of the words, of loading, of the project's name, or of what it declares
 abbrev pub IsOfLoading : Option Refusal → Type 0
+IsOfLoading (Some (Refusal.Words refusal)) = Unit {0}
 IsOfLoading (Some (Refusal.NotBuilt unbuilt)) = Unit {0}
 IsOfLoading (Some (Refusal.Load refusal)) = Unit {0}
 IsOfLoading (Some (Refusal.Name refusal)) = Unit {0}
 IsOfLoading (Some (Refusal.Project refusal)) = Unit {0}
 IsOfLoading _ = ⊥
 
+-- a refusal of the words: they are none, or ask for what isn't built
+abbrev pub is_of_words : Refusal → Bool
+is_of_words (Refusal.Words refusal) = true
+is_of_words (Refusal.NotBuilt Unbuilt.Words) = true
+is_of_words _ = false
+
 -- a refusal that comes before the dial
 abbrev pub IsBeforeDial : Refusal → Type 0
+IsBeforeDial (Refusal.Words refusal) = Unit {0}
 IsBeforeDial (Refusal.NotBuilt unbuilt) = Unit {0}
 IsBeforeDial (Refusal.Load refusal) = Unit {0}
 IsBeforeDial (Refusal.Name refusal) = Unit {0}
@@ -24,12 +34,18 @@ IsBeforeDial _ = ⊥
 
 -- a refusal that comes after the dial, or none
 abbrev pub IsOfRun : Option Refusal → Type 0
+IsOfRun (Some (Refusal.Words refusal)) = ⊥
 IsOfRun (Some (Refusal.NotBuilt unbuilt)) = ⊥
 IsOfRun (Some (Refusal.Load refusal)) = ⊥
 IsOfRun (Some (Refusal.Name refusal)) = ⊥
 IsOfRun (Some (Refusal.Project refusal)) = ⊥
 IsOfRun (Some (Refusal.Outside Part.Plug)) = ⊥
 IsOfRun _ = Unit {0}
+
+-- what a call is refused with whose words are refused so
+abbrev pub words_refusal : WordsRefusal → Refusal
+words_refusal WordsRefusal.Memory = Refusal.Memory
+words_refusal refusal = Refusal.Words refusal
 
 -- what a call is refused with where loading refuses so
 abbrev pub loading_refusal : PlainRefusal → Refusal

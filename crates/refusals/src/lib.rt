@@ -1,5 +1,5 @@
-//! Why a call of `compose` ended otherwise than well, with the exit status and the line of each reason: what loading
-//! refuses, what a run is refused with, and the faults of the outside.
+//! Why a call of `compose` ended otherwise than well, with the exit status and the line of each reason: how words are refused,
+//! what loading refuses, what a run is refused with, and the faults of the outside.
 //!
 //! Contracts say the status and the line of every refusal exactly, and what a sink grew by that a line was said to: the
 //! whole line, or a prefix of it where the sink's count of faults rose. A refusal whose line finds no memory is said as a
@@ -13,7 +13,9 @@ mod refusal;
 mod run_refusal;
 mod saying;
 mod status;
+mod words_refusal;
 
+pub use compose_words::WordsRefusal;
 pub use line::refusal_line;
 pub use plain_services::{LoadRefusal, ProjectRefusal, Unbuilt};
 pub use refusal::{Part, Refusal};

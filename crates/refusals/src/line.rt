@@ -7,6 +7,7 @@ ghost use Rattle.refusals.specs.Lines.{refusal_line, refusal_words};
 
 use crate::condition::failed_words;
 use crate::refusal::{Part, Refusal};
+use compose_words::WordsRefusal;
 use engine_types::{Kind, Outcome, Reply, Request, SeenFault, WireEnd};
 use plain_services::{load_words, project_words, unbuilt_words};
 use std::alloc::Global;
@@ -25,6 +26,7 @@ fn refusal_words(alloc: Global, refusal: &Refusal) -> Result<Text, Memory>
     ensures { IfOk result (λ words. words ≡ refusal_words refusal.now) }
 {
     match refusal {
+        Refusal::Words(refusal) => words_words(alloc, refusal),
         Refusal::NotBuilt(unbuilt) => unbuilt_words(alloc, unbuilt),
         Refusal::Load(refusal) => load_words(alloc, refusal),
         Refusal::Name(refusal) => project_words(alloc, refusal),
@@ -41,6 +43,13 @@ fn refusal_words(alloc: Global, refusal: &Refusal) -> Result<Text, Memory>
         Refusal::Outside(part) => fault_words(alloc, *part),
         Refusal::Memory => Text::from_str(alloc, "memory"),
     }
+}
+
+fn words_words(alloc: Global, refusal: &WordsRefusal) -> Result<Text, Memory>
+    ensures { IfOk result (λ words. words ≡ refusal_words (Refusal.Words refusal.now)) }
+{
+    let words = format!(in alloc; "{refusal}")?;
+    Ok(Text::from_string(words))
 }
 
 pub(crate) fn before_text(alloc: Global, words: &str, text: &Text) -> Result<Text, Memory>

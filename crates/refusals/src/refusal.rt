@@ -1,3 +1,4 @@
+use compose_words::WordsRefusal;
 use engine_types::{Condition, LateWhy, Outcome, Report, Request, SeenFault};
 use plain_services::{LoadRefusal, ProjectRefusal, Unbuilt};
 use tree_base::Text;
@@ -5,6 +6,8 @@ use tree_base::Text;
 /// Why a call ended otherwise than well. Each has its exit status and the line that it prints.
 #[derive(Drop)]
 pub enum Refusal {
+    /// The words of the command line are none.
+    Words(WordsRefusal),
     /// What was asked for is not built yet.
     NotBuilt(Unbuilt),
     /// The project couldn't be loaded.

@@ -1,8 +1,9 @@
 ghost use Rattle.std.specs.Prelude.{◌≡◌};
 ghost use Rattle.run_model.specs.Ending.{lost_status, seen_status, outcome_status};
-ghost use Rattle.refusals.specs.Statuses.{refusal_status, status_of};
+ghost use Rattle.refusals.specs.Statuses.{refusal_status, status_of, words_status};
 
 use crate::refusal::Refusal;
+use compose_words::WordsRefusal;
 use engine_types::{Outcome, SeenFault, WireEnd};
 use plain_services::{load_status, project_status, unbuilt_status};
 
@@ -21,6 +22,7 @@ pub fn refusal_status(refusal: &Refusal) -> u8
     ensures { result ≡ refusal_status refusal.now }
 {
     match refusal {
+        Refusal::Words(refusal) => words_status(*refusal),
         Refusal::NotBuilt(unbuilt) => unbuilt_status(unbuilt),
         Refusal::Load(refusal) => load_status(refusal),
         Refusal::Name(refusal) => project_status(refusal),
@@ -32,6 +34,15 @@ pub fn refusal_status(refusal: &Refusal) -> u8
         Refusal::Late(_) => 6,
         Refusal::Outside(_) => 7,
         Refusal::Memory => 9,
+    }
+}
+
+fn words_status(refusal: WordsRefusal) -> u8
+    ensures { result ≡ words_status refusal }
+{
+    match refusal {
+        WordsRefusal::Memory => 9,
+        _ => 1,
     }
 }
 

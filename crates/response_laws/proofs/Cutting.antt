@@ -1,5 +1,5 @@
 -- Texts that are sent with a line feed behind each are cut into these texts, and so a part ends where its last line does.
-use Rattle.std.proofs.Common.{◌≡◌, ℕ, ◌+◌, ◌-◌, ◌<◌, ◌≤◌, Bool, true, false, not, cond, ◌&&◌, if◌then◌else◌, List, [], ◌∷◌, ◌++◌, length, take, nat_lt, nat_le, ◌==◌, refl, sym, ap, ◌∙◌, subst, arith, append_assoc, true≢false}
+use Rattle.std.proofs.Common.{◌≡◌, ℕ, suc, ◌+◌, ◌-◌, ◌<◌, ◌≤◌, Bool, true, false, not, cond, ◌&&◌, if◌then◌else◌, List, [], ◌∷◌, ◌++◌, length, take, nat_lt, nat_le, ◌==◌, refl, sym, ap, ◌∙◌, subst, arith, append_assoc, true≢false}
 use Rattle.std.proofs.Math.Seq.{take-append_seam}
 use Rattle.std.proofs.lemmas.Bool.{and_parts, eqb-true, le-leb, le-ltb, lt-ltb}
 use Rattle.std.proofs.lemmas.List.{length-append}
@@ -30,17 +30,17 @@ text-append (x ∷ a) b h k =
 
 -- bytes of a class that a line feed isn't of
 pub text-pass : (test : ℕ → Bool) → test 10 ≡ false → (t : List ℕ) → AllPass test t → IsText t
-text-pass test no [] all = refl
-text-pass test no (b ∷ t) all =
+text-pass test feedless [] all = refl
+text-pass test feedless (b ∷ t) all =
     both (is_text_byte b) (list_all is_text_byte t) (at (b == line_feed) refl)
-    (text-pass test no t (All-tail (λ x. IsTrue (test x)) b t all))
+    (text-pass test feedless t (All-tail (λ x. IsTrue (test x)) b t all))
   where
     at : (v : Bool) → (b == line_feed) ≡ v → not v ≡ true
     at false e = refl
     at true e =
         let same : b ≡ 10 = eqb-true b 10 e in
         let yes : test b ≡ true = All-head (λ x. IsTrue (test x)) b t all in
-        absurd (true≢false (sym yes ∙ ap test same ∙ no))
+        absurd (true≢false (sym yes ∙ ap test same ∙ feedless))
 
 lines_text : (t rest : List ℕ) → IsText t → lines (t ++ line_feed ∷ rest) ≡ t ∷ lines rest
 lines_text [] rest h = refl
@@ -70,7 +70,9 @@ whole_text t rest h =
     at : (ls : List (List ℕ)) (first : List ℕ) (more : List (List ℕ)) → ls ≡ first ∷ more
         → take (length (t ∷ ls) - 1) (t ∷ ls) ≡ t ∷ take (length ls - 1) ls
     at [] first more e = absurd (cc e)
-    at (l ∷ ls) first more e = refl
+    at (l ∷ ls) first more e =
+        let next : length (t ∷ l ∷ ls) - 1 ≡ suc (length (l ∷ ls) - 1) = omega arith in
+        ap (λ (n : ℕ). take n (t ∷ l ∷ ls)) next
 
 -- texts as they are sent, a line feed behind each
 abbrev pub sent : List (List ℕ) → List ℕ
@@ -127,12 +129,15 @@ module _ (room most blank filled : ℕ) (ls : List (List ℕ)) (rest : List ℕ)
       (le-leb (length found) room (let l = ap length first in omega (arith, l, within)))
       ∙ ap (λ (t : List ℕ). ends (length t)) first
 
+pub one_more : (n : ℕ) → 1 + n ≡ suc n
+one_more n = omega arith
+
 -- the first line feed stands behind the text
 pub before_feed : (t rest : List ℕ) → IsText t → before_line_feed (t ++ line_feed ∷ rest) ≡ length t
 before_feed [] rest h = refl
 before_feed (b ∷ t) rest h =
     let p = and_parts (is_text_byte b) (list_all is_text_byte t) h in
-    ap (λ (v : Bool). cond v (1 + before_line_feed (t ++ line_feed ∷ rest)) 0) p.0 ∙ ap (λ (n : ℕ). 1 + n) (before_feed t rest p.1)
+    ap (λ (v : Bool). cond v (1 + before_line_feed (t ++ line_feed ∷ rest)) 0) p.0 ∙ ap (λ (n : ℕ). 1 + n) (before_feed t rest p.1) ∙ one_more (length t)
 
 line_decided : (a b : Bool) (n : ℕ) (other : Part) → a ≡ true → b ≡ true → (if a && b then ends n else other) ≡ ends n
 line_decided false b n other e f = absurd (true≢false (sym e))

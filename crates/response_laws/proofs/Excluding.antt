@@ -122,14 +122,16 @@ module _ (read : List ℕ) (ended : Bool) (status : ℕ) (body : List ℕ) (r : 
     each = r.begins.skips.each;
     is_head = r.begins.is_head;
     few = r.begins.few;
-    within = r.begins.within;
+    within = let w = r.begins.within in omega (arith, w);
     final = r.final;
     sound = r.sound;
     reads = r.begins.skips.reads;
   }
 
   goes : (others : List ResponseHead) (tail : List ℕ) → Skips read others tail → Goes read r.head r.rest (length (print_heads others)) tail
-  goes others tail skips = walk read 0 r.skipped r.head r.rest others tail parts skips.each skips.reads
+  goes others tail skips =
+      let none : 0 + length (print_heads others) ≡ length (print_heads others) = omega arith in
+      subst (λ (n : ℕ). Goes read r.head r.rest n tail) none (walk read 0 r.skipped r.head r.rest others tail parts skips.each skips.reads)
 
   part_is : (others : List ResponseHead) (tail : List ℕ) (g : Goes read r.head r.rest (length (print_heads others)) tail)
       → head_part (length (print_heads others)) tail ≡ ends (length (print_response g.head))
@@ -155,15 +157,15 @@ interim_has_no_body status e = ap (λ (b : Bool). b || (status == 204 || status 
 -- ---- lines after a last chunk
 
 trailer_whole : (at : ℕ) (bytes : List ℕ) (ended : Bool) (cause : WireEnd) → BeginsWithTrailer bytes → BreaksTrailer at bytes ended cause → ⊥
-trailer_whole at bytes ended cause t b = by b
+trailer_whole at bytes ended cause t b = by cause b
   where
     part : trailer_part bytes ≡ ends (length (print_section t.fields t.last))
     part = ap trailer_part t.reads.1 ∙ trailer_ends t.fields t.last t.rest t.reads.0 t.few t.within
 
-    by : BreaksTrailer at bytes ended cause → ⊥
-    by (cut _ _ _ found_part over) = ends_unfinished (trailer_part bytes) (length (print_section t.fields t.last)) part found_part
-    by (long _ _ _ found_part) = ends_passed (trailer_part bytes) (length (print_section t.fields t.last)) part found_part
-    by (bad _ n _ _ found_part none) =
+    by : (why : WireEnd) → BreaksTrailer at bytes ended why → ⊥
+    by _ (cut _ _ _ found_part over) = ends_unfinished (trailer_part bytes) (length (print_section t.fields t.last)) part found_part
+    by _ (long _ _ _ found_part) = ends_passed (trailer_part bytes) (length (print_section t.fields t.last)) part found_part
+    by _ (bad _ n _ _ found_part none) =
         let one : n ≡ length (print_section t.fields t.last) = ends_once (trailer_part bytes) (length (print_section t.fields t.last)) n part found_part in
         let text : take n bytes ≡ print_section t.fields t.last ++ [] =
         ap (take n) t.reads.1 ∙ taken n (print_section t.fields t.last) t.rest one ∙ sym (append-nil (print_section t.fields t.last)) in
@@ -268,7 +270,7 @@ module _ (bytes body : List ℕ) (w : IsChunked bytes body) where
   pieces : Pieces bytes [] w.chunks w.line w.rest
   pieces = record {
     each = w.are_chunks.each;
-    within = w.are_chunks.within;
+    within = let k = w.are_chunks.within in omega (arith, k);
     is_line = w.ends.reads.0;
     line_within = w.ends.within;
     no_bytes = w.no_bytes;
@@ -281,7 +283,7 @@ module _ (bytes body : List ℕ) (w : IsChunked bytes body) where
 
   chunk_whole : (at : ℕ) (others : List Chunk) (tail : List ℕ) (ended : Bool) (cause : WireEnd) → AreChunks others → GoesOn (body_of w.chunks) (body_of others) tail
       → BreaksChunk at (length (body_of others)) tail ended cause → ⊥
-  chunk_whole at others tail ended cause are g b = by b
+  chunk_whole at others tail ended cause are g b = by cause b
     where
       part : chunk_line_part tail ≡ ends (length (print_chunk_line g.line))
       part = ap chunk_line_part g.reads ∙ chunk_line_ends g.line g.more g.is_line g.within
@@ -289,14 +291,14 @@ module _ (bytes body : List ℕ) (w : IsChunked bytes body) where
       same : (line : ChunkLine) (rest : List ℕ) → BeginsWithLine tail line rest → (g.line ≡ line) × (g.more ≡ rest)
       same line rest begins = chunk_line_unique tail g.line line g.more rest (g.is_line, g.reads) begins.reads
 
-      by : BreaksChunk at (length (body_of others)) tail ended cause → ⊥
-      by (line_cut _ _ _ _ found_part over) = ends_unfinished (chunk_line_part tail) (length (print_chunk_line g.line)) part found_part
-      by (line_long _ _ _ _ found_part) = ends_passed (chunk_line_part tail) (length (print_chunk_line g.line)) part found_part
-      by (line_bad _ _ n _ _ found_part none) =
+      by : (why : WireEnd) → BreaksChunk at (length (body_of others)) tail ended why → ⊥
+      by _ (line_cut _ _ _ _ found_part over) = ends_unfinished (chunk_line_part tail) (length (print_chunk_line g.line)) part found_part
+      by _ (line_long _ _ _ _ found_part) = ends_passed (chunk_line_part tail) (length (print_chunk_line g.line)) part found_part
+      by _ (line_bad _ _ n _ _ found_part none) =
           let one : n ≡ length (print_chunk_line g.line) = ends_once (chunk_line_part tail) (length (print_chunk_line g.line)) n part found_part in
           let text : take n tail ≡ print_chunk_line g.line ++ [] = ap (take n) g.reads ∙ taken n (print_chunk_line g.line) g.more one ∙ sym (append-nil (print_chunk_line g.line)) in
           none g.line [] (g.is_line, text)
-      by (body_long _ _ _ rest _ line begins past) = at_limit g.which
+      by _ (body_long _ _ _ rest _ line begins past) = at_limit g.which
         where
           size : chunk_size g.line ≡ chunk_size line
           size = ap chunk_size (same line rest begins).0
@@ -304,7 +306,7 @@ module _ (bytes body : List ℕ) (w : IsChunked bytes body) where
           at_limit : IsBehind (body_of w.chunks) (body_of others) g.line g.more → ⊥
           at_limit (inl h) = let f = h.1 in let s = size in omega (arith, f, s, past)
           at_limit (inr h) = let n = h.0 in let s = size in let k = are.within in omega (arith, n, s, k, past)
-      by (bytes_cut _ _ _ rest _ line begins some fits short over) = at_end g.which
+      by _ (bytes_cut _ _ _ rest _ line begins some fits short over) = at_end g.which
         where
           found : (g.line ≡ line) × (g.more ≡ rest)
           found = same line rest begins
@@ -317,7 +319,7 @@ module _ (bytes body : List ℕ) (w : IsChunked bytes body) where
               let whole : rest ≡ h.2.0 ++ (crlf_bytes ++ h.2.1) = sym found.1 ∙ h.2.3 in
               let l = ap length whole in let m = length-append h.2.0 (crlf_bytes ++ h.2.1) in let k = h.2.2 in let s = size in omega (arith, l, m, k, s, short)
           at_end (inr h) = let n = h.0 in let s = size in omega (arith, n, s, some)
-      by (end_bad _ _ _ rest _ line begins some fits whole other) = at_end g.which
+      by _ (end_bad _ _ _ rest _ line begins some fits whole other) = at_end g.which
         where
           found : (g.line ≡ line) × (g.more ≡ rest)
           found = same line rest begins
@@ -333,7 +335,7 @@ module _ (bytes body : List ℕ) (w : IsChunked bytes body) where
               ∙ ap (λ (k : ℕ). take 2 (drop k (h.2.0 ++ (crlf_bytes ++ h.2.1)))) n
               ∙ ap (take 2) (drop-append_seam h.2.0 (crlf_bytes ++ h.2.1)))
           at_end (inr h) = let n = h.0 in let s = size in omega (arith, n, s, some)
-      by (trailer _ _ _ rest _ line _ begins none breaks) = at_end g.which
+      by _ (trailer _ _ _ rest _ line why begins none breaks) = at_end g.which
         where
           found : (g.line ≡ line) × (g.more ≡ rest)
           found = same line rest begins
@@ -343,7 +345,7 @@ module _ (bytes body : List ℕ) (w : IsChunked bytes body) where
 
           at_end : IsBehind (body_of w.chunks) (body_of others) g.line g.more → ⊥
           at_end (inl h) = let f = h.0 in let s = size in omega (arith, f, s, none)
-          at_end (inr h) = trailer_whole _ rest ended cause (subst BeginsWithTrailer found.1 h.2) breaks
+          at_end (inr h) = trailer_whole _ rest ended why (subst BeginsWithTrailer found.1 h.2) breaks
 
   chunks_whole : (at : ℕ) (ended : Bool) (cause : WireEnd) → BreaksChunked at bytes ended cause → ⊥
   chunks_whole at ended cause b =

@@ -13,7 +13,7 @@ use Rattle.httparse.proofs.OnLiterals.{httparse_on_literals}
 use Rattle.httparse.specs.Ascii.{line_feed, carriage_return}
 use Rattle.httparse.specs.Grammar.{ChunkLine, Field, IsChunkLine, IsExtension, IsField, IsResponseHead, LineEnd, crlf, lf, ResponseHead, is_extension_byte, is_ows, is_token_byte, is_value_byte, print_blank, print_chunk_line, print_end, print_extension, print_field, print_reason, print_response, print_section, print_version}
 use Rattle.response_rules.specs.Lines.{blank_lines, ends, filled_lines, head_limit, head_part, is_empty_line, line_limit, part_of, trailer_part, whole_lines, chunk_line_part}
-use Rattle.response_laws.proofs.Cutting.{AreTexts, IsText, both, line_ends, part_ends, sent, sent-append, text-append, text-pass, texts-append, whole_sent}
+use Rattle.response_laws.proofs.Cutting.{AreTexts, IsText, line_ends, one_more, part_ends, sent, sent-append, text-append, text-pass, texts-append, whole_sent}
 
 -- what stands before the line feed of a line's end
 abbrev pub end_text : LineEnd → List ℕ
@@ -51,8 +51,11 @@ blanks_sent [] = refl
 blanks_sent (end ∷ blank) = ap (λ (m : List ℕ). m ++ print_blank blank) (end_sent end) ∙ ap (λ (m : List ℕ). (end_text end ++ line_feed ∷ []) ++ m) (blanks_sent blank)
 
 field_sent : (f : Field) → print_field f ≡ field_text f ++ line_feed ∷ []
-field_sent f = ap (λ (e : List ℕ). f.name ++ 58 ∷ (f.raw ++ e)) (end_sent f.end) ∙ regroup f.name f.raw (end_text f.end)
+field_sent f = one_by_one f.name f.raw (print_end f.end) ∙ ap (λ (e : List ℕ). f.name ++ 58 ∷ (f.raw ++ e)) (end_sent f.end) ∙ regroup f.name f.raw (end_text f.end)
   where
+    one_by_one : (n r e : List ℕ) → n ++ 58 ∷ r ++ e ≡ n ++ 58 ∷ (r ++ e)
+    one_by_one n r e = simp (append_assoc, cons-append)
+
     regroup : (n r e : List ℕ) → n ++ 58 ∷ (r ++ (e ++ 10 ∷ [])) ≡ (n ++ 58 ∷ (r ++ e)) ++ 10 ∷ []
     regroup n r e = simp (append_assoc, cons-append)
 
@@ -167,14 +170,14 @@ blanks_count : (blank : List LineEnd) (line : List ℕ) (more : List (List ℕ))
     → blank_lines (map end_text blank ++ line ∷ more) ≡ length (map end_text blank)
 blanks_count [] line more e = ap (λ (b : Bool). cond b (1 + prefix_len is_empty_line more) 0) e
 blanks_count (end ∷ blank) line more e =
-    ap (λ (b : Bool). cond b (1 + blank_lines (map end_text blank ++ line ∷ more)) 0) (end_is_empty end) ∙ ap (λ (n : ℕ). 1 + n) (blanks_count blank line more e)
+    ap (λ (b : Bool). cond b (1 + blank_lines (map end_text blank ++ line ∷ more)) 0) (end_is_empty end) ∙ ap (λ (n : ℕ). 1 + n) (blanks_count blank line more e) ∙ one_more (length (map end_text blank))
 
 fields_count : (fields : List Field) (last : LineEnd) (more : List (List ℕ)) → All IsField fields
     → filled_lines (map field_text fields ++ end_text last ∷ more) ≡ length fields
 fields_count [] last more all = ap (λ (b : Bool). cond (not b) (1 + filled_lines more) 0) (end_is_empty last)
 fields_count (f ∷ fields) last more all =
     ap (λ (b : Bool). cond (not b) (1 + filled_lines (map field_text fields ++ end_text last ∷ more)) 0) (field_is_filled f (All-head IsField f fields all))
-    ∙ ap (λ (n : ℕ). 1 + n) (fields_count fields last more (All-tail IsField f fields all))
+    ∙ ap (λ (n : ℕ). 1 + n) (fields_count fields last more (All-tail IsField f fields all)) ∙ one_more (length fields)
 
 section_length : (fields : List Field) (last : LineEnd) → length (section_lines fields last) ≡ length fields + 1
 section_length fields last = length-append (map field_text fields) (end_text last ∷ []) ∙ ap (λ (n : ℕ). n + 1) (length-map fields field_text)
@@ -198,7 +201,7 @@ module _ (fields : List Field) (last : LineEnd) (rest : List ℕ) (all : All IsF
   trailer_ends few within =
       subst (λ (text : List ℕ). trailer_part (text ++ rest) ≡ ends (length text)) (sym (section_sent fields last))
       (ap (λ (n : ℕ). part_of head_limit line_limit 0 n (sent trailer_lines ++ rest)) trailer_count
-      ∙ part_ends head_limit line_limit 0 (length fields) trailer_lines rest trailer_texts (section_length fields last) few
+      ∙ part_ends head_limit line_limit 0 (length fields) trailer_lines rest trailer_texts (let a = section_length fields last in omega (arith, a)) few
       (subst (λ (text : List ℕ). length text ≤ head_limit) (section_sent fields last) within))
 
 -- a head ends where it is cut, behind heads of so many bytes

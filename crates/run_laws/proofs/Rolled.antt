@@ -53,7 +53,7 @@ second_part : (x y z : Bool) → (x ≡ true → y ≡ true) → (x && z) ≡ tr
 second_part true y z h e = rw (h refl) e
 second_part false y z h e = absurd (cc e)
 
-both_parts : (x y : Bool) → x ≡ true → y ≡ true → (x && y) ≡ true
+pub both_parts : (x y : Bool) → x ≡ true → y ≡ true → (x && y) ≡ true
 both_parts true true e f = refl
 both_parts true false e f = f
 both_parts false y e f = absurd (cc e)
@@ -70,11 +70,13 @@ module _ (basis : Basis) where
       wider : (x : Slot) → (bytes_eq x.service slot.service && nat_lt x.number slot.number && is_rolled basis x) ≡ true
           → (bytes_eq x.service other.service && nat_lt x.number other.number && is_rolled basis x) ≡ true
       wider x e =
-          let first = and_parts (bytes_eq x.service slot.service) _ e in
-          let second = and_parts (nat_lt x.number slot.number) _ first.1 in
-          let less = ltb-true x.number slot.number second.0 in
-          both_parts (bytes_eq x.service other.service) _ (subst (λ (s : List ℕ). bytes_eq x.service s ≡ true) same first.0)
-          (both_parts (nat_lt x.number other.number) _ (lt-ltb x.number other.number (omega (arith, less, h))) second.1)
+          let all = and_parts _ _ e in
+          let first = and_parts (bytes_eq x.service slot.service) (nat_lt x.number slot.number) all.0 in
+          let less = ltb-true x.number slot.number first.1 in
+          both_parts (bytes_eq x.service other.service && nat_lt x.number other.number) (is_rolled basis x)
+          (both_parts (bytes_eq x.service other.service) (nat_lt x.number other.number)
+          (subst (λ (s : List ℕ). bytes_eq x.service s ≡ true) same first.0) (lt-ltb x.number other.number (omega (arith, less, h))))
+          all.1
 
   -- what is known of a slot that waits for another one
   pub record Waits (slot other : Slot) : Type 0 where
@@ -84,11 +86,11 @@ module _ (basis : Basis) where
 
   pub waits : (slot other : Slot) → (roll_of basis.declared slot ≡ Some 0 → ⊥) → waits_for basis slot other ≡ true → Waits slot other
   waits slot other some e =
-      let first = and_parts (is_rolled basis slot) _ e in
-      let second = and_parts (is_rolled basis other) _ first.1 in
-      let third = and_parts (bytes_eq slot.service other.service) _ second.1 in
-      let same = (bytes_eq-Decides slot.service other.service).0 third.0 in
-      let roll = some_from (λ (count : ℕ). rolled_before basis other + count == rolled_before basis slot) (roll_of basis.declared slot) third.1 in
+      let all = and_parts _ _ e in
+      let two = and_parts _ _ all.0 in
+      let first = and_parts (is_rolled basis slot) (is_rolled basis other) two.0 in
+      let same = (bytes_eq-Decides slot.service other.service).0 two.1 in
+      let roll = some_from (λ (count : ℕ). rolled_before basis other + count == rolled_before basis slot) (roll_of basis.declared slot) all.1 in
       let count = eqb-true (rolled_before basis other + roll.0) (rolled_before basis slot) roll.2 in
       record {
         rolled = first.0;
@@ -146,17 +148,22 @@ module _ (basis : Basis) (small : HasSmallNumbers basis.declared) where
       by_cases (is_same_slot slot other) (λ same. same_is basis.declared small slot other same) (λ differs. absurd (crossed has differs)))
     where
       uncrossed : is_crossed basis slot.service ≡ false
-      uncrossed = not_true _ (and_parts (not (is_crossed basis slot.service)) _ (and_parts (is_some (roll_of basis.declared slot)) _ rolled).1).0
+      uncrossed =
+          let told : Bool = is_some (roll_of basis.declared slot) in
+          let apart : Bool = not (is_crossed basis slot.service) in
+          let live : Bool = has_seen basis.declared basis.seen slot (λ (r : Listed). is_live r.state) in
+          not_true (is_crossed basis slot.service)
+          (and_parts told apart (and_parts (told && apart) live (and_parts (told && apart && live) (is_unstarted basis slot) rolled).0).0).1
 
       crossed : bytes_eq row.name other.name ≡ true → is_same_slot slot other ≡ false → ⊥
       crossed has differs =
           let another : has_name_of_another basis.declared slot row ≡ true =
           any_of (λ (x : Slot). not (is_same_slot slot x) && bytes_eq row.name x.name) slots other n
-          (both_parts (not (is_same_slot slot other)) _ (ap not differs) has) in
+          (both_parts (not (is_same_slot slot other)) (bytes_eq row.name other.name) (ap not differs) has) in
           let seen : has_seen basis.declared basis.seen slot (has_name_of_another basis.declared slot) ≡ true =
           any_of (λ (r : Listed). is_of_slot basis.declared.project slot r.labels && has_name_of_another basis.declared slot r) basis.seen.containers row r
-          (both_parts (is_of_slot basis.declared.project slot row.labels) _ of another) in
+          (both_parts (is_of_slot basis.declared.project slot row.labels) (has_name_of_another basis.declared slot row) of another) in
           let all : is_crossed basis slot.service ≡ true =
           any_of (λ (x : Slot). bytes_eq x.service slot.service && has_seen basis.declared basis.seen x (has_name_of_another basis.declared x)) slots slot m
-          (both_parts (bytes_eq slot.service slot.service) _ ((bytes_eq-Decides slot.service slot.service).1 refl) seen) in
+          (both_parts (bytes_eq slot.service slot.service) (has_seen basis.declared basis.seen slot (has_name_of_another basis.declared slot)) ((bytes_eq-Decides slot.service slot.service).1 refl) seen) in
           let bad : false ≡ true = sym uncrossed ∙ all in cc bad

@@ -1,12 +1,18 @@
-use Rattle.std.proofs.Common.{ℕ, [], ◌≡◌, Some, Err, true, false, ap, length, slice_get}
-use Rattle.plain_services.specs.Loading.{loaded}
-use Rattle.compose_config.proofs.Loads.{IfSome-map, failed_read}
-use Rattle.compose_cli.proofs.Ending.{no_fault_of_plug, only_reads, refused_with, said_read, said_words}
-use Rattle.compose_cli.proofs.Ran.{asked, for_task, has_begun, if_begun, said_not_zero, status_by}
+use Rattle.std.proofs.Common.{ℕ, [], ◌≡◌, ◌∙◌, Err, None, Some, true, false, ap, inr, refl, sym, length, slice_get}
+use Rattle.asked_project.specs.Asking.{command_of, options_asked}
+use Rattle.asked_project.specs.Meaning.{meaning}
+use Rattle.compose_config.proofs.Loads.{IfSome-map, before_kind, before_no_outside, command_is, for_project, if_loads, means_unrefused, no_words_refused, only_outside, said_exactly, said_read, said_words}
+use Rattle.compose_config.proofs.Printed.{asked_prefix, asked_whole, page_complete, page_fault, page_kept, page_kind, page_no_loading, page_no_plug, page_no_read, page_no_words}
+use Rattle.compose_config.specs.Commands.{GrewByPrefix, page_asked, page_for}
+use Rattle.compose_cli.proofs.Ending.{before_unbegun, beside, if_runs, no_config, no_words, only_reads, refused_with}
+use Rattle.compose_cli.proofs.Ran.{asked, for_task, has_begun, idle, if_begun, said_not_zero, status_by, unasked}
 use Rattle.compose_cli.specs.Runs.{HoldsExactly, HoldsNone, IsCausedAnew, IsRefusalOf, IsStatusOf, LeadsOn, Reports, first_reading, task_for}
 use Rattle.outside_api.specs.Accounts.{account}
+use Rattle.outside_files.specs.Sinks.{GrewBy}
 use Rattle.project_run.specs.Whole.{SparesKept}
 use Rattle.project_run.specs.Worlds.{EndsExact, EndsGone}
+use Rattle.refusals.specs.Saying.{IsSaid}
+use Rattle.refusals.specs.declared.Part.{Part}
 use Rattle.run_model.specs.EngineRules.{Among}
 use Rattle.run_model.specs.Logs.{GrowsBy}
 use Rattle.run_model.specs.Observation.{is_up}
@@ -15,92 +21,200 @@ use Rattle.serial_run.specs.Serial.{aim_of, one_worker}
 use Rattle.compose_cli.proofs.Statuses.{not_refused}
 use Rattle.compose_cli.proofs.top.serial_main.Goals as goal
 
-pub returns-in-Err-clause-loading : goal.returns-in-Err-clause-loading
-returns-in-Err-clause-loading g c =
-    IfSome-map (g.F.Files.told c.args.files.now) _ _ c.in-Err.ensures.told
-    (λ contents loads. refused_with (loaded c.args.words.now c.args.cwd.now contents) c.in-Err.refusal c.from.result c.refused.result c.from.ensures.refusal c.refused.ensures.nothing loads c.refused.ensures.refusal)
+pub returns-in-Some-clause-legal : goal.returns-in-Some-clause-legal
+returns-in-Some-clause-legal g c = if_begun c.run_project.result.journal c.run_project.ensures.ran (λ ran.
+    for_task c.args.words.now c.args.env.now c.args.cwd.now (g.F.Files.told c.args.files.now) (first_reading (λ h. g.P.Hand.Hand.clock h) c.run_project.result.hands) (aim_of c.in-Some.aim) c.in-Ok.asked (λ task. IsRun task c.run_project.result.journal) (asked c.args.words.now c.args.env.now c.in-Ok.asked.options.command c.aim_for.result c.in-Some.aim (command_is c.args.words.now c.args.env.now c.in-Ok.asked.options c.in-Ok.ensures.options) c.aim_for.ensures c.in-Some.is) c.in-Ok.ensures.told c.in-Ok.ensures.text ran.run)
 
-pub returns-in-Err-clause-run_complete : goal.returns-in-Err-clause-run_complete
-returns-in-Err-clause-run_complete g c =
-    only_reads c.args.words.now c.args.cwd.now (g.F.Files.told c.args.files.now) (g.F.Files.faults c.args.files.now) (g.F.Files.faults c.load.new.files) c.in-Err.refusal c.from.result c.refused.result.refusal c.from.ensures.refusal c.in-Err.ensures.told
-    (λ path e. failed_read c.args.words.now c.args.cwd.now (g.F.Files.faults c.args.files.now) (g.F.Files.faults c.load.new.files) (Err c.in-Err.refusal) c.in-Err.ensures.words c.in-Err.ensures.path c.in-Err.ensures.read path (ap Err e)) c.refused.ensures.refusal
+pub returns-in-Some-clause-left : goal.returns-in-Some-clause-left
+returns-in-Some-clause-left g c = if_begun c.run_project.result.journal c.run_project.ensures.ran (λ ran.
+    for_task c.args.words.now c.args.env.now c.args.cwd.now (g.F.Files.told c.args.files.now) (first_reading (λ h. g.P.Hand.Hand.clock h) c.run_project.result.hands) (aim_of c.in-Some.aim) c.in-Ok.asked (λ task. IsLeftByAll task c.run_project.result.journal) (asked c.args.words.now c.args.env.now c.in-Ok.asked.options.command c.aim_for.result c.in-Some.aim (command_is c.args.words.now c.args.env.now c.in-Ok.asked.options c.in-Ok.ensures.options) c.aim_for.ensures c.in-Some.is) c.in-Ok.ensures.told c.in-Ok.ensures.text ran.left)
 
-pub returns-in-Err-clause-read_fault : goal.returns-in-Err-clause-read_fault
-returns-in-Err-clause-read_fault g c =
-    said_read c.args.words.now c.args.cwd.now (g.F.Files.told c.args.files.now) (g.F.Files.faults c.args.files.now) (g.F.Files.faults c.load.new.files) c.in-Err.refusal c.from.result c.refused.result.refusal c.from.ensures.refusal
-    (λ path e. failed_read c.args.words.now c.args.cwd.now (g.F.Files.faults c.args.files.now) (g.F.Files.faults c.load.new.files) (Err c.in-Err.refusal) c.in-Err.ensures.words c.in-Err.ensures.path c.in-Err.ensures.read path (ap Err e)) c.refused.ensures.refusal
+pub returns-in-Some-clause-hands : goal.returns-in-Some-clause-hands
+returns-in-Some-clause-hands g c = if_begun c.run_project.result.journal c.run_project.ensures.ran (λ ran.
+    for_task c.args.words.now c.args.env.now c.args.cwd.now (g.F.Files.told c.args.files.now) (first_reading (λ h. g.P.Hand.Hand.clock h) c.run_project.result.hands) (aim_of c.in-Some.aim) c.in-Ok.asked (λ task. length c.run_project.result.hands ≡ task.limits.workers) (asked c.args.words.now c.args.env.now c.in-Ok.asked.options.command c.aim_for.result c.in-Some.aim (command_is c.args.words.now c.args.env.now c.in-Ok.asked.options c.in-Ok.ensures.options) c.aim_for.ensures c.in-Some.is) c.in-Ok.ensures.told c.in-Ok.ensures.text ran.hands)
 
-pub returns-in-Err-clause-words_only : goal.returns-in-Err-clause-words_only
-returns-in-Err-clause-words_only g c =
-    said_words c.in-Err.refusal c.from.result c.refused.result.refusal _ c.from.ensures.refusal (λ e. c.in-Err.ensures.words_only (ap Err e)) c.refused.ensures.refusal
+pub returns-in-Some-clause-log : goal.returns-in-Some-clause-log
+returns-in-Some-clause-log g c = if_begun c.run_project.result.journal c.run_project.ensures.ran (λ ran.
+    for_task c.args.words.now c.args.env.now c.args.cwd.now (g.F.Files.told c.args.files.now) (first_reading (λ h. g.P.Hand.Hand.clock h) c.run_project.result.hands) (aim_of c.in-Some.aim) c.in-Ok.asked (λ task. (w : ℕ) (hand : _) → slice_get c.run_project.result.hands w ≡ Some hand → GrowsBy (run_exchanges task c.run_project.result.journal w) [] (g.P.Hand.Hand.log hand)) (asked c.args.words.now c.args.env.now c.in-Ok.asked.options.command c.aim_for.result c.in-Some.aim (command_is c.args.words.now c.args.env.now c.in-Ok.asked.options c.in-Ok.ensures.options) c.aim_for.ensures c.in-Some.is) c.in-Ok.ensures.told c.in-Ok.ensures.text ran.logs)
 
-pub returns-in-Err-clause-dial : goal.returns-in-Err-clause-dial
-returns-in-Err-clause-dial g c = λ e. absurd (no_fault_of_plug c.from.result c.refused.result.refusal c.from.ensures.kind c.refused.ensures.refusal e)
+pub returns-in-Some-clause-cause : goal.returns-in-Some-clause-cause
+returns-in-Some-clause-cause g c = if_begun c.run_project.result.journal c.run_project.ensures.ran (λ ran.
+    for_task c.args.words.now c.args.env.now c.args.cwd.now (g.F.Files.told c.args.files.now) (first_reading (λ h. g.P.Hand.Hand.clock h) c.run_project.result.hands) (aim_of c.in-Some.aim) c.in-Ok.asked (λ task. (w : ℕ) (hand : _) → slice_get c.run_project.result.hands w ≡ Some hand → IsCausedAnew task c.run_project.result.journal w (account (g.P.Hand.Hand.log hand) (g.P.Hand.Hand.heard hand) (g.P.Hand.Hand.faults hand))) (asked c.args.words.now c.args.env.now c.in-Ok.asked.options.command c.aim_for.result c.in-Some.aim (command_is c.args.words.now c.args.env.now c.in-Ok.asked.options c.in-Ok.ensures.options) c.aim_for.ensures c.in-Some.is) c.in-Ok.ensures.told c.in-Ok.ensures.text ran.caused)
 
-pub returns-in-Ok-clause-legal : goal.returns-in-Ok-clause-legal
-returns-in-Ok-clause-legal g c = if_begun c.run_project.result.journal c.run_project.ensures.ran (λ ran.
-    for_task c.args.words.now c.args.cwd.now (g.F.Files.told c.args.files.now) (first_reading (λ h. g.P.Hand.Hand.clock h) c.run_project.result.hands) (aim_of c.in-Some.aim) c.in-Ok.project (λ task. IsRun task c.run_project.result.journal) (asked c.command_of.result c.args.words.now c.aim_for.result c.in-Some.aim c.command_of.ensures c.aim_for.ensures c.in-Some.is) c.in-Ok.ensures.told c.in-Ok.ensures.text ran.run)
+pub returns-in-Some-clause-run_status : goal.returns-in-Some-clause-run_status
+returns-in-Some-clause-run_status g c = if_begun c.run_project.result.journal c.run_project.ensures.ran (λ ran.
+    for_task c.args.words.now c.args.env.now c.args.cwd.now (g.F.Files.told c.args.files.now) (first_reading (λ h. g.P.Hand.Hand.clock h) c.run_project.result.hands) (aim_of c.in-Some.aim) c.in-Ok.asked (λ task. IsStatusOf (run_status task c.run_project.result.journal) c.run_project.result.status) (asked c.args.words.now c.args.env.now c.in-Ok.asked.options.command c.aim_for.result c.in-Some.aim (command_is c.args.words.now c.args.env.now c.in-Ok.asked.options c.in-Ok.ensures.options) c.aim_for.ensures c.in-Some.is) c.in-Ok.ensures.told c.in-Ok.ensures.text (status_by (run_fault (task_for (aim_of c.in-Some.aim) one_worker c.in-Ok.asked.project) c.run_project.result.journal) (g.O.Sink.faults c.args.out.now) (g.O.Sink.faults c.run_project.new.out) c.run_project.result.refusal c.run_project.result.status ran.refused c.run_project.ensures.status))
 
-pub returns-in-Ok-clause-left : goal.returns-in-Ok-clause-left
-returns-in-Ok-clause-left g c = if_begun c.run_project.result.journal c.run_project.ensures.ran (λ ran.
-    for_task c.args.words.now c.args.cwd.now (g.F.Files.told c.args.files.now) (first_reading (λ h. g.P.Hand.Hand.clock h) c.run_project.result.hands) (aim_of c.in-Some.aim) c.in-Ok.project (λ task. IsLeftByAll task c.run_project.result.journal) (asked c.command_of.result c.args.words.now c.aim_for.result c.in-Some.aim c.command_of.ensures c.aim_for.ensures c.in-Some.is) c.in-Ok.ensures.told c.in-Ok.ensures.text ran.left)
+pub returns-in-Some-clause-run_fault : goal.returns-in-Some-clause-run_fault
+returns-in-Some-clause-run_fault g c = if_begun c.run_project.result.journal c.run_project.ensures.ran (λ ran.
+    for_task c.args.words.now c.args.env.now c.args.cwd.now (g.F.Files.told c.args.files.now) (first_reading (λ h. g.P.Hand.Hand.clock h) c.run_project.result.hands) (aim_of c.in-Some.aim) c.in-Ok.asked (λ task. IsRefusalOf (run_fault task c.run_project.result.journal) (g.O.Sink.faults c.args.out.now) (g.O.Sink.faults c.run_project.new.out) c.run_project.result.refusal) (asked c.args.words.now c.args.env.now c.in-Ok.asked.options.command c.aim_for.result c.in-Some.aim (command_is c.args.words.now c.args.env.now c.in-Ok.asked.options c.in-Ok.ensures.options) c.aim_for.ensures c.in-Some.is) c.in-Ok.ensures.told c.in-Ok.ensures.text ran.refused)
 
-pub returns-in-Ok-clause-hands : goal.returns-in-Ok-clause-hands
-returns-in-Ok-clause-hands g c = if_begun c.run_project.result.journal c.run_project.ensures.ran (λ ran.
-    for_task c.args.words.now c.args.cwd.now (g.F.Files.told c.args.files.now) (first_reading (λ h. g.P.Hand.Hand.clock h) c.run_project.result.hands) (aim_of c.in-Some.aim) c.in-Ok.project (λ task. length c.run_project.result.hands ≡ task.limits.workers) (asked c.command_of.result c.args.words.now c.aim_for.result c.in-Some.aim c.command_of.ensures c.aim_for.ensures c.in-Some.is) c.in-Ok.ensures.told c.in-Ok.ensures.text ran.hands)
+pub returns-in-Some-clause-report : goal.returns-in-Some-clause-report
+returns-in-Some-clause-report g c = if_begun c.run_project.result.journal c.run_project.ensures.ran (λ ran.
+    for_task c.args.words.now c.args.env.now c.args.cwd.now (g.F.Files.told c.args.files.now) (first_reading (λ h. g.P.Hand.Hand.clock h) c.run_project.result.hands) (aim_of c.in-Some.aim) c.in-Ok.asked (λ task. Reports (run_report task c.run_project.result.journal) c.run_project.result.refusal (g.O.Sink.written c.args.out.now) (g.O.Sink.written c.run_project.new.out) (g.O.Sink.faults c.args.out.now) (g.O.Sink.faults c.run_project.new.out)) (asked c.args.words.now c.args.env.now c.in-Ok.asked.options.command c.aim_for.result c.in-Some.aim (command_is c.args.words.now c.args.env.now c.in-Ok.asked.options c.in-Ok.ensures.options) c.aim_for.ensures c.in-Some.is) c.in-Ok.ensures.told c.in-Ok.ensures.text ran.reported)
 
-pub returns-in-Ok-clause-log : goal.returns-in-Ok-clause-log
-returns-in-Ok-clause-log g c = if_begun c.run_project.result.journal c.run_project.ensures.ran (λ ran.
-    for_task c.args.words.now c.args.cwd.now (g.F.Files.told c.args.files.now) (first_reading (λ h. g.P.Hand.Hand.clock h) c.run_project.result.hands) (aim_of c.in-Some.aim) c.in-Ok.project (λ task. (w : ℕ) (hand : _) → slice_get c.run_project.result.hands w ≡ Some hand → GrowsBy (run_exchanges task c.run_project.result.journal w) [] (g.P.Hand.Hand.log hand)) (asked c.command_of.result c.args.words.now c.aim_for.result c.in-Some.aim c.command_of.ensures c.aim_for.ensures c.in-Some.is) c.in-Ok.ensures.told c.in-Ok.ensures.text ran.logs)
+pub returns-in-Some-clause-kept : goal.returns-in-Some-clause-kept
+returns-in-Some-clause-kept g c = if_begun c.run_project.result.journal c.run_project.ensures.ran (λ ran.
+    for_task c.args.words.now c.args.env.now c.args.cwd.now (g.F.Files.told c.args.files.now) (first_reading (λ h. g.P.Hand.Hand.clock h) c.run_project.result.hands) (aim_of c.in-Some.aim) c.in-Ok.asked (λ task. is_up task.aim.purpose ≡ true → SparesKept task c.run_project.result.journal) (asked c.args.words.now c.args.env.now c.in-Ok.asked.options.command c.aim_for.result c.in-Some.aim (command_is c.args.words.now c.args.env.now c.in-Ok.asked.options c.in-Ok.ensures.options) c.aim_for.ensures c.in-Some.is) c.in-Ok.ensures.told c.in-Ok.ensures.text ran.spares)
 
-pub returns-in-Ok-clause-cause : goal.returns-in-Ok-clause-cause
-returns-in-Ok-clause-cause g c = if_begun c.run_project.result.journal c.run_project.ensures.ran (λ ran.
-    for_task c.args.words.now c.args.cwd.now (g.F.Files.told c.args.files.now) (first_reading (λ h. g.P.Hand.Hand.clock h) c.run_project.result.hands) (aim_of c.in-Some.aim) c.in-Ok.project (λ task. (w : ℕ) (hand : _) → slice_get c.run_project.result.hands w ≡ Some hand → IsCausedAnew task c.run_project.result.journal w (account (g.P.Hand.Hand.log hand) (g.P.Hand.Hand.heard hand) (g.P.Hand.Hand.faults hand))) (asked c.command_of.result c.args.words.now c.aim_for.result c.in-Some.aim c.command_of.ensures c.aim_for.ensures c.in-Some.is) c.in-Ok.ensures.told c.in-Ok.ensures.text ran.caused)
+pub returns-in-Some-clause-world : goal.returns-in-Some-clause-world
+returns-in-Some-clause-world g c = if_begun c.run_project.result.journal c.run_project.ensures.engine.leads (λ leads.
+    for_task c.args.words.now c.args.env.now c.args.cwd.now (g.F.Files.told c.args.files.now) (first_reading (λ h. g.P.Hand.Hand.clock h) c.run_project.result.hands) (aim_of c.in-Some.aim) c.in-Ok.asked (λ task. (hand : _) → Among c.run_project.result.hands hand → LeadsOn task c.run_project.result.journal (g.P.Plug.engine c.args.plug.now) (g.P.Hand.Hand.engine hand)) (asked c.args.words.now c.args.env.now c.in-Ok.asked.options.command c.aim_for.result c.in-Some.aim (command_is c.args.words.now c.args.env.now c.in-Ok.asked.options c.in-Ok.ensures.options) c.aim_for.ensures c.in-Some.is) c.in-Ok.ensures.told c.in-Ok.ensures.text leads)
 
-pub returns-in-Ok-clause-run_status : goal.returns-in-Ok-clause-run_status
-returns-in-Ok-clause-run_status g c = if_begun c.run_project.result.journal c.run_project.ensures.ran (λ ran.
-    for_task c.args.words.now c.args.cwd.now (g.F.Files.told c.args.files.now) (first_reading (λ h. g.P.Hand.Hand.clock h) c.run_project.result.hands) (aim_of c.in-Some.aim) c.in-Ok.project (λ task. IsStatusOf (run_status task c.run_project.result.journal) c.run_project.result.status) (asked c.command_of.result c.args.words.now c.aim_for.result c.in-Some.aim c.command_of.ensures c.aim_for.ensures c.in-Some.is) c.in-Ok.ensures.told c.in-Ok.ensures.text (status_by (run_fault (task_for (aim_of c.in-Some.aim) one_worker c.in-Ok.project) c.run_project.result.journal) (g.O.Sink.faults c.args.out.now) (g.O.Sink.faults c.run_project.new.out) c.run_project.result.refusal c.run_project.result.status ran.refused c.run_project.ensures.status))
+pub returns-in-Some-clause-exact : goal.returns-in-Some-clause-exact
+returns-in-Some-clause-exact g c = λ zero.
+    for_task c.args.words.now c.args.env.now c.args.cwd.now (g.F.Files.told c.args.files.now) (first_reading (λ h. g.P.Hand.Hand.clock h) c.run_project.result.hands) (aim_of c.in-Some.aim) c.in-Ok.asked (λ task. is_up task.aim.purpose ≡ true → (hand : _) → Among c.run_project.result.hands hand → HoldsExactly task (g.P.Hand.Hand.engine hand)) (asked c.args.words.now c.args.env.now c.in-Ok.asked.options.command c.aim_for.result c.in-Some.aim (command_is c.args.words.now c.args.env.now c.in-Ok.asked.options c.in-Ok.ensures.options) c.aim_for.ensures c.in-Some.is) c.in-Ok.ensures.told c.in-Ok.ensures.text (c.run_project.ensures.engine.exact (not_refused c.run_project.result.refusal c.run_project.result.status c.run_project.ensures.status zero))
 
-pub returns-in-Ok-clause-run_fault : goal.returns-in-Ok-clause-run_fault
-returns-in-Ok-clause-run_fault g c = if_begun c.run_project.result.journal c.run_project.ensures.ran (λ ran.
-    for_task c.args.words.now c.args.cwd.now (g.F.Files.told c.args.files.now) (first_reading (λ h. g.P.Hand.Hand.clock h) c.run_project.result.hands) (aim_of c.in-Some.aim) c.in-Ok.project (λ task. IsRefusalOf (run_fault task c.run_project.result.journal) (g.O.Sink.faults c.args.out.now) (g.O.Sink.faults c.run_project.new.out) c.run_project.result.refusal) (asked c.command_of.result c.args.words.now c.aim_for.result c.in-Some.aim c.command_of.ensures c.aim_for.ensures c.in-Some.is) c.in-Ok.ensures.told c.in-Ok.ensures.text ran.refused)
+pub returns-in-Some-clause-gone : goal.returns-in-Some-clause-gone
+returns-in-Some-clause-gone g c = λ zero.
+    for_task c.args.words.now c.args.env.now c.args.cwd.now (g.F.Files.told c.args.files.now) (first_reading (λ h. g.P.Hand.Hand.clock h) c.run_project.result.hands) (aim_of c.in-Some.aim) c.in-Ok.asked (λ task. is_up task.aim.purpose ≡ false → (hand : _) → Among c.run_project.result.hands hand → HoldsNone task (g.P.Hand.Hand.engine hand)) (asked c.args.words.now c.args.env.now c.in-Ok.asked.options.command c.aim_for.result c.in-Some.aim (command_is c.args.words.now c.args.env.now c.in-Ok.asked.options c.in-Ok.ensures.options) c.aim_for.ensures c.in-Some.is) c.in-Ok.ensures.told c.in-Ok.ensures.text (c.run_project.ensures.engine.gone (not_refused c.run_project.result.refusal c.run_project.result.status c.run_project.ensures.status zero))
 
-pub returns-in-Ok-clause-report : goal.returns-in-Ok-clause-report
-returns-in-Ok-clause-report g c = if_begun c.run_project.result.journal c.run_project.ensures.ran (λ ran.
-    for_task c.args.words.now c.args.cwd.now (g.F.Files.told c.args.files.now) (first_reading (λ h. g.P.Hand.Hand.clock h) c.run_project.result.hands) (aim_of c.in-Some.aim) c.in-Ok.project (λ task. Reports (run_report task c.run_project.result.journal) c.run_project.result.refusal (g.O.Sink.written c.args.out.now) (g.O.Sink.written c.run_project.new.out) (g.O.Sink.faults c.args.out.now) (g.O.Sink.faults c.run_project.new.out)) (asked c.command_of.result c.args.words.now c.aim_for.result c.in-Some.aim c.command_of.ensures c.aim_for.ensures c.in-Some.is) c.in-Ok.ensures.told c.in-Ok.ensures.text ran.reported)
+pub returns-in-Some-clause-exact_in_each_world : goal.returns-in-Some-clause-exact_in_each_world
+returns-in-Some-clause-exact_in_each_world g c = λ zero. let none = not_refused c.run_project.result.refusal c.run_project.result.status c.run_project.ensures.status zero in
+    for_task c.args.words.now c.args.env.now c.args.cwd.now (g.F.Files.told c.args.files.now) (first_reading (λ h. g.P.Hand.Hand.clock h) c.run_project.result.hands) (aim_of c.in-Some.aim) c.in-Ok.asked (λ task. is_up task.aim.purpose ≡ true → EndsExact task c.run_project.result.journal) (asked c.args.words.now c.args.env.now c.in-Ok.asked.options.command c.aim_for.result c.in-Some.aim (command_is c.args.words.now c.args.env.now c.in-Ok.asked.options c.in-Ok.ensures.options) c.aim_for.ensures c.in-Some.is) c.in-Ok.ensures.told c.in-Ok.ensures.text ((has_begun c.run_project.result.journal c.run_project.result.refusal c.run_project.ensures.unbegun none c.run_project.ensures.ran).exact none)
 
-pub returns-in-Ok-clause-kept : goal.returns-in-Ok-clause-kept
-returns-in-Ok-clause-kept g c = if_begun c.run_project.result.journal c.run_project.ensures.ran (λ ran.
-    for_task c.args.words.now c.args.cwd.now (g.F.Files.told c.args.files.now) (first_reading (λ h. g.P.Hand.Hand.clock h) c.run_project.result.hands) (aim_of c.in-Some.aim) c.in-Ok.project (λ task. is_up task.aim.purpose ≡ true → SparesKept task c.run_project.result.journal) (asked c.command_of.result c.args.words.now c.aim_for.result c.in-Some.aim c.command_of.ensures c.aim_for.ensures c.in-Some.is) c.in-Ok.ensures.told c.in-Ok.ensures.text ran.spares)
+pub returns-in-Some-clause-gone_in_each_world : goal.returns-in-Some-clause-gone_in_each_world
+returns-in-Some-clause-gone_in_each_world g c = λ zero. let none = not_refused c.run_project.result.refusal c.run_project.result.status c.run_project.ensures.status zero in
+    for_task c.args.words.now c.args.env.now c.args.cwd.now (g.F.Files.told c.args.files.now) (first_reading (λ h. g.P.Hand.Hand.clock h) c.run_project.result.hands) (aim_of c.in-Some.aim) c.in-Ok.asked (λ task. is_up task.aim.purpose ≡ false → EndsGone task c.run_project.result.journal) (asked c.args.words.now c.args.env.now c.in-Ok.asked.options.command c.aim_for.result c.in-Some.aim (command_is c.args.words.now c.args.env.now c.in-Ok.asked.options c.in-Ok.ensures.options) c.aim_for.ensures c.in-Some.is) c.in-Ok.ensures.told c.in-Ok.ensures.text ((has_begun c.run_project.result.journal c.run_project.result.refusal c.run_project.ensures.unbegun none c.run_project.ensures.ran).gone none)
 
-pub returns-in-Ok-clause-world : goal.returns-in-Ok-clause-world
-returns-in-Ok-clause-world g c = if_begun c.run_project.result.journal c.run_project.ensures.engine.leads (λ leads.
-    for_task c.args.words.now c.args.cwd.now (g.F.Files.told c.args.files.now) (first_reading (λ h. g.P.Hand.Hand.clock h) c.run_project.result.hands) (aim_of c.in-Some.aim) c.in-Ok.project (λ task. (hand : _) → Among c.run_project.result.hands hand → LeadsOn task c.run_project.result.journal (g.P.Plug.engine c.args.plug.now) (g.P.Hand.Hand.engine hand)) (asked c.command_of.result c.args.words.now c.aim_for.result c.in-Some.aim c.command_of.ensures c.aim_for.ensures c.in-Some.is) c.in-Ok.ensures.told c.in-Ok.ensures.text leads)
+pub returns-in-Some-clause-words : goal.returns-in-Some-clause-words
+returns-in-Some-clause-words g c = no_words_refused c.args.words.now c.args.env.now _ c.in-Ok.asked.options c.in-Ok.ensures.options
+
+pub returns-in-Some-clause-words_only : goal.returns-in-Some-clause-words_only
+returns-in-Some-clause-words_only g c = λ refusal h e. absurd (no_words c.run_project.result.refusal refusal c.run_project.ensures.origin h e)
+
+pub returns-in-Some-clause-loading : goal.returns-in-Some-clause-loading
+returns-in-Some-clause-loading g c = IfSome-map (g.F.Files.told c.args.files.now) _ _ c.in-Ok.ensures.told (λ contents means. means_unrefused _ (meaning c.args.words.now c.args.env.now c.args.cwd.now contents) c.in-Ok.asked means)
+
+pub returns-in-Some-clause-page : goal.returns-in-Some-clause-page
+returns-in-Some-clause-page g c = λ config zero. absurd (no_config (command_of c.args.words.now c.args.env.now) (aim_of c.in-Some.aim) (asked c.args.words.now c.args.env.now c.in-Ok.asked.options.command c.aim_for.result c.in-Some.aim (command_is c.args.words.now c.args.env.now c.in-Ok.asked.options c.in-Ok.ensures.options) c.aim_for.ensures c.in-Some.is) config)
+
+pub returns-in-Some-clause-page_prefix : goal.returns-in-Some-clause-page_prefix
+returns-in-Some-clause-page_prefix g c = λ config. absurd (no_config (command_of c.args.words.now c.args.env.now) (aim_of c.in-Some.aim) (asked c.args.words.now c.args.env.now c.in-Ok.asked.options.command c.aim_for.result c.in-Some.aim (command_is c.args.words.now c.args.env.now c.in-Ok.asked.options c.in-Ok.ensures.options) c.aim_for.ensures c.in-Some.is) config)
+
+pub returns-in-Some-clause-page_fault : goal.returns-in-Some-clause-page_fault
+returns-in-Some-clause-page_fault g c = λ config e. absurd (no_config (command_of c.args.words.now c.args.env.now) (aim_of c.in-Some.aim) (asked c.args.words.now c.args.env.now c.in-Ok.asked.options.command c.aim_for.result c.in-Some.aim (command_is c.args.words.now c.args.env.now c.in-Ok.asked.options c.in-Ok.ensures.options) c.aim_for.ensures c.in-Some.is) config)
+
+pub returns-in-Some-clause-page_kind : goal.returns-in-Some-clause-page_kind
+returns-in-Some-clause-page_kind g c = λ config. absurd (no_config (command_of c.args.words.now c.args.env.now) (aim_of c.in-Some.aim) (asked c.args.words.now c.args.env.now c.in-Ok.asked.options.command c.aim_for.result c.in-Some.aim (command_is c.args.words.now c.args.env.now c.in-Ok.asked.options c.in-Ok.ensures.options) c.aim_for.ensures c.in-Some.is) config)
+
+pub returns-in-Some-clause-page_complete : goal.returns-in-Some-clause-page_complete
+returns-in-Some-clause-page_complete g c = λ config. absurd (no_config (command_of c.args.words.now c.args.env.now) (aim_of c.in-Some.aim) (asked c.args.words.now c.args.env.now c.in-Ok.asked.options.command c.aim_for.result c.in-Some.aim (command_is c.args.words.now c.args.env.now c.in-Ok.asked.options c.in-Ok.ensures.options) c.aim_for.ensures c.in-Some.is) config)
+
+pub returns-in-Some-clause-unbegun : goal.returns-in-Some-clause-unbegun
+returns-in-Some-clause-unbegun g c = if_runs c.args.words.now c.args.env.now _ c.run_project.ensures.unbegun
+
+pub returns-in-Some-clause-quiet_unbegun : goal.returns-in-Some-clause-quiet_unbegun
+returns-in-Some-clause-quiet_unbegun g c = if_runs c.args.words.now c.args.env.now _ c.run_project.ensures.quiet_unbegun
+
+pub returns-in-Ok-clause-words : goal.returns-in-Ok-clause-words
+returns-in-Ok-clause-words g c = no_words_refused c.args.words.now c.args.env.now _ c.in-Ok.asked.options c.in-Ok.ensures.options
+
+pub returns-in-Ok-clause-words_only : goal.returns-in-Ok-clause-words_only
+returns-in-Ok-clause-words_only g c = λ refusal h e. absurd (page_no_words (page_for c.in-Ok.asked.options.command c.in-Ok.asked.project) (g.O.Sink.written c.args.out.now) (g.O.Sink.written c.print_asked.new.out) (g.O.Sink.faults c.args.out.now) (g.O.Sink.faults c.print_asked.new.out) c.without_hands.result.refusal refusal (page_kept (page_for c.in-Ok.asked.options.command c.in-Ok.asked.project) (g.O.Sink.written c.args.out.now) (g.O.Sink.written c.print_asked.new.out) (g.O.Sink.faults c.args.out.now) (g.O.Sink.faults c.print_asked.new.out) c.print_asked.result.refusal c.without_hands.result.refusal c.without_hands.ensures.refusal c.print_asked.ensures.printed) h e)
+
+pub returns-in-Ok-clause-loading : goal.returns-in-Ok-clause-loading
+returns-in-Ok-clause-loading g c = IfSome-map (g.F.Files.told c.args.files.now) _ _ c.in-Ok.ensures.told (λ contents means. means_unrefused _ (meaning c.args.words.now c.args.env.now c.args.cwd.now contents) c.in-Ok.asked means)
+
+pub returns-in-Ok-clause-read_fault : goal.returns-in-Ok-clause-read_fault
+returns-in-Ok-clause-read_fault g c = λ path e. absurd (page_no_read (page_for c.in-Ok.asked.options.command c.in-Ok.asked.project) (g.O.Sink.written c.args.out.now) (g.O.Sink.written c.print_asked.new.out) (g.O.Sink.faults c.args.out.now) (g.O.Sink.faults c.print_asked.new.out) c.without_hands.result.refusal path (page_kept (page_for c.in-Ok.asked.options.command c.in-Ok.asked.project) (g.O.Sink.written c.args.out.now) (g.O.Sink.written c.print_asked.new.out) (g.O.Sink.faults c.args.out.now) (g.O.Sink.faults c.print_asked.new.out) c.print_asked.result.refusal c.without_hands.result.refusal c.without_hands.ensures.refusal c.print_asked.ensures.printed) e)
+
+pub returns-in-Ok-clause-dial : goal.returns-in-Ok-clause-dial
+returns-in-Ok-clause-dial g c = λ e. absurd (page_no_plug (page_for c.in-Ok.asked.options.command c.in-Ok.asked.project) (g.O.Sink.written c.args.out.now) (g.O.Sink.written c.print_asked.new.out) (g.O.Sink.faults c.args.out.now) (g.O.Sink.faults c.print_asked.new.out) c.without_hands.result.refusal (page_kept (page_for c.in-Ok.asked.options.command c.in-Ok.asked.project) (g.O.Sink.written c.args.out.now) (g.O.Sink.written c.print_asked.new.out) (g.O.Sink.faults c.args.out.now) (g.O.Sink.faults c.print_asked.new.out) c.print_asked.result.refusal c.without_hands.result.refusal c.without_hands.ensures.refusal c.print_asked.ensures.printed) e)
+
+pub returns-in-Ok-clause-page : goal.returns-in-Ok-clause-page
+returns-in-Ok-clause-page g c = λ config zero.
+    for_project c.args.words.now c.args.env.now c.args.cwd.now (g.F.Files.told c.args.files.now) c.in-Ok.asked (λ project. GrewBy (g.O.Sink.written c.args.out.now) (page_asked (command_of c.args.words.now c.args.env.now) project) (g.O.Sink.written c.print_asked.new.out)) c.in-Ok.ensures.told c.in-Ok.ensures.text
+    (asked_whole (g.O.Sink.written c.args.out.now) (g.O.Sink.written c.print_asked.new.out) (g.O.Sink.faults c.args.out.now) (g.O.Sink.faults c.print_asked.new.out) (command_of c.args.words.now c.args.env.now) c.in-Ok.asked.options.command c.in-Ok.asked.project (command_is c.args.words.now c.args.env.now c.in-Ok.asked.options c.in-Ok.ensures.options) c.print_asked.result.refusal (c.print_asked.ensures.none.1 (sym c.without_hands.ensures.status ∙ zero)) c.print_asked.ensures.printed)
+
+pub returns-in-Ok-clause-page_prefix : goal.returns-in-Ok-clause-page_prefix
+returns-in-Ok-clause-page_prefix g c = λ config. inr (
+    for_project c.args.words.now c.args.env.now c.args.cwd.now (g.F.Files.told c.args.files.now) c.in-Ok.asked (λ project. GrewByPrefix (g.O.Sink.written c.args.out.now) (g.O.Sink.written c.print_asked.new.out) (page_asked (command_of c.args.words.now c.args.env.now) project)) c.in-Ok.ensures.told c.in-Ok.ensures.text
+    (asked_prefix (g.O.Sink.written c.args.out.now) (g.O.Sink.written c.print_asked.new.out) (g.O.Sink.faults c.args.out.now) (g.O.Sink.faults c.print_asked.new.out) (command_of c.args.words.now c.args.env.now) c.in-Ok.asked.options.command c.in-Ok.asked.project (command_is c.args.words.now c.args.env.now c.in-Ok.asked.options c.in-Ok.ensures.options) c.print_asked.result.refusal c.print_asked.ensures.printed))
+
+pub returns-in-Ok-clause-page_fault : goal.returns-in-Ok-clause-page_fault
+returns-in-Ok-clause-page_fault g c = λ config e. page_fault (page_for c.in-Ok.asked.options.command c.in-Ok.asked.project) (g.O.Sink.written c.args.out.now) (g.O.Sink.written c.print_asked.new.out) (g.O.Sink.faults c.args.out.now) (g.O.Sink.faults c.print_asked.new.out) c.without_hands.result.refusal (page_kept (page_for c.in-Ok.asked.options.command c.in-Ok.asked.project) (g.O.Sink.written c.args.out.now) (g.O.Sink.written c.print_asked.new.out) (g.O.Sink.faults c.args.out.now) (g.O.Sink.faults c.print_asked.new.out) c.print_asked.result.refusal c.without_hands.result.refusal c.without_hands.ensures.refusal c.print_asked.ensures.printed) e
+
+pub returns-in-Ok-clause-page_kind : goal.returns-in-Ok-clause-page_kind
+returns-in-Ok-clause-page_kind g c = λ config. page_kind (page_for c.in-Ok.asked.options.command c.in-Ok.asked.project) (g.O.Sink.written c.args.out.now) (g.O.Sink.written c.print_asked.new.out) (g.O.Sink.faults c.args.out.now) (g.O.Sink.faults c.print_asked.new.out) c.without_hands.result.refusal (page_kept (page_for c.in-Ok.asked.options.command c.in-Ok.asked.project) (g.O.Sink.written c.args.out.now) (g.O.Sink.written c.print_asked.new.out) (g.O.Sink.faults c.args.out.now) (g.O.Sink.faults c.print_asked.new.out) c.print_asked.result.refusal c.without_hands.result.refusal c.without_hands.ensures.refusal c.print_asked.ensures.printed)
+
+pub returns-in-Ok-clause-page_complete : goal.returns-in-Ok-clause-page_complete
+returns-in-Ok-clause-page_complete g c = λ config. if_loads c.args.words.now c.args.env.now c.args.cwd.now (g.F.Files.told c.args.files.now) _ (page_complete (page_for c.in-Ok.asked.options.command c.in-Ok.asked.project) (g.O.Sink.written c.args.out.now) (g.O.Sink.written c.print_asked.new.out) (g.O.Sink.faults c.args.out.now) (g.O.Sink.faults c.print_asked.new.out) c.args.cwd.now (g.F.Files.faults c.args.files.now) (g.F.Files.faults c.project_asked.new.files) c.without_hands.result.refusal (page_kept (page_for c.in-Ok.asked.options.command c.in-Ok.asked.project) (g.O.Sink.written c.args.out.now) (g.O.Sink.written c.print_asked.new.out) (g.O.Sink.faults c.args.out.now) (g.O.Sink.faults c.print_asked.new.out) c.print_asked.result.refusal c.without_hands.result.refusal c.without_hands.ensures.refusal c.print_asked.ensures.printed))
+
+pub returns-in-Ok-clause-run_complete : goal.returns-in-Ok-clause-run_complete
+returns-in-Ok-clause-run_complete g c = λ loading. absurd (page_no_loading (page_for c.in-Ok.asked.options.command c.in-Ok.asked.project) (g.O.Sink.written c.args.out.now) (g.O.Sink.written c.print_asked.new.out) (g.O.Sink.faults c.args.out.now) (g.O.Sink.faults c.print_asked.new.out) c.without_hands.result.refusal (page_kept (page_for c.in-Ok.asked.options.command c.in-Ok.asked.project) (g.O.Sink.written c.args.out.now) (g.O.Sink.written c.print_asked.new.out) (g.O.Sink.faults c.args.out.now) (g.O.Sink.faults c.print_asked.new.out) c.print_asked.result.refusal c.without_hands.result.refusal c.without_hands.ensures.refusal c.print_asked.ensures.printed) loading)
+
+pub returns-in-Ok-clause-quiet : goal.returns-in-Ok-clause-quiet
+returns-in-Ok-clause-quiet g c = λ loading. absurd (page_no_loading (page_for c.in-Ok.asked.options.command c.in-Ok.asked.project) (g.O.Sink.written c.args.out.now) (g.O.Sink.written c.print_asked.new.out) (g.O.Sink.faults c.args.out.now) (g.O.Sink.faults c.print_asked.new.out) c.without_hands.result.refusal (page_kept (page_for c.in-Ok.asked.options.command c.in-Ok.asked.project) (g.O.Sink.written c.args.out.now) (g.O.Sink.written c.print_asked.new.out) (g.O.Sink.faults c.args.out.now) (g.O.Sink.faults c.print_asked.new.out) c.print_asked.result.refusal c.without_hands.result.refusal c.without_hands.ensures.refusal c.print_asked.ensures.printed) loading)
+
+pub returns-in-Ok-clause-quiet_dial : goal.returns-in-Ok-clause-quiet_dial
+returns-in-Ok-clause-quiet_dial g c = λ e. absurd (page_no_plug (page_for c.in-Ok.asked.options.command c.in-Ok.asked.project) (g.O.Sink.written c.args.out.now) (g.O.Sink.written c.print_asked.new.out) (g.O.Sink.faults c.args.out.now) (g.O.Sink.faults c.print_asked.new.out) c.without_hands.result.refusal (page_kept (page_for c.in-Ok.asked.options.command c.in-Ok.asked.project) (g.O.Sink.written c.args.out.now) (g.O.Sink.written c.print_asked.new.out) (g.O.Sink.faults c.args.out.now) (g.O.Sink.faults c.print_asked.new.out) c.print_asked.result.refusal c.without_hands.result.refusal c.without_hands.ensures.refusal c.print_asked.ensures.printed) e)
+
+pub returns-in-Ok-clause-unbegun : goal.returns-in-Ok-clause-unbegun
+returns-in-Ok-clause-unbegun g c = idle c.args.words.now c.args.env.now _ (unasked c.args.words.now c.args.env.now c.in-Ok.asked.options.command c.aim_for.result (command_is c.args.words.now c.args.env.now c.in-Ok.asked.options c.in-Ok.ensures.options) c.aim_for.ensures c.in-None.is)
+
+pub returns-in-Ok-clause-quiet_unbegun : goal.returns-in-Ok-clause-quiet_unbegun
+returns-in-Ok-clause-quiet_unbegun g c = idle c.args.words.now c.args.env.now _ (unasked c.args.words.now c.args.env.now c.in-Ok.asked.options.command c.aim_for.result (command_is c.args.words.now c.args.env.now c.in-Ok.asked.options c.in-Ok.ensures.options) c.aim_for.ensures c.in-None.is)
 
 pub returns-in-Ok-clause-exact : goal.returns-in-Ok-clause-exact
-returns-in-Ok-clause-exact g c = λ zero.
-    for_task c.args.words.now c.args.cwd.now (g.F.Files.told c.args.files.now) (first_reading (λ h. g.P.Hand.Hand.clock h) c.run_project.result.hands) (aim_of c.in-Some.aim) c.in-Ok.project (λ task. is_up task.aim.purpose ≡ true → (hand : _) → Among c.run_project.result.hands hand → HoldsExactly task (g.P.Hand.Hand.engine hand)) (asked c.command_of.result c.args.words.now c.aim_for.result c.in-Some.aim c.command_of.ensures c.aim_for.ensures c.in-Some.is) c.in-Ok.ensures.told c.in-Ok.ensures.text (c.run_project.ensures.engine.exact (not_refused c.run_project.result.refusal c.run_project.result.status c.run_project.ensures.status zero))
+returns-in-Ok-clause-exact g c = λ zero. idle c.args.words.now c.args.env.now _ (unasked c.args.words.now c.args.env.now c.in-Ok.asked.options.command c.aim_for.result (command_is c.args.words.now c.args.env.now c.in-Ok.asked.options c.in-Ok.ensures.options) c.aim_for.ensures c.in-None.is)
 
 pub returns-in-Ok-clause-gone : goal.returns-in-Ok-clause-gone
-returns-in-Ok-clause-gone g c = λ zero.
-    for_task c.args.words.now c.args.cwd.now (g.F.Files.told c.args.files.now) (first_reading (λ h. g.P.Hand.Hand.clock h) c.run_project.result.hands) (aim_of c.in-Some.aim) c.in-Ok.project (λ task. is_up task.aim.purpose ≡ false → (hand : _) → Among c.run_project.result.hands hand → HoldsNone task (g.P.Hand.Hand.engine hand)) (asked c.command_of.result c.args.words.now c.aim_for.result c.in-Some.aim c.command_of.ensures c.aim_for.ensures c.in-Some.is) c.in-Ok.ensures.told c.in-Ok.ensures.text (c.run_project.ensures.engine.gone (not_refused c.run_project.result.refusal c.run_project.result.status c.run_project.ensures.status zero))
+returns-in-Ok-clause-gone g c = λ zero. idle c.args.words.now c.args.env.now _ (unasked c.args.words.now c.args.env.now c.in-Ok.asked.options.command c.aim_for.result (command_is c.args.words.now c.args.env.now c.in-Ok.asked.options c.in-Ok.ensures.options) c.aim_for.ensures c.in-None.is)
 
 pub returns-in-Ok-clause-exact_in_each_world : goal.returns-in-Ok-clause-exact_in_each_world
-returns-in-Ok-clause-exact_in_each_world g c = λ zero. let none = not_refused c.run_project.result.refusal c.run_project.result.status c.run_project.ensures.status zero in
-    for_task c.args.words.now c.args.cwd.now (g.F.Files.told c.args.files.now) (first_reading (λ h. g.P.Hand.Hand.clock h) c.run_project.result.hands) (aim_of c.in-Some.aim) c.in-Ok.project (λ task. is_up task.aim.purpose ≡ true → EndsExact task c.run_project.result.journal) (asked c.command_of.result c.args.words.now c.aim_for.result c.in-Some.aim c.command_of.ensures c.aim_for.ensures c.in-Some.is) c.in-Ok.ensures.told c.in-Ok.ensures.text ((has_begun c.run_project.result.journal c.run_project.result.refusal c.run_project.ensures.unbegun none c.run_project.ensures.ran).exact none)
+returns-in-Ok-clause-exact_in_each_world g c = λ zero. idle c.args.words.now c.args.env.now _ (unasked c.args.words.now c.args.env.now c.in-Ok.asked.options.command c.aim_for.result (command_is c.args.words.now c.args.env.now c.in-Ok.asked.options c.in-Ok.ensures.options) c.aim_for.ensures c.in-None.is)
 
 pub returns-in-Ok-clause-gone_in_each_world : goal.returns-in-Ok-clause-gone_in_each_world
-returns-in-Ok-clause-gone_in_each_world g c = λ zero. let none = not_refused c.run_project.result.refusal c.run_project.result.status c.run_project.ensures.status zero in
-    for_task c.args.words.now c.args.cwd.now (g.F.Files.told c.args.files.now) (first_reading (λ h. g.P.Hand.Hand.clock h) c.run_project.result.hands) (aim_of c.in-Some.aim) c.in-Ok.project (λ task. is_up task.aim.purpose ≡ false → EndsGone task c.run_project.result.journal) (asked c.command_of.result c.args.words.now c.aim_for.result c.in-Some.aim c.command_of.ensures c.aim_for.ensures c.in-Some.is) c.in-Ok.ensures.told c.in-Ok.ensures.text ((has_begun c.run_project.result.journal c.run_project.result.refusal c.run_project.ensures.unbegun none c.run_project.ensures.ran).gone none)
+returns-in-Ok-clause-gone_in_each_world g c = λ zero. idle c.args.words.now c.args.env.now _ (unasked c.args.words.now c.args.env.now c.in-Ok.asked.options.command c.aim_for.result (command_is c.args.words.now c.args.env.now c.in-Ok.asked.options c.in-Ok.ensures.options) c.aim_for.ensures c.in-None.is)
 
-pub returns-in-Err-clause-exact : goal.returns-in-Err-clause-exact
-returns-in-Err-clause-exact g c = λ zero. absurd (said_not_zero c.from.result c.refused.result.refusal c.refused.result.status c.refused.ensures.refusal c.refused.ensures.status zero)
+pub returns-clause-words : goal.returns-clause-words
+returns-clause-words g c = beside (options_asked c.args.words.now c.args.env.now) (λ refusal. IsSaid refusal c.refused.result.refusal) c.refused.ensures.nothing (said_words c.args.words.now c.args.env.now c.in-Err.refusal c.refused.result.refusal c.in-Err.ensures.words c.refused.ensures.refusal)
 
-pub returns-in-Err-clause-gone : goal.returns-in-Err-clause-gone
-returns-in-Err-clause-gone g c = λ zero. absurd (said_not_zero c.from.result c.refused.result.refusal c.refused.result.status c.refused.ensures.refusal c.refused.ensures.status zero)
+pub returns-clause-words_only : goal.returns-clause-words_only
+returns-clause-words_only g c = λ refusal h e. said_exactly c.args.words.now c.args.env.now c.in-Err.refusal refusal c.refused.result.refusal c.in-Err.ensures.words_only c.refused.ensures.refusal h e
 
-pub returns-in-Err-clause-exact_in_each_world : goal.returns-in-Err-clause-exact_in_each_world
-returns-in-Err-clause-exact_in_each_world g c = λ zero. absurd (said_not_zero c.from.result c.refused.result.refusal c.refused.result.status c.refused.ensures.refusal c.refused.ensures.status zero)
+pub returns-clause-loading : goal.returns-clause-loading
+returns-clause-loading g c = IfSome-map (g.F.Files.told c.args.files.now) _ _ c.in-Err.ensures.told (λ contents means. refused_with (meaning c.args.words.now c.args.env.now c.args.cwd.now contents) c.in-Err.refusal c.refused.result c.refused.ensures.nothing means c.refused.ensures.refusal)
 
-pub returns-in-Err-clause-gone_in_each_world : goal.returns-in-Err-clause-gone_in_each_world
-returns-in-Err-clause-gone_in_each_world g c = λ zero. absurd (said_not_zero c.from.result c.refused.result.refusal c.refused.result.status c.refused.ensures.refusal c.refused.ensures.status zero)
+pub returns-clause-read_fault : goal.returns-clause-read_fault
+returns-clause-read_fault g c = λ path e. c.in-Err.ensures.read path (ap Err (said_read c.in-Err.refusal c.refused.result.refusal path c.refused.ensures.refusal e))
+
+pub returns-clause-dial : goal.returns-clause-dial
+returns-clause-dial g c = λ e. absurd (before_no_outside c.in-Err.refusal c.refused.result.refusal c.in-Err.ensures.kind c.refused.ensures.refusal Part.Plug e)
+
+pub returns-clause-page : goal.returns-clause-page
+returns-clause-page g c = λ config zero. absurd (said_not_zero c.in-Err.refusal c.refused.result.refusal c.refused.result.status c.refused.ensures.refusal c.refused.ensures.status zero)
+
+pub returns-clause-page_fault : goal.returns-clause-page_fault
+returns-clause-page_fault g c = λ config e. absurd (before_no_outside c.in-Err.refusal c.refused.result.refusal c.in-Err.ensures.kind c.refused.ensures.refusal Part.Out e)
+
+pub returns-clause-page_kind : goal.returns-clause-page_kind
+returns-clause-page_kind g c = λ config. before_kind c.in-Err.refusal c.refused.result.refusal c.in-Err.ensures.kind c.refused.ensures.refusal
+
+pub returns-clause-page_complete : goal.returns-clause-page_complete
+returns-clause-page_complete g c = λ config. only_outside c.args.words.now c.args.env.now c.args.cwd.now (g.F.Files.told c.args.files.now) (g.F.Files.faults c.args.files.now) (g.F.Files.faults c.project_asked.new.files) (g.O.Sink.faults c.args.out.now) (g.O.Sink.faults c.args.out.now) c.in-Err.refusal c.refused.result.refusal c.in-Err.ensures.told (λ path e. c.in-Err.ensures.read path (ap Err e)) c.refused.ensures.refusal
+
+pub returns-clause-run_complete : goal.returns-clause-run_complete
+returns-clause-run_complete g c = only_reads c.args.words.now c.args.env.now c.args.cwd.now (g.F.Files.told c.args.files.now) (g.F.Files.faults c.args.files.now) (g.F.Files.faults c.project_asked.new.files) c.in-Err.refusal c.refused.result.refusal c.in-Err.ensures.told (λ path e. c.in-Err.ensures.read path (ap Err e)) c.refused.ensures.refusal
+
+pub returns-clause-unbegun : goal.returns-clause-unbegun
+returns-clause-unbegun g c = if_runs c.args.words.now c.args.env.now _ (λ empty. before_unbegun c.in-Err.refusal c.refused.result.refusal c.in-Err.ensures.kind c.refused.ensures.refusal)
+
+pub returns-clause-exact : goal.returns-clause-exact
+returns-clause-exact g c = λ zero. absurd (said_not_zero c.in-Err.refusal c.refused.result.refusal c.refused.result.status c.refused.ensures.refusal c.refused.ensures.status zero)
+
+pub returns-clause-gone : goal.returns-clause-gone
+returns-clause-gone g c = λ zero. absurd (said_not_zero c.in-Err.refusal c.refused.result.refusal c.refused.result.status c.refused.ensures.refusal c.refused.ensures.status zero)
+
+pub returns-clause-exact_in_each_world : goal.returns-clause-exact_in_each_world
+returns-clause-exact_in_each_world g c = λ zero. absurd (said_not_zero c.in-Err.refusal c.refused.result.refusal c.refused.result.status c.refused.ensures.refusal c.refused.ensures.status zero)
+
+pub returns-clause-gone_in_each_world : goal.returns-clause-gone_in_each_world
+returns-clause-gone_in_each_world g c = λ zero. absurd (said_not_zero c.in-Err.refusal c.refused.result.refusal c.refused.result.status c.refused.ensures.refusal c.refused.ensures.status zero)
+
+pub returns-clause-quiet_unbegun : goal.returns-clause-quiet_unbegun
+returns-clause-quiet_unbegun g c = if_runs c.args.words.now c.args.env.now _ (λ empty. refl)
+
+pub returns-in-Some-clause-config : goal.returns-in-Some-clause-config
+returns-in-Some-clause-config g c = λ none. let bad : Some (aim_of c.in-Some.aim) ≡ None = sym (asked c.args.words.now c.args.env.now c.in-Ok.asked.options.command c.aim_for.result c.in-Some.aim (command_is c.args.words.now c.args.env.now c.in-Ok.asked.options c.in-Ok.ensures.options) c.aim_for.ensures c.in-Some.is) ∙ none in absurd (cc bad)

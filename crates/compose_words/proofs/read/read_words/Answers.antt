@@ -2,7 +2,7 @@ use Rattle.std.proofs.Common.{◌≡◌, ap, length, subst, sym}
 use Rattle.std.specs.Prelude.{Result, Err, IfErr}
 use Rattle.std.proofs.lemmas.Result.{err_from_is_err_and}
 use Rattle.compose_words.specs.declared.refusal.WordsRefusal.{WordsRefusal}
-use Rattle.compose_words.proofs.RefusalLemmas.{answers_words, items_or_refusal-words, and_then-given}
+use Rattle.compose_words.proofs.RefusalLemmas.{answers_words, items_or_refusal-words, options_of_items-words, and_then-given}
 use Rattle.compose_words.proofs.BoundLemmas.{answer-bounded, options_of-bounded}
 use Rattle.compose_words.proofs.PlaceLemmas.{answer-placed, items_or_refusal-placed, options_of-placed}
 use Rattle.compose_words.specs.Bounds.{IsWithin}
@@ -15,6 +15,11 @@ returns-in_err-items-clause-host c = λ e.
     let from = err_from_is_err_and c.from_residual.result c.from_residual.ensures.1 in
     let same : c.in_err-items.field-0.0 ≡ WordsRefusal.BadHost = cc (from.1, from.2) in
     answers_words (Err c.in_err-items.field-0.0) _ c.in_err-items.ensures (items_or_refusal-words c.args.words.now) (ap Err same)
+
+pub returns-clause-host : goal.returns-clause-host
+returns-clause-host c =
+    let read : IsUnlessMemory c.options_of_items.result (options_of_items c.in_ok-items.items) = rw (← c.as_slice.ensures) c.options_of_items.ensures in
+    answers_words c.options_of_items.result (options_of_items c.in_ok-items.items) read (options_of_items-words c.in_ok-items.items)
 
 pub returns-clause-bounds : goal.returns-clause-bounds
 returns-clause-bounds c =
