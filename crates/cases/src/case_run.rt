@@ -59,16 +59,33 @@ fn run_case(
 fn differences(alloc: Global, tree: &Tree) -> Result<Option<Text>, CaseFault> {
     let case = Case::of_tree(alloc, tree)?;
     let call = case.call()?;
-    let inputs = match inputs_of(call.as_str()) {
-        Some(inputs) => {
-            case.has_wanted(call, inputs)?;
-            inputs
-        }
-        None => &[],
+    let Some(inputs) = inputs_of(call.as_str()) else {
+        return no_call(alloc, call);
     };
+    case.has_wanted(call, inputs)?;
+    answered(alloc, &case, call, inputs)
+}
+
+/// NoCase: there is no such call.
+fn no_call(alloc: Global, call: &Text) -> Result<Option<Text>, CaseFault> {
+    let mut answers = Answers::new(alloc);
+    answers.reading.no_call(call.as_str());
+    let sound = answers.reading.sound();
+    drop(answers);
+    sound?;
+    Ok(None)
+}
+
+/// Makes the call of a case, and says in what its answers differ.
+fn answered(
+    alloc: Global,
+    case: &Case,
+    call: &Text,
+    inputs: &[&str],
+) -> Result<Option<Text>, CaseFault> {
     let mut answers = Answers::new(alloc);
     answer(call.as_str(), case.fields(), &mut answers);
-    let told = told(&case, call, inputs, &mut answers);
+    let told = told(case, call, inputs, &mut answers);
     drop(answers);
     told
 }
