@@ -1,64 +1,12 @@
 -- The first elements of each key, one element further, beside a map that knows their keys.
-use Rattle.std.proofs.Common.{◌≡◌, ℕ, Bool, true, false, cond, not, ◌||◌, List, [], ◌∷◌, ◌++◌, map, filter, Option, Some, None, is_some, refl, ap, sym, ◌∙◌}
-use Rattle.std.proofs.lemmas.List.{map-append, append-nil}
-use Rattle.std.proofs.lemmas.List.Elements.{filter-append}
-use Rattle.std.proofs.lemmas.Map.Views.{any-filter_same}
-use Rattle.std.proofs.lemmas.Slice.Eq.{bytes_eq-Decides}
+use Rattle.std.proofs.Common.{◌≡◌, ℕ, Bool, true, false, cond, ◌||◌, List, [], ◌∷◌, ◌++◌, map, Option, Some, None, is_some, refl, ap, sym, ◌∙◌}
+use Rattle.std.proofs.lemmas.List.{map-append}
 use Rattle.std.specs.List.{list_any}
 use Rattle.std.specs.Map.{keys_of, lookup}
 use Rattle.std.specs.Str.{bytes_eq}
 use Rattle.tree_base.specs.Entries.{insert_entry}
 use Rattle.tree_base.specs.ByteOrder.{first_of_each}
-
-flipped : (s t : List ℕ) (b : Bool) → bytes_eq s t ≡ b → bytes_eq t s ≡ b
-flipped s t true e = (bytes_eq-Decides t s).1 (sym ((bytes_eq-Decides s t).0 e))
-flipped s t false e = at (bytes_eq t s) refl
-  where
-    at : (b : Bool) → bytes_eq t s ≡ b → bytes_eq t s ≡ false
-    at true f = let bad : true ≡ false = sym ((bytes_eq-Decides s t).1 (sym ((bytes_eq-Decides t s).0 f))) ∙ e in absurd (cc bad)
-    at false f = f
-
-module _ {X : Type 0} (key : X → List ℕ) where
-  -- whether an element has this key
-  abbrev pub has : List ℕ → List X → Bool
-  has k xs = list_any (λ x. bytes_eq k (key x)) xs
-
-  -- the elements with one more, unless its key is there
-  abbrev pub with_new : List X → X → List X
-  with_new firsts x = cond (has (key x) firsts) firsts (firsts ++ x ∷ [])
-
-  -- the elements that have another key
-  abbrev others : X → X → Bool
-  others y z = not (bytes_eq (key y) (key z))
-
-  same_out : (x y : X) → bytes_eq (key x) (key y) ≡ true → others y x ≡ false
-  same_out x y e = ap not (flipped (key x) (key y) true e)
-
-  other_in : (x y : X) → bytes_eq (key x) (key y) ≡ false → others y x ≡ true
-  other_in x y e = ap not (flipped (key x) (key y) false e)
-
-  more_out : (x y : X) (l : List X) → others y x ≡ false → filter (others y) (l ++ x ∷ []) ≡ filter (others y) l
-  more_out x y l e = filter-append (others y) l (x ∷ []) ∙ ap (λ b. filter (others y) l ++ cond b (x ∷ []) []) e ∙ append-nil (filter (others y) l)
-
-  more_in : (x y : X) (l : List X) → others y x ≡ true → filter (others y) (l ++ x ∷ []) ≡ filter (others y) l ++ x ∷ []
-  more_in x y l e = filter-append (others y) l (x ∷ []) ∙ ap (λ b. filter (others y) l ++ cond b (x ∷ []) []) e
-
-  has_still : (x y : X) (l : List X) → bytes_eq (key x) (key y) ≡ false → has (key x) (filter (others y) l) ≡ has (key x) l
-  has_still x y l e = any-filter_same (λ (z : X). bytes_eq (key x) (key z)) (others y) true
-      (λ z m. let one : key x ≡ key z = (bytes_eq-Decides (key x) (key z)).0 m in ap not (ap (bytes_eq (key y)) (sym one) ∙ flipped (key x) (key y) false e)) l
-
-  after : (x y : X) (l : List X) (t u : Bool) → bytes_eq (key x) (key y) ≡ t → has (key x) l ≡ u
-      → (y ∷ filter (others y) (cond u l (l ++ x ∷ []))) ≡ cond (t || has (key x) (filter (others y) l)) (y ∷ filter (others y) l) (y ∷ filter (others y) l ++ x ∷ [])
-  after x y l true true e f = refl
-  after x y l true false e f = ap (λ m. y ∷ m) (more_out x y l (same_out x y e))
-  after x y l false true e f = sym (ap (λ b. cond b (y ∷ filter (others y) l) (y ∷ filter (others y) l ++ x ∷ [])) (has_still x y l e ∙ f))
-  after x y l false false e f =
-      ap (λ m. y ∷ m) (more_in x y l (other_in x y e)) ∙ sym (ap (λ b. cond b (y ∷ filter (others y) l) (y ∷ filter (others y) l ++ x ∷ [])) (has_still x y l e ∙ f))
-
-  pub firsts-more : (xs : List X) (x : X) → first_of_each key (xs ++ x ∷ []) ≡ with_new (first_of_each key xs) x
-  firsts-more [] x = refl
-  firsts-more (y ∷ ys) x =
-      ap (λ l. y ∷ filter (others y) l) (firsts-more ys x) ∙ after x y (first_of_each key ys) (bytes_eq (key x) (key y)) (has (key x) (first_of_each key ys)) refl refl
+use Rattle.run_model.proofs.Firsts.{any-map, firsts-more, has, with_new}
 
 module _ {V : Type 0} (k : List ℕ) where
   missing : (entries : List (List ℕ × V)) → lookup (bytes_eq k) entries ≡ None → list_any (bytes_eq k) (keys_of entries) ≡ false
@@ -91,13 +39,9 @@ module _ {V : Type 0} (k : List ℕ) where
       at false false e = ap (λ l. entry.0 ∷ l) e
 
 module _ {X : Type 0} (key : X → List ℕ) where
-  any-map : (k : List ℕ) (xs : List X) → list_any (bytes_eq k) (map key xs) ≡ has key k xs
-  any-map k [] = refl
-  any-map k (x ∷ xs) = ap (λ b. bytes_eq k (key x) || b) (any-map k xs)
-
   module _ {V : Type 0} (entries : List (List ℕ × V)) (firsts xs : List X) (x : X) (are : firsts ≡ first_of_each key xs) (knows : keys_of entries ≡ map key firsts) where
     any-known : (b : Bool) → list_any (bytes_eq (key x)) (keys_of entries) ≡ b → has key (key x) firsts ≡ b
-    any-known b e = sym (any-map (key x) firsts) ∙ ap (list_any (bytes_eq (key x))) (sym knows) ∙ e
+    any-known b e = sym (any-map key (key x) firsts) ∙ ap (list_any (bytes_eq (key x))) (sym knows) ∙ e
 
     -- the element's key is new
     pub first-new : lookup (bytes_eq (key x)) entries ≡ None → firsts ++ x ∷ [] ≡ first_of_each key (xs ++ x ∷ [])

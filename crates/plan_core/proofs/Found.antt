@@ -19,7 +19,7 @@ use Rattle.engine_types.specs.declared.Need.{Need}
 use Rattle.engine_types.specs.declared.Slot.{Slot}
 use Rattle.engine_types.specs.declared.VolumeSpec.{VolumeSpec}
 use Rattle.tree_base.specs.declared.place.Var.{Var}
-use Rattle.run_model.specs.EngineRules.{Among, label_in}
+use Rattle.run_model.specs.EngineRules.{Among}
 use Rattle.run_model.specs.Labels.{names_service}
 use Rattle.run_model.specs.Numbers.{places}
 use Rattle.run_model.specs.Observation.{is_up}

@@ -6,7 +6,7 @@ use Rattle.std.specs.Option.{option_map_or}
 use Rattle.std.specs.Str.{bytes_eq}
 use Rattle.std.proofs.lemmas.Bool.{and_parts, eqb-true}
 use Rattle.std.proofs.lemmas.Slice.Eq.{bytes_eq-Decides}
-use Rattle.engine_types.specs.Labels.{service_label}
+use Rattle.engine_types.specs.Labels.{label, service_label}
 use Rattle.engine_types.specs.declared.ActionKind.{ActionKind}
 use Rattle.engine_types.specs.declared.ActionKind.TheVariants.{MakeVolume, MakeNetwork, StopContainer, RemoveContainer, CreateSlot, ConnectSlot, StopKept, StartSlot, RemoveNetwork, RemoveVolume}
 use Rattle.engine_types.specs.declared.Declared.{Declared}
@@ -15,7 +15,7 @@ use Rattle.engine_types.specs.declared.Need.{Need}
 use Rattle.engine_types.specs.declared.Seen.{Seen}
 use Rattle.engine_types.specs.declared.Slot.{Slot}
 use Rattle.tree_base.specs.declared.place.Var.{Var}
-use Rattle.run_model.specs.EngineRules.{Among, label_in}
+use Rattle.run_model.specs.EngineRules.{Among}
 use Rattle.run_model.specs.Labels.{names_service}
 use Rattle.run_model.specs.Plans.{Basis, IsOrderly, asks_restart, depends_on, down_basis, is_needed_by, is_wanted, planned, restarts_for, slot_at, slot_needs, up_basis}
 use Rattle.run_model.specs.Numbers.{places}
@@ -47,7 +47,7 @@ within_total f (k ∷ ns) n (inr m) = let h = within_total f ns n m in omega (ar
 -- labels that name a service name this one
 pub service_is : (service : List ℕ) (labels : List Var) → names_service service labels ≡ true → service_named labels ≡ service
 service_is service labels e =
-    let r = some_from (bytes_eq service) (label_in labels service_label) e in
+    let r = some_from (bytes_eq service) (label labels service_label) e in
     ap (λ (o : Option (List ℕ)). unwrap_or o []) r.1 ∙ sym ((bytes_eq-Decides service r.0).0 r.2)
 
 module _ (declared : Declared) (seen : Seen) (orphans : Bool) (cycle : HasNoCycle declared) where

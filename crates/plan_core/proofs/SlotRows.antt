@@ -5,7 +5,7 @@ use Rattle.std.specs.List.{list_any}
 use Rattle.std.specs.Option.{option_and_then, option_map_or}
 use Rattle.std.specs.Prelude.{filter, if◌then◌else◌}
 use Rattle.std.proofs.lemmas.Slice.Eq.{bytes_eq-Decides}
-use Rattle.engine_types.specs.Labels.{service_label}
+use Rattle.engine_types.specs.Labels.{label, service_label}
 use Rattle.engine_types.specs.declared.Declared.{Declared}
 use Rattle.engine_types.specs.declared.DeclaredService.{DeclaredService}
 use Rattle.engine_types.specs.declared.Listed.{Listed}
@@ -13,7 +13,7 @@ use Rattle.engine_types.specs.declared.Seen.{Seen}
 use Rattle.engine_types.specs.declared.Slot.{Slot}
 use Rattle.tree_base.specs.ByteOrder.{is_before, least_by}
 use Rattle.tree_base.specs.declared.place.Var.{Var}
-use Rattle.run_model.specs.EngineRules.{Among, is_of_project, label_in}
+use Rattle.run_model.specs.EngineRules.{Among, is_of_project}
 use Rattle.run_model.specs.Labels.{has_declared_service, is_of_slot, names_service, names_slot}
 use Rattle.run_model.specs.Numbers.{numbers_from}
 use Rattle.run_model.specs.Plans.{AreKeptPlaces, agrees_seen, depends_on, has_container, is_kept, kept_of}
@@ -315,7 +315,7 @@ kept_by_id declared seen kept row same =
     at (Some other) = or_none (bytes_eq row.id other.id) ∙ eq_back row.id other.id
 
 -- whether labels name a declared service, by its key
-pub service_by_key : (declared : Declared) (labels : List Var) (key : List ℕ) → label_in labels service_label ≡ Some key
+pub service_by_key : (declared : Declared) (labels : List Var) (key : List ℕ) → label labels service_label ≡ Some key
     → is_under (services_under declared) key ≡ has_declared_service declared labels
 service_by_key declared labels key e =
     under_one (λ (service : DeclaredService). service.key ∷ []) 0 declared.services key
@@ -323,7 +323,7 @@ service_by_key declared labels key e =
     (λ (service : DeclaredService). names_service service.key labels) declared.services
     (λ service. or_none (bytes_eq key service.key) ∙ eq_back key service.key ∙ sym (ap (λ (o : Option (List ℕ)). option_map_or (bytes_eq service.key) o false) e))
 
-pub service_unnamed : (declared : Declared) (labels : List Var) → label_in labels service_label ≡ None → has_declared_service declared labels ≡ false
+pub service_unnamed : (declared : Declared) (labels : List Var) → label labels service_label ≡ None → has_declared_service declared labels ≡ false
 service_unnamed declared labels e = none declared.services
   where
     none : (services : List DeclaredService) → list_any (λ (service : DeclaredService). names_service service.key labels) services ≡ false

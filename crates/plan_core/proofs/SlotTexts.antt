@@ -4,13 +4,13 @@ use Rattle.std.specs.Option.{option_map_or}
 use Rattle.std.specs.Prelude.{decimal}
 use Rattle.std.specs.Str.{bytes_eq}
 use Rattle.std.proofs.lemmas.Slice.Eq.{bytes_eq-Decides}
-use Rattle.engine_types.specs.Labels.{number_label}
+use Rattle.engine_types.specs.Labels.{label, number_label}
 use Rattle.engine_types.specs.declared.Declared.{Declared}
 use Rattle.engine_types.specs.declared.Listed.{Listed}
 use Rattle.engine_types.specs.declared.Seen.{Seen}
 use Rattle.engine_types.specs.declared.Slot.{Slot}
 use Rattle.tree_base.specs.declared.place.Var.{Var}
-use Rattle.run_model.specs.EngineRules.{has_label, label_in}
+use Rattle.run_model.specs.EngineRules.{has_label}
 use Rattle.run_model.specs.Labels.{agrees, names_service, names_slot}
 use Rattle.run_model.specs.Plans.{agrees_seen, seen_image}
 use Rattle.run_model.proofs.PlanLaws.{both, some_from}
@@ -21,7 +21,7 @@ use Rattle.plan_core.proofs.OrderlyPlans.{service_is}
 -- labels that name a number name this one
 pub number_is : (number : List ℕ) (labels : List Var) → has_label labels number_label number ≡ true → number_named labels ≡ number
 number_is number labels e =
-    let r = some_from (bytes_eq number) (label_in labels number_label) e in
+    let r = some_from (bytes_eq number) (label labels number_label) e in
     ap (λ (o : Option (List ℕ)). unwrap_or o []) r.1 ∙ sym ((bytes_eq-Decides number r.0).0 r.2)
 
 -- labels that name a slot have its text

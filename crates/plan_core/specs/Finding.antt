@@ -4,13 +4,13 @@ use Rattle.std.specs.List.{before_first}
 use Rattle.std.specs.Option.{option_map_or}
 use Rattle.tree_base.specs.declared.Var.{Var}
 use Rattle.engine_types.specs.Labels as the
+use Rattle.engine_types.specs.Labels.{label}
 use Rattle.engine_types.specs.declared.ActionKind.{ActionKind}
 use Rattle.engine_types.specs.declared.ActionKind.TheVariants.{MakeVolume, MakeNetwork, StopContainer, RemoveContainer, CreateSlot, ConnectSlot, StopKept, StartSlot, RemoveNetwork, RemoveVolume}
 use Rattle.engine_types.specs.declared.Declared.{Declared}
 use Rattle.engine_types.specs.declared.Listed.{Listed}
 use Rattle.engine_types.specs.declared.Seen.{Seen}
 use Rattle.engine_types.specs.declared.Slot.{Slot}
-use Rattle.run_model.specs.EngineRules.{label_in}
 use Rattle.run_model.specs.Numbers.{places}
 use Rattle.run_model.specs.Observation.{is_up}
 use Rattle.run_model.specs.Plans.{Basis, is_needed_by, network_name, slot_at}
@@ -19,11 +19,11 @@ use Rattle.plan_core.specs.Rows.{id_at}
 
 -- the service that labels name, and the empty text where they name none
 abbrev pub service_named : List Var → List ℕ
-service_named labels = unwrap_or (label_in labels the.service_label) []
+service_named labels = unwrap_or (label labels the.service_label) []
 
 -- the number that labels name, and the empty text where they name none
 abbrev pub number_named : List Var → List ℕ
-number_named labels = unwrap_or (label_in labels the.number_label) []
+number_named labels = unwrap_or (label labels the.number_label) []
 
 -- a service with a number behind it: under this text a slot and its containers are found
 abbrev pub joined : List ℕ → List ℕ → List ℕ

@@ -1,2 +1,12 @@
+-- The laws.
+pub mod ClaimLaws
+pub mod ObservationLaws
 pub mod Rolled
 pub mod RunOrders
+-- What is worked out.
+pub mod Ready
+pub mod OneService
+pub mod OneDown
+pub mod TwoNetworks
+pub mod LostCreate
+pub mod TwoWorlds

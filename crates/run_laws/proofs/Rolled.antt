@@ -15,7 +15,7 @@ use Rattle.engine_types.specs.declared.Listed.{Listed}
 use Rattle.engine_types.specs.declared.Seen.{Seen}
 use Rattle.engine_types.specs.declared.Slot.{Slot}
 use Rattle.tree_base.specs.declared.place.Var.{Var}
-use Rattle.run_model.specs.EngineRules.{Among, has_label, is_live, is_of_project, label_in}
+use Rattle.run_model.specs.EngineRules.{Among, has_label, is_live, is_of_project}
 use Rattle.run_model.specs.Labels.{is_of_slot, names_service, names_slot}
 use Rattle.run_model.specs.Plans.{Basis, IsWhole, is_in_way, is_unstarted, up_basis}
 use Rattle.run_model.specs.Rolling.{has_name_of_another, has_seen, is_crossed, is_held_back, is_rolled, is_same_slot, roll_of, rolled_before, waits_for}

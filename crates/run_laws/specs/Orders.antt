@@ -19,7 +19,9 @@ pub record Leads (declared : Declared) (slot other : Slot) : Type 0 where
 
 -- each slot needs only slots of services on which its own service depends: `depends_on` of the Compose Specification
 abbrev pub NeedsDependencies : Declared → Type 0
-NeedsDependencies declared = (s : ℕ) (slot other : Slot) (need : Need) → slot_at declared s ≡ Some slot → Among slot.needs need
+NeedsDependencies declared =
+    (s : ℕ) (slot other : Slot) (need : Need) → slot_at declared s ≡ Some slot
+    → Among slot.needs need
     → slot_at declared need.slot ≡ Some other → Leads declared slot other
 
 -- the numbers of the slots are numbers of 32 bits
@@ -28,5 +30,8 @@ HasSmallNumbers declared = (slot : Slot) → Among declared.slots slot → slot.
 
 -- where dependencies go in no circle, the actions of runs can be carried out in some order
 abbrev pub RunsAreOrderly : Type 0
-RunsAreOrderly = (declared : Declared) (seen : Seen) (orphans volumes : Bool) → IsWhole declared → HasSmallNumbers declared → HasNoCycle declared → NeedsDependencies declared
-    → IsOrderly declared (run_actions (up_basis declared seen orphans)) × IsOrderly declared (run_actions (down_basis declared seen orphans volumes))
+RunsAreOrderly =
+    (declared : Declared) (seen : Seen) (orphans volumes : Bool) → IsWhole declared
+    → HasSmallNumbers declared → HasNoCycle declared → NeedsDependencies declared
+    → IsOrderly declared (run_actions (up_basis declared seen orphans))
+    × IsOrderly declared (run_actions (down_basis declared seen orphans volumes))

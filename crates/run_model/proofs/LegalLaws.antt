@@ -1,10 +1,12 @@
--- What the decision on an ask says.
+-- What the decision on an ask says, and how an action stands that ended.
 use Rattle.std.proofs.Common.{◌≡◌, ℕ, Bool, true, false, cond, List, [], ◌∷◌, Option, Some, None, length, refl}
-use Rattle.std.specs.Prelude.{find, nat_le}
+use Rattle.std.specs.Prelude.{find, if◌then◌else◌, nat_le}
+use Rattle.engine_types.specs.declared.ActionKind.{ActionKind}
 use Rattle.engine_types.specs.declared.Entry.{Entry}
 use Rattle.engine_types.specs.declared.LateWhy.{LateWhy}
+use Rattle.engine_types.specs.declared.Outcome.{Outcome}
 use Rattle.run_model.specs.Conditions.{is_allowed}
-use Rattle.run_model.specs.Journals.{Setup, is_ending}
+use Rattle.run_model.specs.Journals.{Badly, Setup, Well, ended_as, is_ending, is_free, is_good}
 use Rattle.run_model.specs.Legal.{Decision, Full, Go, IsLegal, IsReady, Look, Pause, Take, answer_to, decision, entries_limit, is_other_out, next_action, next_poll}
 use Rattle.run_model.specs.Logs.{asker}
 use Rattle.run_model.specs.Plans.{Aim}
@@ -47,3 +49,13 @@ ask_answered aim setup past w legal ready = at (decision setup past w) refl
     at (Take a) e = (Entry.Claim w a, refl, (legal, (ready, e)))
     at (Look s) e = (Entry.Poll w s, refl, (legal, (ready, e)))
     at Pause e = (Entry.Idle w, refl, (legal, (ready, e)))
+
+-- an action that ended isn't free
+pub ended_not_free : (kind : Option ActionKind) (outcome : Outcome) → is_free (ended_as kind outcome) ≡ false
+ended_not_free (Some kind) (Outcome.Answered reply) = at (is_good kind reply)
+  where
+    at : (t : Bool) → is_free (if t then Well reply else Badly) ≡ false
+    at true = refl
+    at false = refl
+ended_not_free (Some kind) outcome = refl
+ended_not_free None outcome = refl

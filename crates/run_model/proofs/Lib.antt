@@ -1,12 +1,8 @@
-pub mod Ready
 pub mod DistinctLists
+pub mod Firsts
 pub mod PlanLaws
 pub mod RollLaws
 pub mod LegalLaws
-pub mod LostCreate
-pub mod TwoWorlds
 pub mod KeptLaws
 pub mod RequestLemmas
-pub mod ObservationLaws
 pub mod ToldLaws
-pub mod ClaimLaws

@@ -5,6 +5,8 @@ use Rattle.std.specs.List.{list_any, list_all, before_first, IsDistinct, AllZip}
 use Rattle.std.specs.Option.{option_map_or}
 use Rattle.std.specs.Str.{bytes_eq}
 use Rattle.tree_base.specs.declared.Var.{Var}
+use Rattle.engine_types.specs.Labels as the
+use Rattle.engine_types.specs.Labels.{label}
 use Rattle.engine_types.specs.declared.ContainerSpec.{ContainerSpec}
 use Rattle.engine_types.specs.declared.Endpoint.{Endpoint}
 use Rattle.engine_types.specs.declared.ContainerRow.{ContainerRow}
@@ -19,18 +21,15 @@ use Rattle.engine_types.specs.declared.Request.{Request}
 use Rattle.engine_types.specs.declared.Reply.{Reply}
 use Rattle.engine_types.specs.declared.Outcome.{Outcome}
 
--- the value of a label
-abbrev pub label_in : List Var → List ℕ → Option (List ℕ)
-label_in labels name = option_map (λ var. var.value) (find (λ var. bytes_eq var.name name) labels)
-
 -- whether a label has this value
 abbrev pub has_label : List Var → List ℕ → List ℕ → Bool
-has_label labels name value = option_map_or (bytes_eq value) (label_in labels name) false
+has_label labels name value = option_map_or (bytes_eq value) (label labels name) false
 
 -- whether labels are those of a project's container: its project label names the project, and it is no one-off run
 abbrev pub is_of_project : List ℕ → List Var → Bool
 is_of_project project labels =
-    has_label labels (codes "com.docker.compose.project") project && has_label labels (codes "com.docker.compose.oneoff") (codes "False")
+    has_label labels the.project_label project
+    && has_label labels the.oneoff_label the.not_oneoff
 
 -- the container with an id
 abbrev pub container_at : Engine → List ℕ → Option ContainerRow
@@ -46,11 +45,13 @@ has_volume engine name = list_any (bytes_eq name) engine.volumes
 
 -- the id of the image with a name, as the name is written
 abbrev pub image_at : Engine → List ℕ → Option (List ℕ)
-image_at engine name = option_map (λ row. row.id) (find (λ row. bytes_eq row.name name) engine.images)
+image_at engine name =
+    option_map (λ row. row.id) (find (λ row. bytes_eq row.name name) engine.images)
 
 -- whether the network with an id has a name
 abbrev pub network_has_name : Engine → List ℕ → List ℕ → Bool
-network_has_name engine name id = option_map_or (λ row. bytes_eq name row.name) (network_at engine id) false
+network_has_name engine name id =
+    option_map_or (λ row. bytes_eq name row.name) (network_at engine id) false
 
 -- whether a network with a name is there
 abbrev pub has_network_named : Engine → List ℕ → Bool
@@ -86,7 +87,8 @@ first_is_test (first ∷ rest) = not (bytes_eq first (codes "NONE"))
 
 -- whether a container has a health test: one whose first item isn't NONE
 abbrev pub has_test : ContainerSpec → Bool
-has_test spec = option_map_or (λ check. option_map_or first_is_test check.test false) spec.healthcheck false
+has_test spec =
+    option_map_or (λ check. option_map_or first_is_test check.test false) spec.healthcheck false
 
 -- the health after a start: it starts anew where there is a test, and else stays
 abbrev pub started_health : ContainerSpec → Health → Health
@@ -94,11 +96,17 @@ started_health spec health = if has_test spec then Health.Starting else health
 
 -- the container after a start
 abbrev pub started_row : ContainerRow → ContainerRow
-started_row row = record row { report = record row.report { state = ContainerState.Running; health = started_health row.spec row.report.health } }
+started_row row = record row {
+  report = record row.report {
+    state = ContainerState.Running;
+    health = started_health row.spec row.report.health;
+  };
+}
 
 -- the container after a stop
 abbrev pub stopped_row : ContainerRow → ContainerRow
-stopped_row row = record row { report = record row.report { state = ContainerState.Exited; exit_code = pos 0 } }
+stopped_row row =
+    record row { report = record row.report { state = ContainerState.Exited; exit_code = pos 0 } }
 
 -- the networks that a container is to be on, by name
 abbrev pub endpoints_of : ContainerSpec → List Endpoint
@@ -119,7 +127,9 @@ created_row id name spec image networks = record {
 
 -- whether a container binds a volume: the part of a bind before its first colon is the volume's name
 abbrev pub binds_volume : List ℕ → ContainerRow → Bool
-binds_volume name row = list_any (λ bind. bytes_eq name (before_first (λ c. c == 58) bind)) (unwrap_or row.spec.binds [])
+binds_volume name row =
+    list_any (λ bind. bytes_eq name (before_first (λ c. c == 58) bind))
+    (unwrap_or row.spec.binds [])
 
 -- whether a container is on a network
 abbrev pub is_on : List ℕ → ContainerRow → Bool
@@ -132,19 +142,23 @@ Among (y ∷ ys) x = (x ≡ y) ⊎ Among ys x
 
 -- the second Engine has this container at the id, and the first's at every other
 abbrev pub PutsContainer : Engine → Engine → List ℕ → Option ContainerRow → Type 0
-PutsContainer old new id now = (i : List ℕ) → container_at new i ≡ (if bytes_eq id i then now else container_at old i)
+PutsContainer old new id now =
+    (i : List ℕ) → container_at new i ≡ (if bytes_eq id i then now else container_at old i)
 
 -- the second Engine has this network at the id, and the first's at every other
 abbrev pub PutsNetwork : Engine → Engine → List ℕ → Option NetRow → Type 0
-PutsNetwork old new id now = (i : List ℕ) → network_at new i ≡ (if bytes_eq id i then now else network_at old i)
+PutsNetwork old new id now =
+    (i : List ℕ) → network_at new i ≡ (if bytes_eq id i then now else network_at old i)
 
 -- the second Engine has the volume or not, and the first's under every other name
 abbrev pub PutsVolume : Engine → Engine → List ℕ → Bool → Type 0
-PutsVolume old new name now = (n : List ℕ) → has_volume new n ≡ (if bytes_eq name n then now else has_volume old n)
+PutsVolume old new name now =
+    (n : List ℕ) → has_volume new n ≡ (if bytes_eq name n then now else has_volume old n)
 
 -- the second Engine has this image under the name, and the first's under every other
 abbrev pub PutsImage : Engine → Engine → List ℕ → Option (List ℕ) → Type 0
-PutsImage old new name now = (n : List ℕ) → image_at new n ≡ (if bytes_eq name n then now else image_at old n)
+PutsImage old new name now =
+    (n : List ℕ) → image_at new n ≡ (if bytes_eq name n then now else image_at old n)
 
 -- both Engines have the same container at each id
 abbrev pub SameContainers : Engine → Engine → Type 0
@@ -163,7 +177,8 @@ abbrev pub SameImages : Engine → Engine → Type 0
 SameImages old new = (n : List ℕ) → image_at new n ≡ image_at old n
 
 -- the Engine changed at one container alone
-pub record ChangesContainer (old new : Engine) (id : List ℕ) (now : Option ContainerRow) : Type 0 where
+pub record ChangesContainer (old new : Engine) (id : List ℕ)
+    (now : Option ContainerRow) : Type 0 where
   pub containers : PutsContainer old new id now
   pub networks : SameNetworks old new
   pub volumes : SameVolumes old new
@@ -197,14 +212,17 @@ pub record Shows (engine : Engine) (row : ContainerRow) (listed : Listed) : Type
   pub image_id : listed.image_id ≡ row.image_id
   pub labels : listed.labels ≡ row.labels
   pub state : listed.state ≡ row.report.state
-  pub networks : (n : List ℕ) → list_any (bytes_eq n) listed.networks ≡ list_any (network_has_name engine n) row.networks
+  pub networks : (n : List ℕ)
+      → list_any (bytes_eq n) listed.networks ≡ list_any (network_has_name engine n) row.networks
 
 -- a listing of containers: each of the project's once, in any order, and no other
 pub record ListsContainers (engine : Engine) (project : List ℕ) (rows : List Listed) : Type 0 where
   pub distinct : IsDistinct bytes_eq (map (λ listed. listed.id) rows)
   pub shown : (listed : Listed) → Among rows listed → (row : ContainerRow)
-      × (container_at engine listed.id ≡ Some row) × (is_of_project project row.labels ≡ true) × Shows engine row listed
-  pub all : (id : List ℕ) (row : ContainerRow) → container_at engine id ≡ Some row → is_of_project project row.labels ≡ true
+      × (container_at engine listed.id ≡ Some row) × (is_of_project project row.labels ≡ true)
+      × Shows engine row listed
+  pub all : (id : List ℕ) (row : ContainerRow) → container_at engine id ≡ Some row
+      → is_of_project project row.labels ≡ true
       → (listed : Listed) × Among rows listed × Shows engine row listed
 
 -- a listing of networks: each once, in any order
@@ -219,17 +237,20 @@ pub record ListsVolumes (engine : Engine) (names : List (List ℕ)) : Type 0 whe
   pub same : (n : List ℕ) → list_any (bytes_eq n) names ≡ has_volume engine n
 
 -- a container is made: its name is free, its image and the networks of its endpoints are there
-pub record Creates (old new : Engine) (name : List ℕ) (spec : ContainerSpec) (id : List ℕ) : Type 0 where
+pub record Creates (old new : Engine) (name : List ℕ) (spec : ContainerSpec)
+    (id : List ℕ) : Type 0 where
   pub name_free : has_container_named old name ≡ false
   pub image : List ℕ
   pub image_is : option_map_or (image_at old) spec.image None ≡ Some image
   pub networks : List (List ℕ)
-  pub networks_are : AllZip (λ endpoint network. network_has_name old endpoint.key network ≡ true) (endpoints_of spec) networks
+  pub networks_are : AllZip (λ endpoint network. network_has_name old endpoint.key network ≡ true)
+      (endpoints_of spec) networks
   pub fresh : container_at old id ≡ None
   pub changes : ChangesContainer old new id (Some (created_row id name spec image networks))
 
 -- the container at an id passes a test, and becomes another or goes
-pub record Updates (old new : Engine) (id : List ℕ) (may : ContainerState → Bool) (now : ContainerRow → Option ContainerRow) : Type 0 where
+pub record Updates (old new : Engine) (id : List ℕ) (may : ContainerState → Bool)
+    (now : ContainerRow → Option ContainerRow) : Type 0 where
   pub row : ContainerRow
   pub was : container_at old id ≡ Some row
   pub could : may row.report.state ≡ true
@@ -249,34 +270,45 @@ pub record Connects (old new : Engine) (network container : List ℕ) : Type 0 w
   pub network_there : is_some (network_at old network) ≡ true
   pub apart : is_on network row ≡ false
   pub networks : List (List ℕ)
-  pub joined : (i : List ℕ) → list_any (bytes_eq i) networks ≡ (bytes_eq i network || list_any (bytes_eq i) row.networks)
+  pub joined : (i : List ℕ)
+      → list_any (bytes_eq i) networks ≡ (bytes_eq i network || list_any (bytes_eq i) row.networks)
   pub changes : ChangesContainer old new container (Some (record row { networks = networks }))
 
 -- the good answers, request by request
 abbrev pub Grants : Engine → Request → Reply → Engine → Type 0
-Grants old (Request.ListContainers project) (Reply.Containers rows) new = ListsContainers old project rows × (new ≡ old)
+Grants old (Request.ListContainers project) (Reply.Containers rows) new =
+    ListsContainers old project rows × (new ≡ old)
 Grants old (Request.Inspect id) (Reply.State report) new =
     IsSomeAnd (container_at old id) (λ row. row.report ≡ report) × (new ≡ old)
 Grants old (Request.Logs id) (Reply.Bytes bytes) new =
     IsSomeAnd (container_at old id) (λ row. row.logs ≡ bytes) × (new ≡ old)
 Grants old (Request.Create name spec) (Reply.Made id) new = Creates old new name spec id
-Grants old (Request.Start id) Reply.Done new = Updates old new id can_start (λ row. Some (started_row row))
+Grants old (Request.Start id) Reply.Done new =
+    Updates old new id can_start (λ row. Some (started_row row))
 Grants old (Request.Start id) Reply.Already new = Finds old new id is_started
-Grants old (Request.Stop id seconds) Reply.Done new = Updates old new id is_live (λ row. Some (stopped_row row))
-Grants old (Request.Stop id seconds) Reply.Already new = Finds old new id (λ state. not (is_live state))
-Grants old (Request.Remove id) Reply.Done new = Updates old new id (λ state. not (is_live state)) (λ row. None)
+Grants old (Request.Stop id seconds) Reply.Done new =
+    Updates old new id is_live (λ row. Some (stopped_row row))
+Grants old (Request.Stop id seconds) Reply.Already new =
+    Finds old new id (λ state. not (is_live state))
+Grants old (Request.Remove id) Reply.Done new =
+    Updates old new id (λ state. not (is_live state)) (λ row. None)
 Grants old Request.ListNetworks (Reply.Networks rows) new = ListsNetworks old rows × (new ≡ old)
 Grants old (Request.MakeNetwork spec) (Reply.Made id) new =
-    (network_at old id ≡ None) × ChangesNetwork old new id (Some (record { id = id; name = spec.name; labels = spec.labels }))
-Grants old (Request.Connect network container aliases) Reply.Done new = Connects old new network container
+    (network_at old id ≡ None)
+    × ChangesNetwork old new id (Some (record { id = id; name = spec.name; labels = spec.labels }))
+Grants old (Request.Connect network container aliases) Reply.Done new =
+    Connects old new network container
 Grants old (Request.RemoveNetwork id) Reply.Done new =
-    (is_some (network_at old id) ≡ true) × (list_any (is_on id) old.containers ≡ false) × ChangesNetwork old new id None
+    (is_some (network_at old id) ≡ true) × (list_any (is_on id) old.containers ≡ false)
+    × ChangesNetwork old new id None
 Grants old Request.ListVolumes (Reply.Volumes names) new = ListsVolumes old names × (new ≡ old)
 Grants old (Request.MakeVolume spec) Reply.Done new = ChangesVolume old new spec.name true
 Grants old (Request.RemoveVolume name) Reply.Done new =
-    (has_volume old name ≡ true) × (list_any (binds_volume name) old.containers ≡ false) × ChangesVolume old new name false
+    (has_volume old name ≡ true) × (list_any (binds_volume name) old.containers ≡ false)
+    × ChangesVolume old new name false
 Grants old (Request.Image name) (Reply.ImageId id) new = (image_at old name ≡ Some id) × (new ≡ old)
-Grants old (Request.Pull name) Reply.Pulled new = (id : List ℕ) × ChangesImage old new name (Some id)
+Grants old (Request.Pull name) Reply.Pulled new =
+    (id : List ℕ) × ChangesImage old new name (Some id)
 Grants _ _ _ _ = ⊥
 
 -- the Engine may answer so, and is then the second one: a refusal, and a pull that failed, change nothing
@@ -295,7 +327,8 @@ is_lively _ = false
 -- a report that the Engine turns into another by itself: a container goes from one lively state to another, with
 -- any exit code and health, or one that runs gets another health
 abbrev pub TurnsInto : Report → Report → Type 0
-TurnsInto old new = ((is_lively old.state ≡ true) × (is_lively new.state ≡ true) × (old.state ≡ new.state → ⊥))
+TurnsInto old new =
+    ((is_lively old.state ≡ true) × (is_lively new.state ≡ true) × (old.state ≡ new.state → ⊥))
     ⊎ ((old.state ≡ ContainerState.Running) × (new ≡ record old { health = new.health }))
 
 -- one container changes by the Engine's own doing, as by its restart policy
@@ -310,7 +343,8 @@ pub record ChangesItself (old new : Engine) : Type 0 where
 -- so many own changes, one after another
 abbrev pub ChangesItselfTimes : ℕ → Engine → Engine → Type 0
 ChangesItselfTimes zero old new = new ≡ old
-ChangesItselfTimes (suc n) old new = (mid : Engine) × ChangesItselfTimes n old mid × ChangesItself mid new
+ChangesItselfTimes (suc n) old new =
+    (mid : Engine) × ChangesItselfTimes n old mid × ChangesItself mid new
 
 -- any number of own changes
 abbrev pub Drifts : Engine → Engine → Type 0
@@ -323,13 +357,15 @@ pub record IsSound (engine : Engine) : Type 0 where
   pub network_ids : IsDistinct bytes_eq (map (λ row. row.id) engine.networks)
   pub volume_names : IsDistinct bytes_eq engine.volumes
   pub image_names : IsDistinct bytes_eq (map (λ row. row.name) engine.images)
-  pub attached : list_all (λ row. list_all (λ id. is_some (network_at engine id)) row.networks) engine.containers ≡ true
+  pub attached : list_all
+      (λ row. list_all (λ id. is_some (network_at engine id)) row.networks) engine.containers ≡ true
 
 -- how an exchange changes the Engine that a hand tells: an answer is one step with that reply, what wasn't sent
 -- changes nothing, and what was lost is at most one step, with any reply
 abbrev pub Tells : Option Engine → Request → Outcome → Option Engine → Type 0
 Tells None request outcome new = new ≡ None
-Tells (Some old) request (Outcome.Answered reply) new = IsSomeAnd new (λ engine. Answers old request reply engine)
+Tells (Some old) request (Outcome.Answered reply) new =
+    IsSomeAnd new (λ engine. Answers old request reply engine)
 Tells (Some old) request Outcome.NotSent new = new ≡ Some old
 Tells (Some old) request _ new =
     (new ≡ Some old) ⊎ IsSomeAnd new (λ engine. (reply : Reply) × Answers old request reply engine)
@@ -358,7 +394,8 @@ TellsStep (Paused milliseconds) old new = DriftsTold old new
 -- the Engine that a hand tells went through these steps, in order
 abbrev pub TellsSteps : List Step → Option Engine → Option Engine → Type 0
 TellsSteps [] old new = new ≡ old
-TellsSteps (step ∷ rest) old new = (mid : Option Engine) × TellsStep step old mid × TellsSteps rest mid new
+TellsSteps (step ∷ rest) old new =
+    (mid : Option Engine) × TellsStep step old mid × TellsSteps rest mid new
 
 -- these exchanges as steps, with no pause
 abbrev pub unpaused : List Exchange → List Step

@@ -16,13 +16,3 @@ pub mod Worlds
 pub mod Exact
 pub mod Cuts
 pub mod Runs
-pub mod OneService
-pub mod ThreeServices
-pub mod OneWorld
-pub mod TwoNetworks
-pub mod Updates
-pub mod Laws
-pub mod FourServices
-pub mod OtherRuns
-pub mod TwoWorkers
-pub mod TwoWorlds

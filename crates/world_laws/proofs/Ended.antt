@@ -24,6 +24,7 @@ use Rattle.run_model.specs.Numbers.{places}
 use Rattle.world_laws.specs.Laws.{EveryActionEndedWell}
 use Rattle.run_model.proofs.DistinctLists.{among_flat_map, among_left, among_numbers, among_places}
 use Rattle.run_model.proofs.KeptLaws.{any_from_list}
+use Rattle.run_model.proofs.LegalLaws.{ended_not_free}
 use Rattle.run_model.proofs.PlanLaws.{some_from}
 
 module _ {X : Type 0} where
@@ -76,15 +77,6 @@ not_bad setup (Entry.Seen observation ∷ past) h = at observation.end refl
     at (SeenEnd.Good seen) e = rw e refl
     at (SeenEnd.Bad bad) e = absurd (bad_is_fault bad (subst (λ (end : SeenEnd). seen_fault end ≡ None) e (without_fault setup (Entry.Seen observation) past h).here))
 not_bad setup (entry ∷ past) h = not_bad setup past (without_fault setup entry past h).before
-
-ended_not_free : (kind : Option ActionKind) (outcome : Outcome) → is_free (ended_as kind outcome) ≡ false
-ended_not_free (Some kind) (Outcome.Answered reply) = at (is_good kind reply)
-  where
-    at : (t : Bool) → is_free (if t then Well reply else Badly) ≡ false
-    at true = refl
-    at false = refl
-ended_not_free (Some kind) outcome = refl
-ended_not_free None outcome = refl
 
 -- what is free now was free before
 pub free_before : (setup : Setup) (entry : Entry) (past : List Entry) (a : ℕ) → is_free (standing setup (entry ∷ past) a) ≡ true → is_free (standing setup past a) ≡ true

@@ -1,69 +1,22 @@
 -- The first rows of each id, one row further, beside a map that knows their ids.
-use Rattle.std.proofs.Common.{◌≡◌, ℕ, ◌+◌, ◌<◌, Bool, true, false, cond, not, ◌||◌, List, [], ◌∷◌, ◌++◌, length, get_or, take, map, filter, Option, Some, None, is_some, is_none, refl, ap, sym, ◌∙◌}
+use Rattle.std.proofs.Common.{◌≡◌, ℕ, ◌+◌, ◌<◌, Bool, true, false, cond, not, ◌||◌, List, [], ◌∷◌, ◌++◌, length, get_or, take, map, Option, Some, None, is_some, is_none, refl, ap, sym, ◌∙◌}
 use Rattle.std.proofs.lemmas.List.{map-append, append-nil, take_more}
-use Rattle.std.proofs.lemmas.List.Elements.{filter-append}
-use Rattle.std.proofs.lemmas.Map.Views.{any-filter_same}
-use Rattle.std.proofs.lemmas.Slice.Eq.{bytes_eq-Decides}
 use Rattle.std.specs.List.{list_any}
 use Rattle.std.specs.Map.{keys_of, lookup}
 use Rattle.std.specs.Str.{bytes_eq}
 use Rattle.tree_base.specs.Entries.{insert_entry}
 use Rattle.tree_base.specs.ByteOrder.{first_of_each}
-
-flipped : (s t : List ℕ) (b : Bool) → bytes_eq s t ≡ b → bytes_eq t s ≡ b
-flipped s t true e = (bytes_eq-Decides t s).1 (sym ((bytes_eq-Decides s t).0 e))
-flipped s t false e = at (bytes_eq t s) refl
-  where
-    at : (b : Bool) → bytes_eq t s ≡ b → bytes_eq t s ≡ false
-    at true f = let bad : true ≡ false = sym ((bytes_eq-Decides s t).1 (sym ((bytes_eq-Decides t s).0 f))) ∙ e in absurd (cc bad)
-    at false f = f
+use Rattle.run_model.proofs.Firsts.{any-map, firsts-more, with_new}
 
 module _ {X : Type 0} (key : X → List ℕ) where
-  -- whether a row has this key
-  abbrev has : List ℕ → List X → Bool
-  has k xs = list_any (λ x. bytes_eq k (key x)) xs
-
-  -- the rows with one more, unless its key is there
-  abbrev with_new : List X → X → List X
-  with_new firsts x = cond (has (key x) firsts) firsts (firsts ++ x ∷ [])
-
-  -- whether a row has another key
-  abbrev others : X → X → Bool
-  others y z = not (bytes_eq (key y) (key z))
-
-  more_of : (b : Bool) (x y : X) (l : List X) → others y x ≡ b → filter (others y) (l ++ x ∷ []) ≡ filter (others y) l ++ cond b (x ∷ []) []
-  more_of b x y l e = filter-append (others y) l (x ∷ []) ∙ ap (λ t. filter (others y) l ++ cond t (x ∷ []) []) e
-
-  has_still : (x y : X) (l : List X) → bytes_eq (key x) (key y) ≡ false → has (key x) (filter (others y) l) ≡ has (key x) l
-  has_still x y l e = any-filter_same (λ (z : X). bytes_eq (key x) (key z)) (others y) true
-      (λ z m. let one : key x ≡ key z = (bytes_eq-Decides (key x) (key z)).0 m in ap not (ap (bytes_eq (key y)) (sym one) ∙ flipped (key x) (key y) false e)) l
-
-  after : (x y : X) (l : List X) (t u : Bool) → bytes_eq (key x) (key y) ≡ t → has (key x) l ≡ u
-      → (y ∷ filter (others y) (cond u l (l ++ x ∷ []))) ≡ cond (t || has (key x) (filter (others y) l)) (y ∷ filter (others y) l) (y ∷ filter (others y) l ++ x ∷ [])
-  after x y l true true e f = refl
-  after x y l true false e f = ap (λ m. y ∷ m) (more_of false x y l (ap not (flipped (key x) (key y) true e)) ∙ append-nil (filter (others y) l))
-  after x y l false true e f = sym (ap (λ b. cond b (y ∷ filter (others y) l) (y ∷ filter (others y) l ++ x ∷ [])) (has_still x y l e ∙ f))
-  after x y l false false e f =
-      ap (λ m. y ∷ m) (more_of true x y l (ap not (flipped (key x) (key y) false e)))
-      ∙ sym (ap (λ b. cond b (y ∷ filter (others y) l) (y ∷ filter (others y) l ++ x ∷ [])) (has_still x y l e ∙ f))
-
-  firsts_more : (xs : List X) (x : X) → first_of_each key (xs ++ x ∷ []) ≡ with_new (first_of_each key xs) x
-  firsts_more [] x = refl
-  firsts_more (y ∷ ys) x =
-      ap (λ l. y ∷ filter (others y) l) (firsts_more ys x) ∙ after x y (first_of_each key ys) (bytes_eq (key x) (key y)) (has (key x) (first_of_each key ys)) refl refl
-
-  any-map : (k : List ℕ) (xs : List X) → list_any (bytes_eq k) (map key xs) ≡ has k xs
-  any-map k [] = refl
-  any-map k (x ∷ xs) = ap (λ b. bytes_eq k (key x) || b) (any-map k xs)
-
   -- one row more, whose key is new or known
   pub firsts_turn : (firsts xs : List X) (x : X) (keys after : List (List ℕ)) (new : Bool) → firsts ≡ first_of_each key xs → keys ≡ map key firsts
       → new ≡ not (list_any (bytes_eq (key x)) keys) → after ≡ cond new (keys ++ key x ∷ []) keys
       → (firsts ++ cond new (x ∷ []) [] ≡ first_of_each key (xs ++ x ∷ [])) × (after ≡ map key (firsts ++ cond new (x ∷ []) []))
   firsts_turn firsts xs x keys after new are knows tells put =
       at (list_any (bytes_eq (key x)) keys) new tells put
-      (ap (λ b. cond b firsts (firsts ++ x ∷ [])) (ap (list_any (bytes_eq (key x))) knows ∙ any-map (key x) firsts)
-      ∙ ap (λ l. with_new l x) are ∙ sym (firsts_more xs x))
+      (ap (λ b. cond b firsts (firsts ++ x ∷ [])) (ap (list_any (bytes_eq (key x))) knows ∙ any-map key (key x) firsts)
+      ∙ ap (λ l. with_new key l x) are ∙ sym (firsts-more key xs x))
     where
       at : (b new : Bool) → new ≡ not b → after ≡ cond new (keys ++ key x ∷ []) keys → cond b firsts (firsts ++ x ∷ []) ≡ first_of_each key (xs ++ x ∷ [])
           → (firsts ++ cond new (x ∷ []) [] ≡ first_of_each key (xs ++ x ∷ [])) × (after ≡ map key (firsts ++ cond new (x ∷ []) []))

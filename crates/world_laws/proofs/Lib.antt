@@ -20,8 +20,6 @@ pub mod Kept
 pub mod Leaving
 pub mod Looks
 pub mod Observing
-pub mod OneDown
-pub mod OneService
 pub mod OneWorker
 pub mod Planning
 pub mod Removed
@@ -32,5 +30,4 @@ pub mod Slots
 pub mod TakingDown
 pub mod ToldRuns
 pub mod Turns
-pub mod TwoNetworks
 pub mod WholeRuns

@@ -1,6 +1,6 @@
 -- What the only worker of a legal journal holds, and how its actions stand.
 use Rattle.std.proofs.Common.{◌≡◌, ℕ, ◌<◌, ◌≤◌, Bool, true, false, List, [], ◌∷◌, length, Option, Some, None, refl, sym, ap, ◌∙◌, subst, arith}
-use Rattle.std.proofs.lemmas.Bool.{eq-eqb, eqb-false, eqb-true, ne_eqb}
+use Rattle.std.proofs.lemmas.Bool.{both_ways, eq-eqb, eqb-false, eqb-true, ne_eqb}
 use Rattle.std.specs.Prelude.{if◌then◌else◌, ◌==◌}
 use Rattle.engine_types.specs.declared.ActionKind.{ActionKind}
 use Rattle.engine_types.specs.declared.Entry.{Entry}
@@ -11,7 +11,7 @@ use Rattle.run_model.specs.Legal.{IsLegal}
 use Rattle.run_model.specs.Plans.{Aim, kind_of, needs_of}
 use Rattle.run_model.specs.Requests.{OfAction, OfPoll, Source, poll_place, source_of}
 use Rattle.run_model.specs.Worlds.{outcome_of}
-use Rattle.run_model.proofs.LegalLaws.{claim_allowed}
+use Rattle.run_model.proofs.LegalLaws.{claim_allowed, ended_not_free}
 use Rattle.run_model.proofs.PlanLaws.{both}
 use Rattle.world_laws.proofs.Looks.{all_among}
 
@@ -41,18 +41,6 @@ opened past w held o e = rw e o
 well_not_free : (s : Standing) → is_well s ≡ true → is_free s ≡ true → ⊥
 well_not_free (Well reply) e f = cc f
 well_not_free _ e f = cc e
-
--- an action that ended isn't free
-ended_not_free : (kind : Option ActionKind) (outcome : Outcome) → is_free (ended_as kind outcome) ≡ true → ⊥
-ended_not_free (Some kind) (Outcome.Answered reply) e = at (is_good kind reply) e
-  where
-    at : (t : Bool) → is_free (if t then Well reply else Badly) ≡ true → ⊥
-    at true h = cc h
-    at false h = cc h
-ended_not_free (Some kind) (Outcome.Lost cause) e = cc e
-ended_not_free (Some kind) Outcome.NotSent e = cc e
-ended_not_free (Some kind) Outcome.Memory e = cc e
-ended_not_free None outcome e = cc e
 
 -- a poll that comes later hasn't ended
 poll_within : (past : List Entry) (w : ℕ) → poll_place past w ≤ length past
@@ -110,7 +98,7 @@ free_not_ended setup (Entry.Ended v outcome ∷ past) a e = at (holding past v) 
 
     on : (b : ℕ) (t : Bool) → (b == a) ≡ t → is_free (if t then ended_as (kind_of setup.actions a) outcome else standing setup past a) ≡ true
         → (is_free (standing setup past a) ≡ true → outcome_of past (OfAction a) ≡ None) → (if a == b then Some outcome else outcome_of past (OfAction a)) ≡ None
-    on b true f h rest = absurd (ended_not_free (kind_of setup.actions a) outcome h)
+    on b true f h rest = absurd (both_ways _ (ended_not_free (kind_of setup.actions a) outcome) h)
     on b false f h rest = other (a == b) (eqb_back b a f) (rest h)
 
     at : (held : Holding) → holding past v ≡ held → is_free (standing setup (Entry.Ended v outcome ∷ past) a) ≡ true

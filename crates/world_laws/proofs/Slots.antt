@@ -9,10 +9,11 @@ use Rattle.std.specs.Prelude.{decimal, nat_lt}
 use Rattle.std.specs.Str.{bytes_eq}
 use Rattle.tree_base.specs.declared.Var.{Var}
 use Rattle.engine_types.specs.Labels as the
+use Rattle.engine_types.specs.Labels.{label}
 use Rattle.engine_types.specs.declared.ContainerState.{ContainerState}
 use Rattle.engine_types.specs.declared.Declared.{Declared}
 use Rattle.engine_types.specs.declared.Slot.{Slot}
-use Rattle.run_model.specs.EngineRules.{Among, has_label, is_of_project, label_in}
+use Rattle.run_model.specs.EngineRules.{Among, has_label, is_of_project}
 use Rattle.run_model.specs.Labels.{agrees, hash_for, is_lost_state, is_of_slot, names_service}
 use Rattle.run_model.specs.Plans.{IsWhole, is_slot_before, slot_at}
 use Rattle.tree_base.specs.ByteOrder.{is_before}
@@ -23,8 +24,8 @@ use Rattle.world_laws.specs.OwnSpecs.{HasOwnSpecs}
 -- a label has one value
 one_value : (labels : List Var) (name v w : List ℕ) → has_label labels name v ≡ true → has_label labels name w ≡ true → v ≡ w
 one_value labels name v w e f =
-    let x = some_from (bytes_eq v) (label_in labels name) e in
-    let y = some_from (bytes_eq w) (label_in labels name) f in
+    let x = some_from (bytes_eq v) (label labels name) e in
+    let y = some_from (bytes_eq w) (label labels name) f in
     let same : Some x.0 ≡ Some y.0 = sym x.1 ∙ y.1 in
     let one : x.0 ≡ y.0 = cc same in (bytes_eq-Decides v x.0).0 x.2 ∙ one ∙ sym ((bytes_eq-Decides w y.0).0 y.2)
 

@@ -2,4 +2,3 @@ pub mod OwnSpecs
 pub mod Sights
 pub mod Laws
 pub mod Exactly
-pub mod OneDown

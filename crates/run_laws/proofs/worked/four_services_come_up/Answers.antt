@@ -1,0 +1,31 @@
+use Rattle.std.proofs.Common.{◌≡◌, ℕ, zero, suc, ◌<◌, List, refl, inl, inr, reverse, arith}
+use Rattle.std.specs.Fmt.{digits}
+use Rattle.engine_types.specs.declared.Entry.{Entry}
+use Rattle.run_model.specs.Journals.{Nothing, Setup, holding}
+use Rattle.run_model.specs.Legal.{IsLegal}
+use Rattle.run_model.specs.Ending.{IsFinal}
+use Rattle.run_laws.specs.OneService.{to_up, upping}
+use Rattle.run_laws.specs.FourServices.{comes_up, shop}
+use Rattle.run_model.specs.Runs.{run_setup}
+use Rattle.run_laws.proofs.Ready.{ready}
+use Rattle.run_laws.proofs.worked.four_services_come_up.Goals as goal
+
+abbrev past : List Entry
+past = reverse comes_up
+
+abbrev setup : Setup
+setup = run_setup (upping shop) comes_up
+
+legal : IsLegal to_up setup past
+legal = ((((((((((((((((((((((((((tt, (refl, inl refl, refl)), (ready setup _ (omega arith) refl refl refl, refl)), refl), (ready setup _ (omega arith) refl refl refl, refl)), refl), (ready setup _ (omega arith) refl refl refl, refl)), refl), (ready setup _ (omega arith) refl refl refl, refl)), refl), (ready setup _ (omega arith) refl refl refl, refl)), refl), (ready setup _ (omega arith) refl refl refl, refl)), refl), (ready setup _ (omega arith) refl refl refl, refl)), refl), (ready setup _ (omega arith) refl refl refl, refl)), refl), (ready setup _ (omega arith) refl refl refl, refl)), refl), (ready setup _ (omega arith) refl refl refl, refl)), refl), (ready setup _ (omega arith) refl refl refl, refl)), refl), (ready setup _ (omega arith) refl refl refl, refl)), refl), (ready setup _ (omega arith) refl refl refl, refl))
+
+none_out : (w : ℕ) → w < 1 → holding past w ≡ Nothing
+none_out zero h = refl
+none_out (suc w) h = absurd (omega arith)
+
+over : IsFinal setup past
+over = inr (record { none_out = none_out; left = refl; over = inr (refl, refl) })
+
+pub returns : goal.returns
+unfolding digits
+returns c = record { plan = refl; run = record { legal = legal; over = over }; status = refl; report = refl }

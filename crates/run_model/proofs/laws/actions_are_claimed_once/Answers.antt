@@ -1,5 +1,0 @@
-use Rattle.run_model.proofs.ClaimLaws.{claimed_once}
-use Rattle.run_model.proofs.laws.actions_are_claimed_once.Goals as goal
-
-pub returns : goal.returns
-returns c = claimed_once

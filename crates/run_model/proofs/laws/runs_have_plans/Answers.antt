@@ -1,5 +1,0 @@
-use Rattle.run_model.proofs.RollLaws.{has_plan}
-use Rattle.run_model.proofs.laws.runs_have_plans.Goals as goal
-
-pub returns : goal.returns
-returns c = has_plan

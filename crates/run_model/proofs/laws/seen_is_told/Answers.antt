@@ -1,5 +1,0 @@
-use Rattle.run_model.proofs.ToldLaws.{seen_is_told}
-use Rattle.run_model.proofs.laws.seen_is_told.Goals as goal
-
-pub returns : goal.returns
-returns c = seen_is_told

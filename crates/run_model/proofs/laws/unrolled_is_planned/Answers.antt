@@ -1,5 +1,0 @@
-use Rattle.run_model.proofs.RollLaws.{unrolled}
-use Rattle.run_model.proofs.laws.unrolled_is_planned.Goals as goal
-
-pub returns : goal.returns
-returns c = unrolled

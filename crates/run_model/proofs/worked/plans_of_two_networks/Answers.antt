@@ -1,7 +1,0 @@
-use Rattle.std.proofs.Common.{refl}
-use Rattle.std.specs.Fmt.{digits}
-use Rattle.run_model.proofs.worked.plans_of_two_networks.Goals as goal
-
-pub returns : goal.returns
-unfolding digits
-returns c = record { fresh = refl; created = refl; running = refl; image = refl; down = refl }
