@@ -30,13 +30,16 @@ container_name project service = project ++ codes "-" ++ service.key ++ codes "-
 -- the labels of that container, in byte order of their names
 abbrev pub container_labels : List ℕ → Service → List Var
 container_labels project service =
-    record { name = hash_label; value = config_hash service.image } ∷ record { name = number_label; value = codes "1" }
-    ∷ record { name = oneoff_label; value = not_oneoff } ∷ record { name = project_label; value = project }
+    record { name = hash_label; value = config_hash service.image }
+    ∷ record { name = number_label; value = codes "1" }
+    ∷ record { name = oneoff_label; value = not_oneoff }
+    ∷ record { name = project_label; value = project }
     ∷ record { name = service_label; value = service.key } ∷ []
 
 -- what the Engine is sent of a service with these labels and this image: no network is joined, and nothing else is said
 abbrev pub container_spec : List Var → List ℕ → ContainerSpec
-container_spec labels image = record empty_spec { labels = labels; image = Some image; network_mode = Some (codes "none") }
+container_spec labels image =
+    record empty_spec { labels = labels; image = Some image; network_mode = Some (codes "none") }
 
 -- a service's one slot: its image is pulled where it is missing, it needs nothing, it has one hash, and a stop waits for ten seconds
 abbrev pub slot_of : List ℕ → Service → Slot

@@ -8,4 +8,6 @@ use Rattle.run_model.specs.Runs.{IsRun, Task}
 
 -- every run of `up` over a set whose slots are of declared services leaves kept containers alone
 abbrev pub RunsSpareKept : Type 0
-RunsSpareKept = (task : Task) (journal : List Entry) → is_up task.aim.purpose ≡ true → HasServices task.declared → IsRun task journal → SparesKept task journal
+RunsSpareKept =
+    (task : Task) (journal : List Entry) → is_up task.aim.purpose ≡ true → HasServices task.declared
+    → IsRun task journal → SparesKept task journal

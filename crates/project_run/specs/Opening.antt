@@ -19,16 +19,19 @@ use Rattle.run_model.specs.EngineRules.{ToldBy}
 
 -- an end is the whole one of what was observed, or want of memory stands in its place
 abbrev pub IsWholeEnd : Declared → Aim → SeenEnd → SeenEnd → Type 0
-IsWholeEnd declared aim before after = (after ≡ whole_end declared aim before) ⊎ (after ≡ SeenEnd.Bad SeenFault.Memory)
+IsWholeEnd declared aim before after =
+    (after ≡ whole_end declared aim before) ⊎ (after ≡ SeenEnd.Bad SeenFault.Memory)
 
 -- a run goes on with what was seen and its plan, and after a fault it has ended
 abbrev pub Follows : Declared → Aim → SeenEnd → Opening → Type 0
 Follows declared aim end (Opening.Planned seen plan) =
-    (end ≡ SeenEnd.Good seen) × (plan.actions ≡ planned (basis_of declared seen aim)) × (is_too_long (basis_of declared seen aim) ≡ false)
+    (end ≡ SeenEnd.Good seen) × (plan.actions ≡ planned (basis_of declared seen aim))
+    × (is_too_long (basis_of declared seen aim) ≡ false)
 Follows declared aim end Opening.Ended = (fault : SeenFault) × (end ≡ SeenEnd.Bad fault)
 
 -- a run has opened: its journal is the observation that was made with the hand
-pub record Opens (declared : Declared) (aim : Aim) (opening : Opening) (journal : List Entry) (before now : Telling) : Type 0 where
+pub record Opens (declared : Declared) (aim : Aim) (opening : Opening) (journal : List Entry)
+    (before now : Telling) : Type 0 where
   pub observation : Observed
   pub only : journal ≡ Entry.Seen observation ∷ []
   pub observed : IsObserved declared aim observation
@@ -47,11 +50,15 @@ pub record IsObservedBadly (journal : List Entry) : Type 0 where
   pub bad : observation.end ≡ SeenEnd.Bad fault
 
 -- a plan was carried out with the hand: what its run leaves, from the journal that it began with
-pub record IsCarriedOut (declared : Declared) (aim : Aim) (seen : Seen) (actions : List Action) (old new : List Entry) (before now : Telling) : Type 0 where
+pub record IsCarriedOut (declared : Declared) (aim : Aim) (seen : Seen) (actions : List Action)
+    (old new : List Entry) (before now : Telling) : Type 0 where
   pub legal : IsLegal aim (serial_setup declared seen actions) (reverse new)
   pub over : IsRunOver (serial_setup declared seen actions) (reverse new)
   pub more : GoesOn old new
-  pub log : GrowsBy (exchanges_since (serial_setup declared seen actions) old new) before.log now.log
-  pub told : ToldBy (exchanges_since (serial_setup declared seen actions) old new) before.engine now.engine
-  pub caused : AreCaused (exchanges_since (serial_setup declared seen actions) old new) (account_in before) (account_in now)
+  pub log : GrowsBy
+      (exchanges_since (serial_setup declared seen actions) old new) before.log now.log
+  pub told : ToldBy
+      (exchanges_since (serial_setup declared seen actions) old new) before.engine now.engine
+  pub caused : AreCaused (exchanges_since (serial_setup declared seen actions) old new)
+      (account_in before) (account_in now)
   pub timed : now.clock ≡ before.clock

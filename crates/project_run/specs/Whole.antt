@@ -31,21 +31,27 @@ IsFault expected fault = (fault ≡ expected) ⊎ (fault ≡ Some RunFault.Memor
 
 -- the report that is told: the expected one, or none of it where memory was wanted
 abbrev pub IsReport : List ℕ → Option RunFault → List ℕ → Type 0
-IsReport expected fault report = (report ≡ expected) ⊎ ((report ≡ []) × (fault ≡ Some RunFault.Memory))
+IsReport expected fault report =
+    (report ≡ expected) ⊎ ((report ≡ []) × (fault ≡ Some RunFault.Memory))
 
 -- each outcome of a worker's in the task's journal, the observation's for worker 0 too, has its cause in its own exchange, by what
 -- the hand told before the run and tells now; and where the observation ended with a lost response or with a request that wasn't
 -- sent, that was the last exchange, and what is heard last is what was heard in it
 pub record IsCaused (task : Task) (journal : List Entry) (w : ℕ) (old new : Account) : Type 0 where
   pub exchanges : AreCaused (run_exchanges task journal w) old new
-  pub observed : w ≡ 0 → (observation : Observed) → slice_get journal 0 ≡ Some (Entry.Seen observation) → HasCauseOfEnd new.heard old.faults new.faults observation.end
+  pub observed : w ≡ 0 → (observation : Observed)
+      → slice_get journal 0 ≡ Some (Entry.Seen observation)
+      → HasCauseOfEnd new.heard old.faults new.faults observation.end
 
 -- an action that leaves kept containers alone: it removes none, stops none but that of a slot which a need asks to restart, and
 -- creates no other one for their slots
 abbrev pub IsSparing : Declared → Seen → Option ActionKind → Type 0
-IsSparing declared seen (Some (StopContainer c)) = IfSome (slice_get seen.containers c) (λ row. is_kept declared seen row ≡ false)
-IsSparing declared seen (Some (RemoveContainer c)) = IfSome (slice_get seen.containers c) (λ row. is_kept declared seen row ≡ false)
-IsSparing declared seen (Some (StopKept s)) = IsSomeAnd (slot_at declared s) (λ slot. is_restarted declared seen slot ≡ true)
+IsSparing declared seen (Some (StopContainer c)) =
+    IfSome (slice_get seen.containers c) (λ row. is_kept declared seen row ≡ false)
+IsSparing declared seen (Some (RemoveContainer c)) =
+    IfSome (slice_get seen.containers c) (λ row. is_kept declared seen row ≡ false)
+IsSparing declared seen (Some (StopKept s)) =
+    IsSomeAnd (slot_at declared s) (λ slot. is_restarted declared seen slot ≡ true)
 IsSparing declared seen (Some (CreateSlot s)) = kept declared seen s ≡ None
 IsSparing declared seen _ = Unit {0}
 

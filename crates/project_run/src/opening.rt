@@ -41,8 +41,10 @@ pub(crate) fn open<H: Hand>(
     requires empty { journal.old.items ≡ [] }
     requires room { 2 ≤ journal.old.spare }
     ensures opens { Opens declared.now (aim_of aim) result journal.new.items
-        (telling (H.log hand.old) (H.heard hand.old) (H.faults hand.old) (H.clock hand.old) (H.engine hand.old))
-        (telling (H.log hand.new) (H.heard hand.new) (H.faults hand.new) (H.clock hand.new) (H.engine hand.new)) }
+        (telling (H.log hand.old) (H.heard hand.old) (H.faults hand.old) (H.clock hand.old)
+        (H.engine hand.old))
+        (telling (H.log hand.new) (H.heard hand.new) (H.faults hand.new) (H.clock hand.new)
+        (H.engine hand.new)) }
     ensures room { 1 ≤ journal.new.spare }
 {
     let Observed { exchanges, end } = observe(alloc, hand, declared, aim.purpose);

@@ -61,7 +61,8 @@ pub fn run_project<H: Hand>(alloc: Global, hand: &mut H, declared: &Declared, ai
     ensures gone { result.fault ≡ None → is_up aim.purpose ≡ false
         → EndsGone (task_of declared.now (aim_of aim) one_worker) result.journal }
     ensures cause { IsCaused (task_of declared.now (aim_of aim) one_worker) result.journal 0
-        (account (H.log hand.old) (H.heard hand.old) (H.faults hand.old)) (account (H.log hand.new) (H.heard hand.new) (H.faults hand.new)) }
+        (account (H.log hand.old) (H.heard hand.old) (H.faults hand.old))
+        (account (H.log hand.new) (H.heard hand.new) (H.faults hand.new)) }
     ensures clock { H.clock hand.new ≡ H.clock hand.old }
 {
     let mut journal = ReservedList::new(alloc);
@@ -97,8 +98,10 @@ fn run<H: Hand>(
     requires empty { journal.items ≡ [] }
     requires room { 2 ≤ journal.spare }
     ensures leaves { Leaves (task_of declared.now (aim_of aim) one_worker) result.journal
-        (telling (H.log hand.old) (H.heard hand.old) (H.faults hand.old) (H.clock hand.old) (H.engine hand.old))
-        (telling (H.log hand.new) (H.heard hand.new) (H.faults hand.new) (H.clock hand.new) (H.engine hand.new)) }
+        (telling (H.log hand.old) (H.heard hand.old) (H.faults hand.old) (H.clock hand.old)
+        (H.engine hand.old))
+        (telling (H.log hand.new) (H.heard hand.new) (H.faults hand.new) (H.clock hand.new)
+        (H.engine hand.new)) }
     ensures fault { IsFault (run_fault
         (task_of declared.now (aim_of aim) one_worker) result.journal) result.fault }
     ensures report { IsReport (run_report
@@ -130,8 +133,10 @@ fn carry_out<H: Hand>(
     requires room { 1 ≤ journal.spare }
     ensures carried { IsCarriedOut declared.now
         (aim_of aim) seen.now plan.now.actions journal.items result.journal
-        (telling (H.log hand.old) (H.heard hand.old) (H.faults hand.old) (H.clock hand.old) (H.engine hand.old))
-        (telling (H.log hand.new) (H.heard hand.new) (H.faults hand.new) (H.clock hand.new) (H.engine hand.new)) }
+        (telling (H.log hand.old) (H.heard hand.old) (H.faults hand.old) (H.clock hand.old)
+        (H.engine hand.old))
+        (telling (H.log hand.new) (H.heard hand.new) (H.faults hand.new) (H.clock hand.new)
+        (H.engine hand.new)) }
     ensures fault { IsFault (first_fault (serial_setup declared.now seen.now plan.now.actions)
         (reverse result.journal)) result.fault }
     ensures report { IsReport (report_text (serial_setup declared.now seen.now plan.now.actions)

@@ -14,9 +14,11 @@ WholeIsNotBroken = (read : List ℕ) (ended : Bool) (status : ℕ) (body : List 
 -- bytes begin with one whole response at most: its status and its body are the bytes' own
 abbrev pub ResponsesAreOne : Type 0
 ResponsesAreOne = (read : List ℕ) (ended : Bool) (status other : ℕ) (body more : List ℕ)
-    → IsResponse read ended status body → IsResponse read ended other more → (status ≡ other) × (body ≡ more)
+    → IsResponse read ended status body → IsResponse read ended other more
+    → (status ≡ other) × (body ≡ more)
 
 -- what gives a reply to a request isn't broken for it, whatever the cause
 abbrev pub RepliesAreNotBroken : Type 0
-RepliesAreNotBroken = (request : Request) (read : List ℕ) (ended : Bool) (reply : Reply) (cause : WireEnd)
+RepliesAreNotBroken =
+    (request : Request) (read : List ℕ) (ended : Bool) (reply : Reply) (cause : WireEnd)
     → IsReply request read ended reply → IsBroken request cause read ended → ⊥

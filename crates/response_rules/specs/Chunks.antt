@@ -108,7 +108,8 @@ pub data BreaksChunk : ℕ → ℕ → List ℕ → Bool → WireEnd → Type 0 
       → take 2 (drop (chunk_size line) rest) ≢ crlf_bytes
       → BreaksChunk at before bytes ended (WireEnd.Malformed at)
   -- it is the last one, and the lines behind it are broken
-  trailer : (at before : ℕ) (bytes rest : List ℕ) (ended : Bool) (line : ChunkLine) (cause : WireEnd)
+  trailer : (at before : ℕ) (bytes rest : List ℕ) (ended : Bool) (line : ChunkLine)
+      (cause : WireEnd)
       → BeginsWithLine bytes line rest → chunk_size line ≡ 0
       → BreaksTrailer (at + length (print_chunk_line line)) rest ended cause
       → BreaksChunk at before bytes ended cause
@@ -119,4 +120,5 @@ pub record BreaksChunked (at : ℕ) (bytes : List ℕ) (ended : Bool) (cause : W
   pub tail : List ℕ
   pub are_chunks : AreChunks chunks
   pub reads : bytes ≡ print_chunks chunks ++ tail
-  pub breaks : BreaksChunk (at + length (print_chunks chunks)) (length (body_of chunks)) tail ended cause
+  pub breaks : BreaksChunk (at + length (print_chunks chunks))
+      (length (body_of chunks)) tail ended cause

@@ -29,7 +29,8 @@ NothingIsEnded = (request : Request) → IsBroken request WireEnd.Ended [] true
 abbrev pub TwoFramingsAreMalformed : Type 0
 TwoFramingsAreMalformed = (request : Request)
     → IsBroken request (WireEnd.Malformed 0)
-    (response (codes "200 OK") (codes "Content-Length: 5\r\nTransfer-Encoding: chunked\r\n\r\n")) false
+    (response (codes "200 OK") (codes "Content-Length: 5\r\nTransfer-Encoding: chunked\r\n\r\n"))
+    false
 
 -- a body of JSON that has no Volumes isn't that of the volumes
 abbrev pub OtherBodyIsBad : Type 0

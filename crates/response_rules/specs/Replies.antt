@@ -132,7 +132,8 @@ abbrev pub reply_of : Request → ℕ → List ℕ → Option Reply
 reply_of (Request.ListContainers project) status body =
     good_at 200 (option_map Reply.Containers (given (json_of body) (rows container_of))) status body
 reply_of (Request.Inspect id) status body =
-    good_at 200 (option_map Reply.State (given (given (json_of body) (get (codes "State"))) report_in))
+    good_at 200 (option_map Reply.State
+    (given (given (json_of body) (get (codes "State"))) report_in))
     status body
 reply_of (Request.Logs id) status body = good_at 200 (Some (Reply.Bytes body)) status body
 reply_of (Request.Create name spec) status body =

@@ -28,7 +28,8 @@ pub record Skips (read : List ℕ) (skipped : List ResponseHead) (tail : List �
 -- the bytes begin with skipped heads and a head of the grammar, within the limits, and then come
 -- the others
 pub record BeginsWithHead
-    (read : List ℕ) (skipped : List ResponseHead) (head : ResponseHead) (rest : List ℕ) : Type 0 where
+    (read : List ℕ) (skipped : List ResponseHead) (head : ResponseHead)
+    (rest : List ℕ) : Type 0 where
   pub skips : Skips read skipped (print_response head ++ rest)
   pub is_head : IsResponseHead head
   pub few : length head.fields ≤ line_limit
@@ -45,7 +46,8 @@ HasBody chunked bytes ended body = IsChunked bytes body
 -- its chunks
 abbrev pub BreaksBody : Framing → ℕ → List ℕ → Bool → WireEnd → Type 0
 BreaksBody to_end at bytes ended cause = (body_limit < length bytes) × (cause ≡ WireEnd.TooLarge)
-BreaksBody (sized n) at bytes ended cause = (length bytes < n) × IsTrue ended × (cause ≡ WireEnd.Ended)
+BreaksBody (sized n) at bytes ended cause =
+    (length bytes < n) × IsTrue ended × (cause ≡ WireEnd.Ended)
 BreaksBody chunked at bytes ended cause = BreaksChunked at bytes ended cause
 
 -- the body of a status and a framing: none where the status says so
@@ -84,7 +86,8 @@ pub data Breaks : List ℕ → Bool → WireEnd → Type 0 where
       → head_part (length (print_heads skipped)) tail ≡ ends n → HasNoResponse (take n tail)
       → Breaks read ended (WireEnd.Malformed (length (print_heads skipped)))
   -- a head's fields are wrong
-  bad_fields : (read rest : List ℕ) (ended : Bool) (skipped : List ResponseHead) (head : ResponseHead)
+  bad_fields : (read rest : List ℕ) (ended : Bool) (skipped : List ResponseHead)
+      (head : ResponseHead)
       (cause : WireEnd)
       → BeginsWithHead read skipped head rest
       → head_fault (length (print_heads skipped)) head.fields ≡ Some cause
@@ -95,5 +98,6 @@ pub data Breaks : List ℕ → Bool → WireEnd → Type 0 where
       → BeginsWithHead read skipped head rest → head_fault 0 head.fields ≡ None
       → IsFalse (has_no_body (status_code head))
       → IsSomeAnd (framing_of head.fields)
-      (λ f. BreaksBody f (length (print_heads skipped) + length (print_response head)) rest ended cause)
+      (λ f. BreaksBody f
+      (length (print_heads skipped) + length (print_response head)) rest ended cause)
       → Breaks read ended cause

@@ -70,12 +70,14 @@ report_of _ = None
 
 -- whether a report on a slot that is asked for here counts: the slot's start ended well, or the plan has none
 abbrev pub counts : Setup → List Entry → ℕ → Bool
-counts setup past s = option_map_or (λ a. is_well (standing setup past a)) (start_of setup.actions s) true
+counts setup past s =
+    option_map_or (λ a. is_well (standing setup past a)) (start_of setup.actions s) true
 
 -- whether the report of a worker's latest poll counts
 abbrev pub poll_counts : Setup → List Entry → ℕ → Bool
 poll_counts setup [] w = false
-poll_counts setup (Entry.Poll v s ∷ past) w = if v == w then counts setup past s else poll_counts setup past w
+poll_counts setup (Entry.Poll v s ∷ past) w =
+    if v == w then counts setup past s else poll_counts setup past w
 poll_counts setup (_ ∷ past) w = poll_counts setup past w
 
 -- the condition Started, `service_started` of the Compose Specification
@@ -85,17 +87,22 @@ is_started _ = false
 
 -- whether the end of a slot's poll fails a condition: its report counts and says so, or there is no report
 abbrev pub fails : Condition → Outcome → Bool → Bool
-fails condition outcome counted = option_map_or (λ report. counted && is_failed_verdict (judge condition report)) (report_of outcome) true
+fails condition outcome counted =
+    option_map_or (λ report. counted && is_failed_verdict (judge condition report))
+    (report_of outcome) true
 
 -- whether the end of a slot's poll meets a condition
 abbrev pub meets : Condition → Outcome → Bool → Bool
-meets condition outcome counted = option_map_or (λ report. counted && is_met_verdict (judge condition report)) (report_of outcome) false
+meets condition outcome counted =
+    option_map_or (λ report. counted && is_met_verdict (judge condition report))
+    (report_of outcome) false
 
 -- whether a condition other than Started has failed on a slot: some end of a poll failed it, and nothing later takes that back
 abbrev pub has_failed : Setup → List Entry → ℕ → Condition → Bool
 has_failed setup [] s condition = false
 has_failed setup (Entry.Ended v outcome ∷ past) s condition =
-    (not (is_started condition) && is_watch_of s (holding past v) && fails condition outcome (poll_counts setup past v))
+    (not (is_started condition) && is_watch_of s (holding past v)
+    && fails condition outcome (poll_counts setup past v))
     || has_failed setup past s condition
 has_failed setup (_ ∷ past) s condition = has_failed setup past s condition
 
@@ -103,13 +110,15 @@ has_failed setup (_ ∷ past) s condition = has_failed setup past s condition
 abbrev pub was_met : Setup → List Entry → ℕ → Condition → Bool
 was_met setup [] s condition = false
 was_met setup (Entry.Ended v outcome ∷ past) s condition =
-    (is_watch_of s (holding past v) && meets condition outcome (poll_counts setup past v)) || was_met setup past s condition
+    (is_watch_of s (holding past v) && meets condition outcome (poll_counts setup past v))
+    || was_met setup past s condition
 was_met setup (_ ∷ past) s condition = was_met setup past s condition
 
 -- whether a condition on a slot is met: Started by the well ended start, another by a report, unless it has failed
 abbrev pub is_met : Setup → List Entry → ℕ → Condition → Bool
 is_met setup past s Condition.Started = counts setup past s
-is_met setup past s condition = not (has_failed setup past s condition) && was_met setup past s condition
+is_met setup past s condition =
+    not (has_failed setup past s condition) && was_met setup past s condition
 
 -- whether an action ended otherwise than well, or is blocked, as this says
 abbrev pub is_lost : Setup → List Entry → (ℕ → Bool) → ℕ → Bool
@@ -117,12 +126,15 @@ is_lost setup past blocked a = is_badly (standing setup past a) || blocked a
 
 -- whether the start of a slot is lost
 abbrev pub is_start_lost : Setup → List Entry → (ℕ → Bool) → ℕ → Bool
-is_start_lost setup past blocked s = option_map_or (is_lost setup past blocked) (start_of setup.actions s) false
+is_start_lost setup past blocked s =
+    option_map_or (is_lost setup past blocked) (start_of setup.actions s) false
 
 -- whether a required need has failed: its condition has, or the start of its slot is lost
 abbrev pub is_need_lost : Setup → List Entry → (ℕ → Bool) → Need → Bool
 is_need_lost setup past blocked need =
-    need.required && (has_failed setup past need.slot need.condition || is_start_lost setup past blocked need.slot)
+    need.required
+    && (has_failed setup past need.slot need.condition
+    || is_start_lost setup past blocked need.slot)
 
 -- whether an action is blocked by a chain of at most so many: it isn't claimed, and one that it needs is lost, or it is a
 -- start with a required need that has failed
@@ -131,7 +143,8 @@ blocked_within zero setup past a = false
 blocked_within (suc n) setup past a =
     is_free (standing setup past a)
     && (list_any (is_lost setup past (blocked_within n setup past)) (needs_of setup.actions a)
-    || list_any (is_need_lost setup past (blocked_within n setup past)) (slot_needs setup.declared (kind_of setup.actions a)))
+    || list_any (is_need_lost setup past (blocked_within n setup past))
+    (slot_needs setup.declared (kind_of setup.actions a)))
 
 -- whether an action is blocked: no chain is longer than the plan
 abbrev pub is_blocked : Setup → List Entry → ℕ → Bool
@@ -142,12 +155,14 @@ abbrev pub lets : Setup → List Entry → Need → Bool
 lets setup past need =
     is_met setup past need.slot need.condition
     || (not need.required
-    && (has_failed setup past need.slot need.condition || is_start_lost setup past (is_blocked setup past) need.slot))
+    && (has_failed setup past need.slot need.condition
+    || is_start_lost setup past (is_blocked setup past) need.slot))
 
 -- whether an action is allowed: it isn't claimed, all that it needs ended well, and its slot's needs let it go
 abbrev pub is_allowed : Setup → List Entry → ℕ → Bool
 is_allowed setup past a =
-    is_free (standing setup past a) && list_all (λ b. is_well (standing setup past b)) (needs_of setup.actions a)
+    is_free (standing setup past a)
+    && list_all (λ b. is_well (standing setup past b)) (needs_of setup.actions a)
     && list_all (lets setup past) (slot_needs setup.declared (kind_of setup.actions a))
 
 -- whether an action is still to come: it is neither claimed nor blocked
@@ -161,7 +176,8 @@ goal_of setup s = option_map_or (λ slot. slot.goal) (slot_at setup.declared s) 
 -- whether a slot has a goal that is neither met nor failed: slots have goals where the run waits for them
 abbrev pub is_goal_open : Setup → List Entry → ℕ → Bool
 is_goal_open setup past s =
-    setup.limits.wait && not (is_met setup past s (goal_of setup s)) && not (has_failed setup past s (goal_of setup s))
+    setup.limits.wait && not (is_met setup past s (goal_of setup s))
+    && not (has_failed setup past s (goal_of setup s))
 
 -- the conditions that only a report shows: `service_healthy` and `service_completed_successfully` of the Compose Specification
 abbrev pub is_reported : Condition → Bool
@@ -171,14 +187,17 @@ is_reported _ = false
 
 -- whether a need asks for a report on a slot, which hasn't failed it
 abbrev pub asks_for : Setup → List Entry → ℕ → Need → Bool
-asks_for setup past s need = (need.slot == s) && is_reported need.condition && not (has_failed setup past s need.condition)
+asks_for setup past s need =
+    (need.slot == s) && is_reported need.condition && not (has_failed setup past s need.condition)
 
 -- whether some start that is still to come asks for a report on a slot
 abbrev pub is_needed : Setup → List Entry → ℕ → Bool
 is_needed setup past s = list_any
-    (λ a. is_pending setup past a && list_any (asks_for setup past s) (slot_needs setup.declared (kind_of setup.actions a)))
+    (λ a. is_pending setup past a
+    && list_any (asks_for setup past s) (slot_needs setup.declared (kind_of setup.actions a)))
     (places setup.actions)
 
 -- whether a slot is watched: a start asks for its report, or its goal is open, and its reports count
 abbrev pub is_watched : Setup → List Entry → ℕ → Bool
-is_watched setup past s = counts setup past s && (is_needed setup past s || is_goal_open setup past s)
+is_watched setup past s =
+    counts setup past s && (is_needed setup past s || is_goal_open setup past s)

@@ -40,14 +40,17 @@ IsCutJournal aim setup moves = Stands (entries_of moves)
 -- the moves agree with these ids of images: each good reply to a look at an image tells its one id
 abbrev pub TellsImages : (List ℕ → List ℕ) → List Move → Type 0
 TellsImages images [] = Unit {0}
-TellsImages images (Took source (Request.Image name) (Reply.ImageId id) ∷ moves) = (id ≡ images name) × TellsImages images moves
+TellsImages images (Took source (Request.Image name) (Reply.ImageId id) ∷ moves) =
+    (id ≡ images name) × TellsImages images moves
 TellsImages images (_ ∷ moves) = TellsImages images moves
 
 -- a run of `up` over the declared set, whole or cut, from one Engine to another
-pub record IsRan (declared : Declared) (images : List ℕ → List ℕ) (first : Engine) (ran : Ran) (last : Engine) : Type 0 where
+pub record IsRan (declared : Declared) (images : List ℕ → List ℕ) (first : Engine) (ran : Ran)
+    (last : Engine) : Type 0 where
   pub declares : ran.setup.declared ≡ declared
   pub up : is_up ran.aim.purpose ≡ true
-  pub plan : ran.setup.actions ≡ run_actions (record { declared = ran.setup.declared; seen = ran.setup.seen; aim = ran.aim })
+  pub plan : ran.setup.actions
+      ≡ run_actions (record { declared = ran.setup.declared; seen = ran.setup.seen; aim = ran.aim })
   pub journal : IsCutJournal ran.aim ran.setup ran.moves
   pub told : TellsImages images ran.moves
   pub world : World ran.setup first ran.moves last
@@ -55,21 +58,25 @@ pub record IsRan (declared : Declared) (images : List ℕ → List ℕ) (first :
 -- runs one after another, the latest first: each begins where the one before stopped
 abbrev pub Runs : Declared → (List ℕ → List ℕ) → Engine → List Ran → Engine → Type 0
 Runs declared images first [] last = last ≡ first
-Runs declared images first (ran ∷ earlier) last = (mid : Engine) × Runs declared images first earlier mid × IsRan declared images mid ran last
+Runs declared images first (ran ∷ earlier) last =
+    (mid : Engine) × Runs declared images first earlier mid × IsRan declared images mid ran last
 
 -- whether an effect made a container of a slot
 abbrev pub is_made_by : Declared → Slot → Request → Reply → Bool
-is_made_by declared slot (Request.Create name spec) (Reply.Made id) = is_of_slot declared.project slot spec.labels
+is_made_by declared slot (Request.Create name spec) (Reply.Made id) =
+    is_of_slot declared.project slot spec.labels
 is_made_by declared slot _ _ = false
 
 -- how many effects made a container of a slot
 abbrev pub creates : Declared → Slot → List Move → ℕ
 creates declared slot [] = 0
 creates declared slot (Took source request reply ∷ moves) =
-    if is_made_by declared slot request reply then creates declared slot moves + 1 else creates declared slot moves
+    if is_made_by declared slot request reply then creates declared slot moves + 1
+    else creates declared slot moves
 creates declared slot (_ ∷ moves) = creates declared slot moves
 
 -- how many effects of all runs made a container of a slot
 abbrev pub creates_over : Declared → Slot → List Ran → ℕ
 creates_over declared slot [] = 0
-creates_over declared slot (ran ∷ earlier) = creates declared slot ran.moves + creates_over declared slot earlier
+creates_over declared slot (ran ∷ earlier) =
+    creates declared slot ran.moves + creates_over declared slot earlier

@@ -21,7 +21,8 @@ use Rattle.run_model.specs.Numbers.{places}
 
 -- whether an action ended, well or otherwise, or is blocked
 abbrev pub is_over : Setup → List Entry → ℕ → Bool
-is_over setup past a = is_well (standing setup past a) || is_badly (standing setup past a) || is_blocked setup past a
+is_over setup past a =
+    is_well (standing setup past a) || is_badly (standing setup past a) || is_blocked setup past a
 
 -- whether a slot's goal is met or failed, or its reports don't count
 abbrev pub is_goal_over : Setup → List Entry → ℕ → Bool
@@ -72,13 +73,18 @@ pub record Failing : Type 0 where
 
 -- the required needs of the starts that are still to come, by the start's number, and then the goals
 abbrev pub wanted_conditions : Setup → List Entry → List Failing
-wanted_conditions setup past = flat_map of_start (places setup.actions) ++ (if setup.limits.wait then map of_goal (places setup.declared.slots) else [])
+wanted_conditions setup past =
+    flat_map of_start (places setup.actions)
+    ++ (if setup.limits.wait then map of_goal (places setup.declared.slots) else [])
   where
     of_need : Need → List Failing
-    of_need need = if need.required then record { slot = need.slot; condition = need.condition } ∷ [] else []
+    of_need need =
+        if need.required then record { slot = need.slot; condition = need.condition } ∷ [] else []
 
     of_start : ℕ → List Failing
-    of_start a = if is_pending setup past a then flat_map of_need (slot_needs setup.declared (kind_of setup.actions a)) else []
+    of_start a =
+        if is_pending setup past a
+        then flat_map of_need (slot_needs setup.declared (kind_of setup.actions a)) else []
 
     of_goal : ℕ → Failing
     of_goal s = record { slot = s; condition = goal_of setup s }
@@ -86,7 +92,8 @@ wanted_conditions setup past = flat_map of_start (places setup.actions) ++ (if s
 -- whether a condition fails by an entry that comes next
 abbrev pub fails_now : Setup → List Entry → Entry → Failing → Bool
 fails_now setup past entry failing =
-    not (has_failed setup past failing.slot failing.condition) && has_failed setup (entry ∷ past) failing.slot failing.condition
+    not (has_failed setup past failing.slot failing.condition)
+    && has_failed setup (entry ∷ past) failing.slot failing.condition
 
 -- the name of a slot's container
 abbrev pub slot_name : Setup → ℕ → List ℕ
@@ -95,14 +102,16 @@ slot_name setup s = option_map_or (λ slot. slot.name) (slot_at setup.declared s
 -- the fault of a report: the first wanted condition that it makes fail
 abbrev pub report_fault : Setup → List Entry → Entry → Report → Option RunFault
 report_fault setup past entry report =
-    option_map (λ failing. RunFault.Condition (slot_name setup failing.slot) failing.condition report)
+    option_map (λ failing. RunFault.Condition
+    (slot_name setup failing.slot) failing.condition report)
     (find (fails_now setup past entry) (wanted_conditions setup past))
 
 -- the fault of the end of a claim or a poll
 abbrev pub ended_fault : Setup → List Entry → ℕ → Outcome → Holding → Option RunFault
 ended_fault setup past w outcome Nothing = None
 ended_fault setup past w outcome (Work a) =
-    if is_well (ended_as (kind_of setup.actions a) outcome) then None else Some (exchange_fault (request_out setup past w) outcome)
+    if is_well (ended_as (kind_of setup.actions a) outcome) then None
+    else Some (exchange_fault (request_out setup past w) outcome)
 ended_fault setup past w outcome (Watch s) = of (report_of outcome)
   where
     of : Option Report → Option RunFault

@@ -98,7 +98,8 @@ abbrev pub standing : Setup → List Entry → ℕ → Standing
 standing setup [] a = Free
 standing setup (Entry.Claim v b ∷ past) a = if b == a then Out else standing setup past a
 standing setup (Entry.Ended v outcome ∷ past) a =
-    if is_work_on a (holding past v) then ended_as (kind_of setup.actions a) outcome else standing setup past a
+    if is_work_on a (holding past v) then ended_as (kind_of setup.actions a) outcome
+    else standing setup past a
 standing setup (_ ∷ past) a = standing setup past a
 
 -- how often an action was claimed
@@ -133,7 +134,8 @@ has_left (_ ∷ past) w = has_left past w
 abbrev pub has_stopped : List Entry → ℕ → Bool
 has_stopped [] w = false
 has_stopped (Entry.Stop v ∷ past) w = if v == w then true else has_stopped past w
-has_stopped (Entry.Late v (LateWhy.Deadline reading) ∷ past) w = if v == w then true else has_stopped past w
+has_stopped (Entry.Late v (LateWhy.Deadline reading) ∷ past) w =
+    if v == w then true else has_stopped past w
 has_stopped (_ ∷ past) w = has_stopped past w
 
 -- what the journal's observation saw, where it ended well

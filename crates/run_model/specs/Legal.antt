@@ -46,11 +46,13 @@ may_poll setup past s = is_watched setup past s && not (is_looked_at setup past 
 -- whether a slot was polled at most as often as each that may be polled
 abbrev pub has_fewest_polls : Setup → List Entry → ℕ → Bool
 has_fewest_polls setup past s =
-    list_all (λ t. not (may_poll setup past t) || nat_le (polls past s) (polls past t)) (places setup.declared.slots)
+    list_all (λ t. not (may_poll setup past t) || nat_le (polls past s) (polls past t))
+    (places setup.declared.slots)
 
 -- the slot to poll next: of those that may be polled one with the fewest polls, and of these the least
 abbrev pub next_poll : Setup → List Entry → Option ℕ
-next_poll setup past = find (λ s. may_poll setup past s && has_fewest_polls setup past s) (places setup.declared.slots)
+next_poll setup past =
+    find (λ s. may_poll setup past s && has_fewest_polls setup past s) (places setup.declared.slots)
 
 -- whether another worker's permit is out
 abbrev pub is_other_out : Setup → List Entry → ℕ → Bool
@@ -69,7 +71,8 @@ answer_to false false None None false = Go
 -- what a worker's ask is answered after these entries
 abbrev pub decision : Setup → List Entry → ℕ → Decision
 decision setup past w =
-    answer_to (nat_le entries_limit (length past)) (is_ending past) (next_action setup past) (next_poll setup past) (is_other_out setup past w)
+    answer_to (nat_le entries_limit (length past)) (is_ending past) (next_action setup past)
+    (next_poll setup past) (is_other_out setup past w)
 
 -- a worker may call: the observation ended well, the worker is one of the run's, holds nothing and hasn't left
 pub record IsReady (setup : Setup) (past : List Entry) (w : ℕ) : Type 0 where
@@ -80,7 +83,9 @@ pub record IsReady (setup : Setup) (past : List Entry) (w : ℕ) : Type 0 where
 
 -- the end of an observation that its exchanges give: a plan that is too long is its last fault
 abbrev pub whole_end : Declared → Aim → SeenEnd → SeenEnd
-whole_end declared aim (SeenEnd.Good seen) = if is_too_long basis then SeenEnd.Bad (SeenFault.TooManyActions (action_count basis)) else SeenEnd.Good seen
+whole_end declared aim (SeenEnd.Good seen) =
+    if is_too_long basis then SeenEnd.Bad (SeenFault.TooManyActions (action_count basis))
+    else SeenEnd.Good seen
   where
     basis : Basis
     basis = record { declared = declared; seen = seen; aim = aim }
@@ -99,7 +104,8 @@ seen_end declared aim exchanges = of (observed declared aim.purpose exchanges)
 abbrev pub IsObserved : Declared → Aim → Observed → Type 0
 IsObserved declared aim observation =
     (seen_end declared aim observation.exchanges ≡ Some observation.end)
-    ⊎ ((observation.end ≡ SeenEnd.Bad SeenFault.Memory) × (is_asked (observed declared aim.purpose observation.exchanges) ≡ true))
+    ⊎ ((observation.end ≡ SeenEnd.Bad SeenFault.Memory)
+    × (is_asked (observed declared aim.purpose observation.exchanges) ≡ true))
 
 -- where the observation ended well, it saw this
 abbrev pub Saw : SeenEnd → Seen → Type 0
@@ -108,7 +114,8 @@ Saw (SeenEnd.Bad fault) expected = Unit {0}
 
 -- an entry may stand after these
 abbrev pub MayStand : Aim → Setup → List Entry → Entry → Type 0
-MayStand aim setup past (Entry.Seen observation) = (past ≡ []) × IsObserved setup.declared aim observation × Saw observation.end setup.seen
+MayStand aim setup past (Entry.Seen observation) =
+    (past ≡ []) × IsObserved setup.declared aim observation × Saw observation.end setup.seen
 MayStand aim setup past (Entry.Claim w a) = IsReady setup past w × (decision setup past w ≡ Take a)
 MayStand aim setup past (Entry.Poll w s) = IsReady setup past w × (decision setup past w ≡ Look s)
 MayStand aim setup past (Entry.Ended w outcome) = is_open (holding past w) ≡ true
@@ -116,8 +123,10 @@ MayStand aim setup past (Entry.Idle w) = IsReady setup past w × (decision setup
 MayStand aim setup past (Entry.Leave w) = IsReady setup past w × (decision setup past w ≡ Go)
 MayStand aim setup past (Entry.Stop w) = IsReady setup past w × (has_stopped past w ≡ false)
 MayStand aim setup past (Entry.Late w (LateWhy.Deadline reading)) =
-    IsReady setup past w × (has_stopped past w ≡ false) × IsSomeAnd setup.limits.deadline (λ deadline. deadline ≤ reading)
-MayStand aim setup past (Entry.Late w LateWhy.Entries) = IsReady setup past w × (decision setup past w ≡ Full)
+    IsReady setup past w × (has_stopped past w ≡ false)
+    × IsSomeAnd setup.limits.deadline (λ deadline. deadline ≤ reading)
+MayStand aim setup past (Entry.Late w LateWhy.Entries) =
+    IsReady setup past w × (decision setup past w ≡ Full)
 MayStand aim setup past (Entry.Short w) = IsReady setup past w × (length past < entries_limit)
 
 -- a legal journal of a run, newest entry first: each entry may stand after those before it

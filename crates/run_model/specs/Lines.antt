@@ -25,28 +25,42 @@ container_name setup c = option_map_or (λ row. row.name) (slice_get setup.seen.
 
 -- the name of a declared network
 abbrev pub declared_network : Setup → ℕ → List ℕ
-declared_network setup n = option_map_or (λ network. network.name) (slice_get setup.declared.networks n) []
+declared_network setup n =
+    option_map_or (λ network. network.name) (slice_get setup.declared.networks n) []
 
 -- the name of a declared volume
 abbrev pub declared_volume : Setup → ℕ → List ℕ
-declared_volume setup v = option_map_or (λ volume. volume.name) (slice_get setup.declared.volumes v) []
+declared_volume setup v =
+    option_map_or (λ volume. volume.name) (slice_get setup.declared.volumes v) []
 
 -- the name of the network that a slot's attach joins
 abbrev pub attached_network : Setup → ℕ → ℕ → List ℕ
-attached_network setup s k = option_map_or (λ slot. option_map_or (network_name setup.declared) (slice_get slot.attach k) []) (slot_at setup.declared s) []
+attached_network setup s k =
+    option_map_or (λ slot. option_map_or (network_name setup.declared) (slice_get slot.attach k) [])
+    (slot_at setup.declared s) []
 
 -- the words of an action that ended well
 abbrev pub done_words : Setup → ActionKind → List ℕ
-done_words setup (ActionKind.MakeVolume v) = codes "volume " ++ declared_volume setup v ++ codes " created"
-done_words setup (ActionKind.MakeNetwork n) = codes "network " ++ declared_network setup n ++ codes " created"
-done_words setup (ActionKind.StopContainer c) = codes "container " ++ container_name setup c ++ codes " stopped"
-done_words setup (ActionKind.RemoveContainer c) = codes "container " ++ container_name setup c ++ codes " removed"
-done_words setup (ActionKind.CreateSlot s) = codes "container " ++ slot_name setup s ++ codes " created"
-done_words setup (ActionKind.ConnectSlot s k) = codes "container " ++ slot_name setup s ++ codes " connected to " ++ attached_network setup s k
-done_words setup (ActionKind.StopKept s) = codes "container " ++ slot_name setup s ++ codes " stopped"
-done_words setup (ActionKind.StartSlot s) = codes "container " ++ slot_name setup s ++ codes " started"
-done_words setup (ActionKind.RemoveNetwork n) = codes "network " ++ declared_network setup n ++ codes " removed"
-done_words setup (ActionKind.RemoveVolume v) = codes "volume " ++ declared_volume setup v ++ codes " removed"
+done_words setup (ActionKind.MakeVolume v) =
+    codes "volume " ++ declared_volume setup v ++ codes " created"
+done_words setup (ActionKind.MakeNetwork n) =
+    codes "network " ++ declared_network setup n ++ codes " created"
+done_words setup (ActionKind.StopContainer c) =
+    codes "container " ++ container_name setup c ++ codes " stopped"
+done_words setup (ActionKind.RemoveContainer c) =
+    codes "container " ++ container_name setup c ++ codes " removed"
+done_words setup (ActionKind.CreateSlot s) =
+    codes "container " ++ slot_name setup s ++ codes " created"
+done_words setup (ActionKind.ConnectSlot s k) =
+    codes "container " ++ slot_name setup s ++ codes " connected to " ++ attached_network setup s k
+done_words setup (ActionKind.StopKept s) =
+    codes "container " ++ slot_name setup s ++ codes " stopped"
+done_words setup (ActionKind.StartSlot s) =
+    codes "container " ++ slot_name setup s ++ codes " started"
+done_words setup (ActionKind.RemoveNetwork n) =
+    codes "network " ++ declared_network setup n ++ codes " removed"
+done_words setup (ActionKind.RemoveVolume v) =
+    codes "volume " ++ declared_volume setup v ++ codes " removed"
 
 -- a line of these words
 abbrev pub line : List ℕ → List ℕ
@@ -62,7 +76,8 @@ ended_line setup outcome _ = []
 -- the report of a run: a line for each action that ended well, in the order of their ends
 abbrev pub report_text : Setup → List Entry → List ℕ
 report_text setup [] = []
-report_text setup (Entry.Ended w outcome ∷ past) = report_text setup past ++ ended_line setup outcome (holding past w)
+report_text setup (Entry.Ended w outcome ∷ past) =
+    report_text setup past ++ ended_line setup outcome (holding past w)
 report_text setup (_ ∷ past) = report_text setup past
 
 -- what a request asks, in words
@@ -127,11 +142,14 @@ health_words Health.Unhealthy = codes "Unhealthy"
 
 -- a request that was refused, with the status and the Engine's message
 abbrev pub refused_words : Request → ℕ → List ℕ → List ℕ
-refused_words request status message = codes "refused: " ++ request_words request ++ codes ": " ++ decimal status ++ codes " " ++ message
+refused_words request status message =
+    codes "refused: " ++ request_words request ++ codes ": " ++ decimal status ++ codes " "
+    ++ message
 
 -- a request whose response was lost, with the cause
 abbrev pub lost_words : Request → WireEnd → List ℕ
-lost_words request cause = codes "lost: " ++ request_words request ++ codes ": " ++ cause_words cause
+lost_words request cause =
+    codes "lost: " ++ request_words request ++ codes ": " ++ cause_words cause
 
 -- a request that wasn't sent
 abbrev pub not_sent_words : Request → List ℕ
@@ -139,7 +157,8 @@ not_sent_words request = codes "not sent: " ++ request_words request
 
 -- an exchange that didn't end well; a reply of another request has no status
 abbrev pub outcome_words : Request → Outcome → List ℕ
-outcome_words request (Outcome.Answered (Reply.Refused status message)) = refused_words request status message
+outcome_words request (Outcome.Answered (Reply.Refused status message)) =
+    refused_words request status message
 outcome_words request (Outcome.Answered reply) = refused_words request 0 []
 outcome_words request (Outcome.Lost cause) = lost_words request cause
 outcome_words request Outcome.NotSent = not_sent_words request
@@ -151,23 +170,29 @@ seen_words (SeenFault.RequestFailed request status message) = refused_words requ
 seen_words (SeenFault.PullFailed image message) = codes "pull " ++ image ++ codes ": " ++ message
 seen_words (SeenFault.Lost request cause) = lost_words request cause
 seen_words (SeenFault.NotSent request) = not_sent_words request
-seen_words (SeenFault.NetworkTwice name first second) = codes "network " ++ name ++ codes " is there twice: " ++ first ++ codes " " ++ second
-seen_words (SeenFault.ForeignNetwork name id) = codes "network " ++ name ++ codes " is foreign: " ++ id
-seen_words (SeenFault.ExternalMissing kind name) = codes "external " ++ kind_words kind ++ codes " " ++ name ++ codes " is missing"
+seen_words (SeenFault.NetworkTwice name first second) =
+    codes "network " ++ name ++ codes " is there twice: " ++ first ++ codes " " ++ second
+seen_words (SeenFault.ForeignNetwork name id) =
+    codes "network " ++ name ++ codes " is foreign: " ++ id
+seen_words (SeenFault.ExternalMissing kind name) =
+    codes "external " ++ kind_words kind ++ codes " " ++ name ++ codes " is missing"
 seen_words (SeenFault.NeedsBuild service) = service ++ codes " needs a build"
 seen_words (SeenFault.TooManyActions count) = codes "TooManyActions: " ++ decimal count
 seen_words SeenFault.Memory = codes "memory"
 
 -- the report that a condition failed at
 abbrev pub report_words : Report → List ℕ
-report_words report = state_words report.state ++ codes " " ++ signed_decimal report.exit_code ++ codes " " ++ health_words report.health
+report_words report =
+    state_words report.state ++ codes " " ++ signed_decimal report.exit_code ++ codes " "
+    ++ health_words report.health
 
 -- the words of a run's fault
 abbrev pub fault_words : RunFault → List ℕ
 fault_words (RunFault.Seen fault) = seen_words fault
 fault_words (RunFault.Request request outcome) = outcome_words request outcome
 fault_words (RunFault.Condition slot condition report) =
-    codes "condition failed: " ++ slot ++ codes " " ++ condition_words condition ++ codes " " ++ report_words report
+    codes "condition failed: " ++ slot ++ codes " " ++ condition_words condition ++ codes " "
+    ++ report_words report
 fault_words RunFault.Stopped = codes "stopped"
 fault_words (RunFault.Late why) = codes "late"
 fault_words RunFault.Memory = codes "memory"

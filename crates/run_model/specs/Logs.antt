@@ -13,7 +13,9 @@ exchanges_of setup [] w = []
 exchanges_of setup (Entry.Seen observation ∷ past) w =
     if w == 0 then exchanges_of setup past w ++ observation.exchanges else exchanges_of setup past w
 exchanges_of setup (Entry.Ended v outcome ∷ past) w =
-    if v == w then exchanges_of setup past w ++ record { request = request_out setup past v; outcome = outcome } ∷ [] else exchanges_of setup past w
+    if v == w then exchanges_of setup past w
+    ++ record { request = request_out setup past v; outcome = outcome } ∷ []
+    else exchanges_of setup past w
 exchanges_of setup (_ ∷ past) w = exchanges_of setup past w
 
 -- want of memory
@@ -24,7 +26,8 @@ is_memory _ = false
 -- a log begins with an exchange, and the rest of it is such; or it lacks the exchange, which met want of memory
 abbrev pub BeginsWith : Exchange → (List Exchange → Type 0) → List Exchange → Type 0
 BeginsWith exchange Rest [] = (is_memory exchange.outcome ≡ true) × Rest []
-BeginsWith exchange Rest (first ∷ log) = ((first ≡ exchange) × Rest log) ⊎ ((is_memory exchange.outcome ≡ true) × Rest (first ∷ log))
+BeginsWith exchange Rest (first ∷ log) =
+    ((first ≡ exchange) × Rest log) ⊎ ((is_memory exchange.outcome ≡ true) × Rest (first ∷ log))
 
 -- a log of these exchanges, in their order, where those that met want of memory may be missing
 abbrev pub IsLogOf : List Exchange → List Exchange → Type 0
@@ -83,7 +86,8 @@ asks_unstopped (entry ∷ past) w =
 -- the reading at which a worker met the deadline
 abbrev pub late_reading : List Entry → ℕ → Option ℕ
 late_reading [] w = None
-late_reading (Entry.Late v (LateWhy.Deadline reading) ∷ past) w = if v == w then Some reading else late_reading past w
+late_reading (Entry.Late v (LateWhy.Deadline reading) ∷ past) w =
+    if v == w then Some reading else late_reading past w
 late_reading (_ ∷ past) w = late_reading past w
 
 -- the deadline of a run whose first reading is this: so many seconds later, as far as 64 bits tell

@@ -53,7 +53,8 @@ abbrev pub run_setup : Task → List Entry → Setup
 run_setup task journal = record {
   declared = task.declared;
   seen = run_seen journal;
-  actions = run_actions (record { declared = task.declared; seen = run_seen journal; aim = task.aim });
+  actions =
+      run_actions (record { declared = task.declared; seen = run_seen journal; aim = task.aim });
   limits = record task.limits { wait = task.limits.wait && is_up task.aim.purpose };
 }
 
@@ -64,7 +65,9 @@ pub record IsRun (task : Task) (journal : List Entry) : Type 0 where
 
 -- where the observation ended well, every worker of the run has left
 abbrev pub IsLeftByAll : Task → List Entry → Type 0
-IsLeftByAll task journal = is_seen_bad (reverse journal) ≡ false → EveryWorkerLeft (run_setup task journal) (reverse journal)
+IsLeftByAll task journal =
+    is_seen_bad (reverse journal) ≡ false
+    → EveryWorkerLeft (run_setup task journal) (reverse journal)
 
 -- what the run is refused with
 abbrev pub run_fault : Task → List Entry → Option RunFault
@@ -84,4 +87,5 @@ run_exchanges task journal w = exchanges_of (run_setup task journal) (reverse jo
 
 -- a world of the run, which leads from one Engine to another
 abbrev pub IsWorldOfRun : Task → List Entry → Engine → List Move → Engine → Type 0
-IsWorldOfRun task journal first moves last = IsWorldOf (run_setup task journal) (reverse journal) first moves last
+IsWorldOfRun task journal first moves last =
+    IsWorldOf (run_setup task journal) (reverse journal) first moves last

@@ -27,14 +27,16 @@ is_look _ _ = false
 
 -- what is known of an image's id after an exchange: a look tells it, and a pull makes it unknown
 abbrev pub id_after : List ℕ → Request → Outcome → Option (List ℕ) → Option (List ℕ)
-id_after image (Request.Image other) (Outcome.Answered (Reply.ImageId id)) before = if bytes_eq image other then Some id else before
+id_after image (Request.Image other) (Outcome.Answered (Reply.ImageId id)) before =
+    if bytes_eq image other then Some id else before
 id_after image (Request.Pull other) outcome before = if bytes_eq image other then None else before
 id_after image _ _ before = before
 
 -- what exchanges, newest first, told of an image's id
 abbrev pub id_told : List ℕ → List Exchange → Option (List ℕ)
 id_told image [] = None
-id_told image (exchange ∷ past) = id_after image exchange.request exchange.outcome (id_told image past)
+id_told image (exchange ∷ past) =
+    id_after image exchange.request exchange.outcome (id_told image past)
 
 -- an exchange that was answered so
 abbrev pub answered : Request → Reply → Exchange
@@ -42,13 +44,18 @@ answered request reply = record { request = request; outcome = Outcome.Answered 
 
 -- what was seen is what these exchanges told: the first rows with each id of the listing of containers, all rows of the other
 -- listings, of which none was asked for where the project declares none, and of each slot's image the id that was told last
-pub record IsTold (declared : Declared) (purpose : Purpose) (exchanges : List Exchange) (seen : Seen) : Type 0 where
+pub record IsTold (declared : Declared) (purpose : Purpose) (exchanges : List Exchange)
+    (seen : Seen) : Type 0 where
   pub looks : list_all (λ exchange. is_look exchange.request exchange.outcome) exchanges ≡ true
   pub rows : List Listed
-  pub listed : Among exchanges (answered (Request.ListContainers declared.project) (Reply.Containers rows))
+  pub listed : Among exchanges
+      (answered (Request.ListContainers declared.project) (Reply.Containers rows))
   pub containers : seen.containers ≡ first_of_each (λ row. row.id) rows
-  pub networks : ((declared.networks ≡ []) × (seen.networks ≡ [])) ⊎ Among exchanges (answered Request.ListNetworks (Reply.Networks seen.networks))
-  pub volumes : ((declared.volumes ≡ []) × (seen.volumes ≡ [])) ⊎ Among exchanges (answered Request.ListVolumes (Reply.Volumes seen.volumes))
+  pub networks : ((declared.networks ≡ []) × (seen.networks ≡ []))
+      ⊎ Among exchanges (answered Request.ListNetworks (Reply.Networks seen.networks))
+  pub volumes : ((declared.volumes ≡ []) × (seen.volumes ≡ []))
+      ⊎ Among exchanges (answered Request.ListVolumes (Reply.Volumes seen.volumes))
   pub sound : listing_fault declared purpose seen ≡ None
   pub images : (slot : Slot) → is_up purpose ≡ true → Among declared.slots slot
-      → (id : List ℕ) × (id_told slot.image (reverse exchanges) ≡ Some id) × (seen_image seen slot ≡ Some id)
+      → (id : List ℕ) × (id_told slot.image (reverse exchanges) ≡ Some id)
+      × (seen_image seen slot ≡ Some id)

@@ -11,12 +11,14 @@ use Rattle.run_model.specs.Requests.{OfAction, asked}
 
 -- the request of the latest claim of an action, and a listing where there is none
 abbrev pub request_held : Setup → List Entry → ℕ → Request
-request_held setup past a = unwrap_or (asked setup past (OfAction a)) (Request.ListContainers setup.declared.project)
+request_held setup past a =
+    unwrap_or (asked setup past (OfAction a)) (Request.ListContainers setup.declared.project)
 
 -- the fault of the end of an action
 abbrev pub held_fault : Setup → List Entry → ℕ → Outcome → Option RunFault
 held_fault setup past a outcome =
-    if is_well (ended_as (kind_of setup.actions a) outcome) then None else Some (exchange_fault (request_held setup past a) outcome)
+    if is_well (ended_as (kind_of setup.actions a) outcome) then None
+    else Some (exchange_fault (request_held setup past a) outcome)
 
 -- the entries before the latest claim of an action
 abbrev pub before_claim : List Entry → ℕ → Option (List Entry)

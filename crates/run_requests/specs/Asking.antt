@@ -43,24 +43,37 @@ network_id_by setup ids n = of (ids.maker n)
   where
     of : Option ℕ → Option (List ℕ)
     of (Some a) = ids.told a
-    of None = option_and_then (λ network. seen_network_id setup network.name) (slice_get setup.declared.networks n)
+    of None =
+        option_and_then (λ network. seen_network_id setup network.name)
+        (slice_get setup.declared.networks n)
 
 -- the connect of a slot's container to the network of one of its attaches
 abbrev pub connect_by : Setup → Ids → ℕ → Attach → Option Request
 connect_by setup ids s attach = option_and_then
-    (λ network. option_map (λ id. Request.Connect network id attach.aliases) (slot_id_by setup ids s)) (network_id_by setup ids attach.network)
+    (λ network. option_map (λ id. Request.Connect network id attach.aliases)
+    (slot_id_by setup ids s)) (network_id_by setup ids attach.network)
 
 -- the request of an action of this kind
 abbrev pub request_by : Setup → Ids → ActionKind → Option Request
-request_by setup ids (MakeVolume v) = option_map (λ spec. Request.MakeVolume spec) (slice_get setup.declared.volumes v)
-request_by setup ids (MakeNetwork n) = option_map (λ spec. Request.MakeNetwork spec) (slice_get setup.declared.networks n)
-request_by setup ids (StopContainer c) = option_map (λ row. Request.Stop row.id (stop_seconds setup row)) (slice_get setup.seen.containers c)
-request_by setup ids (RemoveContainer c) = option_map (λ row. Request.Remove row.id) (slice_get setup.seen.containers c)
-request_by setup ids (CreateSlot s) = option_map (λ slot. Request.Create slot.name slot.spec) (slot_at setup.declared s)
+request_by setup ids (MakeVolume v) =
+    option_map (λ spec. Request.MakeVolume spec) (slice_get setup.declared.volumes v)
+request_by setup ids (MakeNetwork n) =
+    option_map (λ spec. Request.MakeNetwork spec) (slice_get setup.declared.networks n)
+request_by setup ids (StopContainer c) =
+    option_map (λ row. Request.Stop row.id (stop_seconds setup row))
+    (slice_get setup.seen.containers c)
+request_by setup ids (RemoveContainer c) =
+    option_map (λ row. Request.Remove row.id) (slice_get setup.seen.containers c)
+request_by setup ids (CreateSlot s) =
+    option_map (λ slot. Request.Create slot.name slot.spec) (slot_at setup.declared s)
 request_by setup ids (ConnectSlot s k) =
-    option_and_then (λ slot. option_and_then (connect_by setup ids s) (slice_get slot.attach k)) (slot_at setup.declared s)
+    option_and_then (λ slot. option_and_then (connect_by setup ids s) (slice_get slot.attach k))
+    (slot_at setup.declared s)
 request_by setup ids (StopKept s) =
-    option_and_then (λ slot. option_map (λ row. Request.Stop row.id slot.stop_seconds) (kept_of setup.declared setup.seen slot)) (slot_at setup.declared s)
+    option_and_then (λ slot. option_map (λ row. Request.Stop row.id slot.stop_seconds)
+    (kept_of setup.declared setup.seen slot)) (slot_at setup.declared s)
 request_by setup ids (StartSlot s) = option_map (λ id. Request.Start id) (slot_id_by setup ids s)
-request_by setup ids (RemoveNetwork n) = option_map (λ id. Request.RemoveNetwork id) (network_id_by setup ids n)
-request_by setup ids (RemoveVolume v) = option_map (λ spec. Request.RemoveVolume spec.name) (slice_get setup.declared.volumes v)
+request_by setup ids (RemoveNetwork n) =
+    option_map (λ id. Request.RemoveNetwork id) (network_id_by setup ids n)
+request_by setup ids (RemoveVolume v) =
+    option_map (λ spec. Request.RemoveVolume spec.name) (slice_get setup.declared.volumes v)

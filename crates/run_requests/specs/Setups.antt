@@ -8,7 +8,12 @@ use Rattle.run_requests.specs.declared.run.Run.{Run}
 
 -- the setup of a run
 abbrev pub setup_of : Run → Setup
-setup_of run = record { declared = run.declared.now; seen = run.seen.now; actions = run.plan.now.actions; limits = run.limits }
+setup_of run = record {
+  declared = run.declared.now;
+  seen = run.seen.now;
+  actions = run.plan.now.actions;
+  limits = run.limits;
+}
 
 -- the setup of a run of one worker that waits for no goal, has no deadline, and lets each stop wait as its slot says
 abbrev pub of_one_worker : Declared → Seen → List Action → Setup

@@ -67,7 +67,8 @@ fn make_network(alloc: Global, declared: &Declared, network: u32) -> Result<Opti
 
 fn stop(alloc: Global, run: &Run<'_>, container: u64) -> Result<Option<Request>, Memory>
     ensures { IfOk result (λ request. request
-        ≡ option_map (λ row. Request.Stop row.id (stop_seconds (setup_of run.now) row)) (slice_get run.now.seen.now.containers container)) }
+        ≡ option_map (λ row. Request.Stop row.id (stop_seconds (setup_of run.now) row))
+        (slice_get run.now.seen.now.containers container)) }
 {
     match run.seen.containers.get(container as usize) {
         Some(row) => {

@@ -22,7 +22,8 @@ pub(crate) fn stop_seconds(alloc: Global, run: &Run<'_>, row: &Listed) -> Result
 
 fn slot_seconds(alloc: Global, declared: &Declared, row: &Listed) -> Result<u64, Memory>
     ensures { IfOk result (λ seconds. seconds
-        ≡ option_map_or (λ slot. slot.stop_seconds) (find (λ slot. names_slot slot row.now.labels) declared.now.slots) 10) }
+        ≡ option_map_or (λ slot. slot.stop_seconds)
+        (find (λ slot. names_slot slot row.now.labels) declared.now.slots) 10) }
 {
     for slot in declared.slots.as_slice() {
         if names_slot(alloc, slot, &row.labels)? {

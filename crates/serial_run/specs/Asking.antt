@@ -25,7 +25,13 @@ pub record Course : Type 0 where
 
 -- the same, by its parts
 abbrev pub course : Declared → Seen → List Action → List Mark → List Entry → Course
-course declared seen actions marks journal = record { declared = declared; seen = seen; actions = actions; marks = marks; journal = journal }
+course declared seen actions marks journal = record {
+  declared = declared;
+  seen = seen;
+  actions = actions;
+  marks = marks;
+  journal = journal;
+}
 
 -- the id that an outcome tells
 abbrev pub id_of : Outcome → Option (List ℕ)
@@ -64,16 +70,20 @@ ids_by run needs = marked_ids run.actions needs run.marks run.journal
 
 -- the id of a slot's container for an action with these needs
 abbrev pub slot_id_by : Course → List ℕ → ℕ → Option (List ℕ)
-slot_id_by run needs s = over.slot_id_by (serial_setup run.declared run.seen run.actions) (ids_by run needs) s
+slot_id_by run needs s =
+    over.slot_id_by (serial_setup run.declared run.seen run.actions) (ids_by run needs) s
 
 -- the id of a network for an action with these needs
 abbrev pub network_id_by : Course → List ℕ → ℕ → Option (List ℕ)
-network_id_by run needs n = over.network_id_by (serial_setup run.declared run.seen run.actions) (ids_by run needs) n
+network_id_by run needs n =
+    over.network_id_by (serial_setup run.declared run.seen run.actions) (ids_by run needs) n
 
 -- the connect of a slot's container to the network of one of its attaches
 abbrev pub connect_by : Course → List ℕ → ℕ → Attach → Option Request
-connect_by run needs s attach = over.connect_by (serial_setup run.declared run.seen run.actions) (ids_by run needs) s attach
+connect_by run needs s attach =
+    over.connect_by (serial_setup run.declared run.seen run.actions) (ids_by run needs) s attach
 
 -- the request of an action of this kind with these needs
 abbrev pub request_by : Course → List ℕ → ActionKind → Option Request
-request_by run needs kind = over.request_by (serial_setup run.declared run.seen run.actions) (ids_by run needs) kind
+request_by run needs kind =
+    over.request_by (serial_setup run.declared run.seen run.actions) (ids_by run needs) kind

@@ -13,11 +13,23 @@ use Rattle.run_model.specs.Told.{answered}
 
 -- the volume `data` of the project `shop`
 abbrev pub volume : VolumeSpec
-volume = record { name = codes "shop_data"; labels = []; driver = None; driver_opts = None; external = false }
+volume = record {
+  name = codes "shop_data";
+  labels = [];
+  driver = None;
+  driver_opts = None;
+  external = false;
+}
 
 -- what the project declares
 abbrev pub shop : Declared
-shop = record { project = codes "shop"; slots = []; services = []; networks = []; volumes = volume ∷ [] }
+shop = record {
+  project = codes "shop";
+  slots = [];
+  services = [];
+  networks = [];
+  volumes = volume ∷ [];
+}
 
 -- the Engine has nothing
 abbrev pub nothing : Seen
@@ -30,6 +42,8 @@ making = record { kind = ActionKind.MakeVolume 0; needs = [] } ∷ []
 -- containers and volumes were listed, and there were none
 abbrev pub look : Observed
 look = record {
-  exchanges = answered (Request.ListContainers (codes "shop")) (Reply.Containers []) ∷ answered Request.ListVolumes (Reply.Volumes []) ∷ [];
+  exchanges =
+      answered (Request.ListContainers (codes "shop")) (Reply.Containers [])
+      ∷ answered Request.ListVolumes (Reply.Volumes []) ∷ [];
   end = SeenEnd.Good nothing;
 }

@@ -37,7 +37,12 @@ one_worker = record { workers = 1; deadline = None; wait = false; stop_seconds =
 
 -- what the run is of
 abbrev pub serial_setup : Declared → Seen → List Action → Setup
-serial_setup declared seen actions = record { declared = declared; seen = seen; actions = actions; limits = one_worker }
+serial_setup declared seen actions = record {
+  declared = declared;
+  seen = seen;
+  actions = actions;
+  limits = one_worker;
+}
 
 -- what a run is for, in the words of plans
 abbrev pub aim_of : given.Aim.Aim → Aim
@@ -55,11 +60,13 @@ up_aim orphans = record { purpose = Purpose.Up; orphans = orphans; volumes = fal
 -- replaced a few slots at a time
 pub record WaitsForNone (declared : Declared) : Type 0 where
   pub slots : (slot : Slot) → Among declared.slots slot → slot.needs ≡ []
-  pub services : (service : DeclaredService) → Among declared.services service → service.depends_on ≡ []
+  pub services : (service : DeclaredService) → Among declared.services service
+      → service.depends_on ≡ []
   pub rolls : (service : DeclaredService) → Among declared.services service → service.roll ≡ None
 
 -- the journal is an observation of the declared set that ended well and saw this
-pub record IsBegun (declared : Declared) (aim : Aim) (seen : Seen) (journal : List Entry) : Type 0 where
+pub record IsBegun (declared : Declared) (aim : Aim) (seen : Seen)
+    (journal : List Entry) : Type 0 where
   pub observation : Observed
   pub only : journal ≡ Entry.Seen observation ∷ []
   pub observed : IsObserved declared aim observation
@@ -71,7 +78,8 @@ GoesOn old new = (added : List Entry) × (new ≡ old ++ added)
 
 -- the only worker's exchanges in the second journal, after those in the first
 abbrev pub exchanges_since : Setup → List Entry → List Entry → List Exchange
-exchanges_since setup old new = drop (length (exchanges_of setup (reverse old) 0)) (exchanges_of setup (reverse new) 0)
+exchanges_since setup old new =
+    drop (length (exchanges_of setup (reverse old) 0)) (exchanges_of setup (reverse new) 0)
 
 -- what a hand tells
 pub record Telling : Type 0 where
@@ -83,22 +91,31 @@ pub record Telling : Type 0 where
 
 -- what a hand tells, by its parts
 abbrev pub telling : List Exchange → Option (List Heard) → ℕ → Clock → Option Engine → Telling
-telling log heard faults clock engine = record { log = log; heard = heard; faults = faults; clock = clock; engine = engine }
+telling log heard faults clock engine = record {
+  log = log;
+  heard = heard;
+  faults = faults;
+  clock = clock;
+  engine = engine;
+}
 
 -- what it tells of its exchanges
 abbrev pub account_in : Telling → Account
 account_in telling = account telling.log telling.heard telling.faults
 
 -- what an exchange makes of what the hand tells
-pub record Exchanged (old : Telling) (request : Request) (outcome : Outcome) (new : Telling) : Type 0 where
+pub record Exchanged (old : Telling) (request : Request) (outcome : Outcome)
+    (new : Telling) : Type 0 where
   pub told : Tells old.engine request outcome new.engine
-  pub caused : IsCausedIn (record { request = request; outcome = outcome }) (account_in old) (account_in new)
+  pub caused : IsCausedIn (record { request = request; outcome = outcome }) (account_in old)
+      (account_in new)
   pub timed : new.clock ≡ old.clock
 
 -- how an action stands by its mark: it ended well with the reply of the entry at that place, otherwise, or was never claimed
 abbrev pub Stands : Setup → List Entry → ℕ → Mark → Type 0
 Stands setup journal a (Mark.Well at) =
-    (reply : Reply) × (standing setup (reverse journal) a ≡ Well reply) × (slice_get journal at ≡ Some (Entry.Ended 0 (Outcome.Answered reply)))
+    (reply : Reply) × (standing setup (reverse journal) a ≡ Well reply)
+    × (slice_get journal at ≡ Some (Entry.Ended 0 (Outcome.Answered reply)))
 Stands setup journal a Mark.Badly = standing setup (reverse journal) a ≡ Badly
 Stands setup journal a Mark.Blocked = standing setup (reverse journal) a ≡ Free
 
@@ -133,10 +150,12 @@ pub record IsBetween (aim : Aim) (setup : Setup) (past : List Entry) : Type 0 wh
   pub below : length past < entries_limit
 
 -- a run that is on its way: what it began with, and what there is now
-pub record IsOnItsWay (aim : Aim) (setup : Setup) (old new : List Entry) (before now : Telling) : Type 0 where
+pub record IsOnItsWay (aim : Aim) (setup : Setup) (old new : List Entry)
+    (before now : Telling) : Type 0 where
   pub between : IsBetween aim setup (reverse new)
   pub more : GoesOn old new
-  pub since : exchanges_of setup (reverse new) 0 ≡ exchanges_of setup (reverse old) 0 ++ exchanges_since setup old new
+  pub since : exchanges_of setup (reverse new) 0 ≡ exchanges_of setup (reverse old) 0
+      ++ exchanges_since setup old new
   pub grown : GrowsBy (exchanges_since setup old new) before.log now.log
   pub told : ToldBy (exchanges_since setup old new) before.engine now.engine
   pub caused : AreCaused (exchanges_since setup old new) (account_in before) (account_in now)
@@ -146,10 +165,12 @@ pub record IsOnItsWay (aim : Aim) (setup : Setup) (old new : List Entry) (before
 pub record IsDone (setup : Setup) (past : List Entry) : Type 0 where
   pub none_left : next_action setup past ≡ None
   pub actions : list_all (is_over setup (Entry.Leave 0 ∷ past)) (places setup.actions) ≡ true
-  pub goals : list_all (is_goal_over setup (Entry.Leave 0 ∷ past)) (places setup.declared.slots) ≡ true
+  pub goals : list_all (is_goal_over setup (Entry.Leave 0 ∷ past)) (places setup.declared.slots)
+      ≡ true
 
 -- an action of this kind was claimed, made by the request that it has, and ended
-pub record IsMade (asked : Option Request) (kind : ActionKind) (a : ℕ) (old new : List Entry) (before now : Telling) (mark : Mark) : Type 0 where
+pub record IsMade (asked : Option Request) (kind : ActionKind) (a : ℕ) (old new : List Entry)
+    (before now : Telling) (mark : Mark) : Type 0 where
   pub request : Request
   pub outcome : Outcome
   pub asked_for : asked ≡ Some request
@@ -163,14 +184,16 @@ pub record IsLeftAlone (old new : List Entry) (before now : Telling) : Type 0 wh
   pub hand : now ≡ before
 
 -- an action was skipped, since one that it needs didn't end well
-pub record IsSkipped (needs : List ℕ) (marks : List Mark) (old new : List Entry) (before now : Telling) (mark : Mark) : Type 0 where
+pub record IsSkipped (needs : List ℕ) (marks : List Mark) (old new : List Entry)
+    (before now : Telling) (mark : Mark) : Type 0 where
   pub unclear : is_clear needs marks ≡ false
   pub marked : mark ≡ Mark.Blocked
   pub alone : IsLeftAlone old new before now
 
 -- what the run rests on: the plan is that of its aim and isn't too long, the declared set is whole, no slot waits for
 -- another, and there is no fault in what was listed
-pub record IsGrounded (declared : Declared) (seen : Seen) (actions : List Action) (aim : Aim) : Type 0 where
+pub record IsGrounded (declared : Declared) (seen : Seen) (actions : List Action)
+    (aim : Aim) : Type 0 where
   pub is_planned : actions ≡ planned (basis_of declared seen aim)
   pub fits : is_too_long (basis_of declared seen aim) ≡ false
   pub whole : IsWhole declared

@@ -19,7 +19,8 @@ pub(crate) struct MarkedIds<'a> {
 }
 
 impl ToldIds for MarkedIds<'_> {
-    ghost ids = { λ told. marked_ids told.plan.now.actions told.action.now.needs told.marks.now told.journal.now };
+    ghost ids = { λ told. marked_ids told.plan.now.actions told.action.now.needs told.marks.now
+        told.journal.now };
 
     fn creator(&self, slot: u32) -> Option<usize> {
         let create = create_in(

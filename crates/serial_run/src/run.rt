@@ -50,7 +50,8 @@ pub fn run_plan<H: Hand>(
         (H.engine hand.old) (H.engine hand.new) }
     ensures caused { AreCaused (exchanges_since
         (serial_setup declared.now seen.now plan.now.actions) journal.old.items journal.new.items)
-        (account (H.log hand.old) (H.heard hand.old) (H.faults hand.old)) (account (H.log hand.new) (H.heard hand.new) (H.faults hand.new)) }
+        (account (H.log hand.old) (H.heard hand.old) (H.faults hand.old))
+        (account (H.log hand.new) (H.heard hand.new) (H.faults hand.new)) }
     ensures clock { H.clock hand.new ≡ H.clock hand.old }
 {
     let through = make_all(alloc, hand, declared, seen, plan, aim, journal);
@@ -83,8 +84,10 @@ fn make_all<H: Hand>(
     requires room { 1 ≤ journal.old.spare }
     ensures on_its_way { IsOnItsWay (aim_of aim)
         (serial_setup declared.now seen.now plan.now.actions) journal.old.items journal.new.items
-        (telling (H.log hand.old) (H.heard hand.old) (H.faults hand.old) (H.clock hand.old) (H.engine hand.old))
-        (telling (H.log hand.new) (H.heard hand.new) (H.faults hand.new) (H.clock hand.new) (H.engine hand.new)) }
+        (telling (H.log hand.old) (H.heard hand.old) (H.faults hand.old) (H.clock hand.old)
+        (H.engine hand.old))
+        (telling (H.log hand.new) (H.heard hand.new) (H.faults hand.new) (H.clock hand.new)
+        (H.engine hand.new)) }
     ensures done { OnOk result (IsDone (serial_setup declared.now seen.now plan.now.actions)
         (reverse journal.new.items)) }
     ensures room { 1 ≤ journal.new.spare }
@@ -121,19 +124,29 @@ fn take<H: Hand>(
     journal: &mut ReservedList<Entry>,
 ) -> Result<Mark, Memory>
     requires asked { is_clear action.now.needs marks.now ≡ true
-        → is_some (request_by (course declared.now seen.now plan.now.actions marks.now journal.old.items) action.now.needs action.now.kind) ≡ true }
+        → is_some (request_by
+        (course declared.now seen.now plan.now.actions marks.now journal.old.items) action.now.needs
+        action.now.kind) ≡ true }
     requires room { 1 ≤ journal.old.spare }
     ensures taken { IfOk result (λ mark.
         IsSkipped action.now.needs marks.now journal.old.items journal.new.items
-        (telling (H.log hand.old) (H.heard hand.old) (H.faults hand.old) (H.clock hand.old) (H.engine hand.old))
-        (telling (H.log hand.new) (H.heard hand.new) (H.faults hand.new) (H.clock hand.new) (H.engine hand.new)) mark
+        (telling (H.log hand.old) (H.heard hand.old) (H.faults hand.old) (H.clock hand.old)
+        (H.engine hand.old))
+        (telling (H.log hand.new) (H.heard hand.new) (H.faults hand.new) (H.clock hand.new)
+        (H.engine hand.new)) mark
         ⊎ ((is_clear action.now.needs marks.now ≡ true)
-        × IsMade (request_by (course declared.now seen.now plan.now.actions marks.now journal.old.items) action.now.needs action.now.kind) action.now.kind number journal.old.items journal.new.items
-        (telling (H.log hand.old) (H.heard hand.old) (H.faults hand.old) (H.clock hand.old) (H.engine hand.old))
-        (telling (H.log hand.new) (H.heard hand.new) (H.faults hand.new) (H.clock hand.new) (H.engine hand.new)) mark)) }
+        × IsMade (request_by
+        (course declared.now seen.now plan.now.actions marks.now journal.old.items) action.now.needs
+        action.now.kind) action.now.kind number journal.old.items journal.new.items
+        (telling (H.log hand.old) (H.heard hand.old) (H.faults hand.old) (H.clock hand.old)
+        (H.engine hand.old))
+        (telling (H.log hand.new) (H.heard hand.new) (H.faults hand.new) (H.clock hand.new)
+        (H.engine hand.new)) mark)) }
     ensures short { OnErr result (IsLeftAlone journal.old.items journal.new.items
-        (telling (H.log hand.old) (H.heard hand.old) (H.faults hand.old) (H.clock hand.old) (H.engine hand.old))
-        (telling (H.log hand.new) (H.heard hand.new) (H.faults hand.new) (H.clock hand.new) (H.engine hand.new))) }
+        (telling (H.log hand.old) (H.heard hand.old) (H.faults hand.old) (H.clock hand.old)
+        (H.engine hand.old))
+        (telling (H.log hand.new) (H.heard hand.new) (H.faults hand.new) (H.clock hand.new)
+        (H.engine hand.new))) }
     ensures room { 1 ≤ journal.new.spare }
 {
     let clear = is_clear(action.needs.as_slice(), marks);
@@ -168,11 +181,15 @@ fn make<H: Hand>(
     requires room { 1 ≤ journal.old.spare }
     ensures made { IfOk result (λ mark.
         IsMade (Some request) kind number journal.old.items journal.new.items
-        (telling (H.log hand.old) (H.heard hand.old) (H.faults hand.old) (H.clock hand.old) (H.engine hand.old))
-        (telling (H.log hand.new) (H.heard hand.new) (H.faults hand.new) (H.clock hand.new) (H.engine hand.new)) mark) }
+        (telling (H.log hand.old) (H.heard hand.old) (H.faults hand.old) (H.clock hand.old)
+        (H.engine hand.old))
+        (telling (H.log hand.new) (H.heard hand.new) (H.faults hand.new) (H.clock hand.new)
+        (H.engine hand.new)) mark) }
     ensures short { OnErr result (IsLeftAlone journal.old.items journal.new.items
-        (telling (H.log hand.old) (H.heard hand.old) (H.faults hand.old) (H.clock hand.old) (H.engine hand.old))
-        (telling (H.log hand.new) (H.heard hand.new) (H.faults hand.new) (H.clock hand.new) (H.engine hand.new))) }
+        (telling (H.log hand.old) (H.heard hand.old) (H.faults hand.old) (H.clock hand.old)
+        (H.engine hand.old))
+        (telling (H.log hand.new) (H.heard hand.new) (H.faults hand.new) (H.clock hand.new)
+        (H.engine hand.new))) }
     ensures room { 1 ≤ journal.new.spare }
 {
     journal.reserve(3)?;

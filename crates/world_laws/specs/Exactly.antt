@@ -30,15 +30,18 @@ only_of (x ∷ y ∷ rest) = None
 
 -- the container of a slot, where exactly one of these is the slot's
 abbrev pub only_container : Declared → List ContainerRow → Slot → Option ContainerRow
-only_container declared rows slot = only_of (filter (λ row. is_of_slot declared.project slot row.labels) rows)
+only_container declared rows slot =
+    only_of (filter (λ row. is_of_slot declared.project slot row.labels) rows)
 
 -- whether a container agrees with a slot and is on the slot's networks
 abbrev pub fits : Declared → Engine → Slot → ContainerRow → Bool
-fits declared engine slot row = is_attached declared engine slot row && agrees_in declared engine slot row
+fits declared engine slot row =
+    is_attached declared engine slot row && agrees_in declared engine slot row
 
 -- whether exactly one of these containers is the slot's, and fits it
 abbrev pub holds_slot : Declared → Engine → List ContainerRow → Slot → Bool
-holds_slot declared engine rows slot = option_map_or (fits declared engine slot) (only_container declared rows slot) false
+holds_slot declared engine rows slot =
+    option_map_or (fits declared engine slot) (only_container declared rows slot) false
 
 -- whether exactly one of these networks has the name
 abbrev pub holds_network : List NetRow → List ℕ → Bool
@@ -47,4 +50,6 @@ holds_network rows name = count_by (λ row. bytes_eq name row.name) rows == 1
 -- whether a container with these labels may be there: it isn't the project's, or is some slot's, or is an orphan where these weren't asked for
 abbrev pub may_be_there : Declared → Bool → List Var → Bool
 may_be_there declared orphans labels =
-    not (is_of_project declared.project labels) || (list_any (λ slot. is_of_slot declared.project slot labels) declared.slots || (not orphans && is_orphan declared labels))
+    not (is_of_project declared.project labels)
+    || (list_any (λ slot. is_of_slot declared.project slot labels) declared.slots
+    || (not orphans && is_orphan declared labels))

@@ -18,7 +18,8 @@ pub record IsOwnSpec (declared : Declared) (slot : Slot) : Type 0 where
   pub hash : has_label slot.spec.labels the.hash_label (hash_for slot slot.spec.labels) ≡ true
   pub image : slot.spec.image ≡ Some slot.image
   pub endpoint : (attach : Attach) → slice_get slot.attach 0 ≡ Some attach
-      → list_any (λ endpoint. bytes_eq endpoint.key (network_name declared attach)) (endpoints_of slot.spec) ≡ true
+      → list_any (λ endpoint. bytes_eq endpoint.key (network_name declared attach))
+      (endpoints_of slot.spec) ≡ true
   pub number : slot.number < 2 ^ 32
 
 -- the spec of each slot is made for it

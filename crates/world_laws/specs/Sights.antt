@@ -20,17 +20,23 @@ pub record Resembles (engine : Engine) (row : ContainerRow) (listed : Listed) : 
   pub labels : listed.labels ≡ row.labels
   pub image_id : listed.image_id ≡ row.image_id
   pub lost : is_lost_state listed.state ≡ is_lost_state row.report.state
-  pub networks : (n : List ℕ) → list_any (bytes_eq n) listed.networks ≡ list_any (network_has_name engine n) row.networks
+  pub networks : (n : List ℕ)
+      → list_any (bytes_eq n) listed.networks ≡ list_any (network_has_name engine n) row.networks
 
 -- an Engine has what was seen of it for a purpose: the project's containers, each once and no other; the networks and the volumes
 -- where these were listed; for `up` the id of each slot's image; and there was no fault in what was listed
-pub record IsSightOf (declared : Declared) (purpose : Purpose) (seen : Seen) (engine : Engine) : Type 0 where
+pub record IsSightOf (declared : Declared) (purpose : Purpose) (seen : Seen)
+    (engine : Engine) : Type 0 where
   pub ids : IsDistinct bytes_eq (map (λ listed. listed.id) seen.containers)
   pub shown : (listed : Listed) → Among seen.containers listed → (row : ContainerRow)
-      × (container_at engine listed.id ≡ Some row) × (is_of_project declared.project row.labels ≡ true) × Resembles engine row listed
-  pub all : (id : List ℕ) (row : ContainerRow) → container_at engine id ≡ Some row → is_of_project declared.project row.labels ≡ true
-      → (listed : Listed) × Among seen.containers listed × (listed.id ≡ id) × Resembles engine row listed
+      × (container_at engine listed.id ≡ Some row)
+      × (is_of_project declared.project row.labels ≡ true) × Resembles engine row listed
+  pub all : (id : List ℕ) (row : ContainerRow) → container_at engine id ≡ Some row
+      → is_of_project declared.project row.labels ≡ true
+      → (listed : Listed) × Among seen.containers listed × (listed.id ≡ id)
+      × Resembles engine row listed
   pub networks : (declared.networks ≡ []) ⊎ ListsNetworks engine seen.networks
   pub volumes : (declared.volumes ≡ []) ⊎ ListsVolumes engine seen.volumes
-  pub images : is_up purpose ≡ true → (slot : Slot) → Among declared.slots slot → (id : List ℕ) × (seen_image seen slot ≡ Some id) × (image_at engine slot.image ≡ Some id)
+  pub images : is_up purpose ≡ true → (slot : Slot) → Among declared.slots slot
+      → (id : List ℕ) × (seen_image seen slot ≡ Some id) × (image_at engine slot.image ≡ Some id)
   pub sound : listing_fault declared purpose seen ≡ None

@@ -33,7 +33,8 @@ pub fn exact(
 /// Whether exactly one network has each declared network's name.
 fn holds_networks(alloc: Global, declared: &Declared, engine: &Engine) -> Result<bool, Memory>
     ensures { IfOk result (λ answer. answer
-        ≡ list_all (λ network. holds_network (found_networks engine.now) network.name) declared.now.networks) }
+        ≡ list_all (λ network. holds_network (found_networks engine.now) network.name)
+        declared.now.networks) }
 {
     let rows = found_networks(alloc, engine)?;
     Ok(are_single(declared, rows.as_slice()))
@@ -77,8 +78,10 @@ fn holds_containers(
     orphans: bool,
 ) -> Result<bool, Memory>
     ensures { IfOk result (λ answer. answer
-        ≡ (list_all (holds_slot declared.now engine.now (found_containers engine.now)) declared.now.slots
-        && list_all (λ row. may_be_there declared.now orphans row.labels) (found_containers engine.now))) }
+        ≡ (list_all (holds_slot declared.now engine.now (found_containers engine.now))
+        declared.now.slots
+        && list_all (λ row. may_be_there declared.now orphans row.labels)
+        (found_containers engine.now))) }
 {
     let rows = found_containers(alloc, engine)?;
     if !holds_slots(alloc, declared, engine, rows.as_slice())? {
@@ -95,7 +98,8 @@ fn holds_slots(
     rows: &[&ContainerRow],
 ) -> Result<bool, Memory>
     ensures { IfOk result (λ answer. answer
-        ≡ list_all (holds_slot declared.now engine.now (map (λ row. row.now) rows.now)) declared.now.slots) }
+        ≡ list_all (holds_slot declared.now engine.now (map (λ row. row.now) rows.now))
+        declared.now.slots) }
 {
     for slot in declared.slots.as_slice() {
         if !holds_slot(alloc, declared, engine, rows, slot)? {
@@ -210,7 +214,8 @@ fn holds_no_others(
     rows: &[&ContainerRow],
 ) -> Result<bool, Memory>
     ensures { IfOk result (λ answer. answer
-        ≡ list_all (λ row. may_be_there declared.now orphans row.labels) (map (λ row. row.now) rows.now)) }
+        ≡ list_all (λ row. may_be_there declared.now orphans row.labels)
+        (map (λ row. row.now) rows.now)) }
 {
     for row in rows {
         if !may_be_there(alloc, declared, orphans, &row.labels)? {
