@@ -3,6 +3,7 @@ pub mod ClaimLaws
 pub mod ObservationLaws
 pub mod Rolled
 pub mod RunOrders
+pub mod SparingRuns
 -- What is worked out.
 pub mod Ready
 pub mod OneService

@@ -1,6 +1,7 @@
 -- The laws.
 pub mod Laws
 pub mod Orders
+pub mod Sparing
 -- Projects, and runs of them.
 pub mod OneService
 pub mod OneWorld

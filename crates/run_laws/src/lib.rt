@@ -2,13 +2,15 @@
 //! out. Nothing in this crate runs: its functions have no code of their own, and their contracts are what is proved.
 //!
 //! `laws` and `orders` have the laws: of plans, of legal journals, of observations, and that a run's actions can be carried
-//! out in some order, also where a rolling update makes some of them wait for others. `worked` has the definitions of
-//! `run_model` worked out on whole journals, and `worlds` applies the laws of `world_laws` to some of these, so that their
-//! premises are seen to be met.
+//! out in some order, also where a rolling update makes some of them wait for others; `sparing` that runs, wherever they
+//! were cut off, spare the containers that their slots keep. `worked` has the definitions of `run_model` worked out on
+//! whole journals, and `worlds` applies the laws of `world_laws` to some of these, so that their premises are seen to be
+//! met.
 #![tactic(auto)]
 
 mod laws;
 mod orders;
+mod sparing;
 mod worked;
 mod worlds;
 
@@ -18,6 +20,7 @@ pub use laws::{
     status_is_zero_without_fault, unrolled_is_planned,
 };
 pub use orders::runs_are_orderly;
+pub use sparing::{cut_run_spares_kept, cut_runs_spare_kept};
 pub use worked::{
     failed_condition_is_refused, four_services_come_up, lost_create_is_found,
     lost_create_is_made_once, missing_image_is_refused, name_in_use_is_refused,

@@ -49,7 +49,7 @@ starts_wait declared (Some (StartSlot s)) need m = (s, refl)
 starts_wait declared _ need m = absurd m
 
 -- what was seen is what the run is of
-begun_seen : (aim : Aim) (setup : Setup) (past : List Entry) → IsLegal aim setup past → is_some (seen_in past) ≡ true → seen_in past ≡ Some setup.seen
+pub begun_seen : (aim : Aim) (setup : Setup) (past : List Entry) → IsLegal aim setup past → is_some (seen_in past) ≡ true → seen_in past ≡ Some setup.seen
 begun_seen aim setup [] legal e = absurd (cc e)
 begun_seen aim setup (Entry.Seen observation ∷ past) legal e = at observation.end refl legal.1.2 e
   where
