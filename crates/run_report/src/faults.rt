@@ -201,10 +201,20 @@ fn request_fault(
         (request_held (setup_of run.now) (reverse past.now) action) outcome.now) }
 {
     let request = request_held(alloc, run, past, action)?;
-    Ok(RunFault::Request {
-        request,
-        outcome: outcome.copy(alloc)?,
-    })
+    with_outcome(alloc, request, outcome)
+}
+
+/// The fault of a request that came to this.
+fn with_outcome(alloc: Global, request: Request, outcome: &Outcome) -> Result<RunFault, Memory>
+    ensures { IfOk result (λ fault. fault ≡ RunFault.Request request outcome.now) }
+{
+    match outcome.copy(alloc) {
+        Ok(outcome) => Ok(RunFault::Request { request, outcome }),
+        Err(Memory) => {
+            drop(request);
+            Err(Memory)
+        }
+    }
 }
 
 /// The request of the latest claim of an action; a listing stands where there is none.

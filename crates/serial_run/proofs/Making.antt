@@ -1,12 +1,12 @@
--- What the parts of one action's making leave, and what its skipping or making leaves.
-use Rattle.std.proofs.Common.{◌≡◌, ◌⊎◌, ℕ, true, List, [], ◌∷◌, ◌++◌, length, Option, Some, refl, ap, ◌∙◌, inr, append_assoc}
+-- What the parts of one action's making leave.
+use Rattle.std.proofs.Common.{◌≡◌, ℕ, List, [], ◌∷◌, ◌++◌, length, Some, refl, ap, ◌∙◌, append_assoc}
 use Rattle.std.proofs.lemmas.List.{length-append}
-use Rattle.std.specs.Prelude.{IfOk, IsOk, OnOk, Result, Ok, Err}
+use Rattle.std.specs.Prelude.{IsOk, OnOk, Result, Ok, Err}
 use Rattle.engine_types.specs.declared.ActionKind.{ActionKind}
 use Rattle.engine_types.specs.declared.Entry.{Entry}
 use Rattle.engine_types.specs.declared.Outcome.{Outcome}
 use Rattle.engine_types.specs.declared.Request.{Request}
-use Rattle.serial_run.specs.Serial.{Exchanged, IsMade, IsSkipped, Telling, is_clear, mark_of}
+use Rattle.serial_run.specs.Serial.{Exchanged, IsMade, Telling, mark_of}
 use Rattle.serial_run.specs.declared.mark.Mark.{Mark}
 
 -- two entries were put last, around an exchange
@@ -24,13 +24,6 @@ is_made kind a n request outcome old reserved claimed new before now mark e f g 
   where
     whole : claimed ≡ old ++ Entry.Claim 0 a ∷ []
     whole = f ∙ ap (λ (xs : List Entry). xs ++ Entry.Claim 0 a ∷ []) e
-
--- what was made by the request that was found is what the run asks for
-pub taken : {E : Type 0} (needs : List ℕ) (marks : List Mark) (asked : Option Request) (request : Request) (kind : ActionKind) (a : ℕ) (old new : List Entry) (before now : Telling) (result : Result Mark E)
-    → asked ≡ Some request → is_clear needs marks ≡ true → IfOk result (λ mark. IsMade (Some request) kind a old new before now mark)
-    → IfOk result (λ mark. IsSkipped needs marks old new before now mark ⊎ ((is_clear needs marks ≡ true) × IsMade asked kind a old new before now mark))
-taken needs marks asked request kind a old new before now (Ok mark) e c m = inr (c, rw e m)
-taken needs marks asked request kind a old new before now (Err bad) e c m = m
 
 -- what a call says of its success, where it succeeded
 pub on_ok : {T E : Type 0} (result : Result T E) (P : Type 0) → OnOk result P → IsOk result → P

@@ -153,6 +153,7 @@ fn take<H: Hand>(
     if !clear {
         return Ok(Mark::Blocked);
     }
+    journal.reserve(3)?;
     let asked = request_of(
         alloc,
         declared,
@@ -163,13 +164,12 @@ fn take<H: Hand>(
         action,
     )?;
     match asked {
-        Some(request) => make(alloc, hand, number, action.kind, request, journal),
+        Some(request) => Ok(make(alloc, hand, number, action.kind, request, journal)),
         None => unreachable!(),
     }
 }
 
-/// Claims an action, makes its exchange, and ends it. Room for both entries is taken first, beside that for
-/// the worker's last one.
+/// Claims an action, makes its exchange, and ends it, which takes room for two entries.
 fn make<H: Hand>(
     alloc: Global,
     hand: &mut H,
@@ -177,22 +177,15 @@ fn make<H: Hand>(
     kind: ActionKind,
     request: Request,
     journal: &mut ReservedList<Entry>,
-) -> Result<Mark, Memory>
-    requires room { 1 ≤ journal.old.spare }
-    ensures made { IfOk result (λ mark.
-        IsMade (Some request) kind number journal.old.items journal.new.items
+) -> Mark
+    requires room { 3 ≤ journal.old.spare }
+    ensures made { IsMade (Some request) kind number journal.old.items journal.new.items
         (telling (H.log hand.old) (H.heard hand.old) (H.faults hand.old) (H.clock hand.old)
         (H.engine hand.old))
         (telling (H.log hand.new) (H.heard hand.new) (H.faults hand.new) (H.clock hand.new)
-        (H.engine hand.new)) mark) }
-    ensures short { OnErr result (IsLeftAlone journal.old.items journal.new.items
-        (telling (H.log hand.old) (H.heard hand.old) (H.faults hand.old) (H.clock hand.old)
-        (H.engine hand.old))
-        (telling (H.log hand.new) (H.heard hand.new) (H.faults hand.new) (H.clock hand.new)
-        (H.engine hand.new))) }
+        (H.engine hand.new)) result }
     ensures room { 1 ≤ journal.new.spare }
 {
-    journal.reserve(3)?;
     journal
         .push(Entry::Claim {
             worker: 0,
@@ -202,5 +195,5 @@ fn make<H: Hand>(
     let outcome = hand.exchange(alloc, request);
     let mark = mark_of(kind, &outcome, journal.len());
     journal.push(Entry::Ended { worker: 0, outcome }).unwrap();
-    Ok(mark)
+    mark
 }
