@@ -1,4 +1,4 @@
-ghost use Rattle.std.specs.Prelude.{◌≡◌, ◌≤◌, ℕ, [], false, true, Err, IfOk, IfErr, Ok};
+ghost use Rattle.std.specs.Prelude.{◌≡◌, ◌≤◌, ℕ, [], false, true, Err, IfOk, IfErr};
 ghost use Rattle.engine_types.specs.declared.SeenEnd.{SeenEnd};
 ghost use Rattle.engine_types.specs.declared.SeenFault.{SeenFault};
 ghost use Rattle.plan_core.specs.declared.refusal.PlanRefusal.{PlanRefusal};
@@ -81,16 +81,42 @@ fn outlook_of(
     ensures err { IfErr result (λ fault.
         IsWholeEnd declared.now (aim_of aim) end (SeenEnd.Bad fault)) }
 {
-    let seen = match end {
-        SeenEnd::Good(seen) => seen,
-        SeenEnd::Bad(fault) => return Err(fault),
-    };
-    let plan = plan_for(alloc, declared, &seen, aim)?;
-    let copy = or_memory(seen.copy(alloc))?;
-    Ok(Outlook {
-        end: SeenEnd::Good(copy),
-        opening: Opening::Planned { seen, plan },
-    })
+    match end {
+        SeenEnd::Good(seen) => seen_outlook(alloc, declared, seen, aim),
+        SeenEnd::Bad(fault) => Err(fault),
+    }
+}
+
+/// What was seen, for the journal and for the run of its plan, or why there is no plan.
+fn seen_outlook(
+    alloc: Global,
+    declared: &Declared,
+    seen: Seen,
+    aim: Aim,
+) -> Result<Outlook, SeenFault>
+    ensures ok { IfOk result (λ outlook.
+        IsWholeEnd declared.now (aim_of aim) (SeenEnd.Good seen) outlook.end
+        × Follows declared.now (aim_of aim) outlook.end outlook.opening) }
+    ensures err { IfErr result (λ fault.
+        IsWholeEnd declared.now (aim_of aim) (SeenEnd.Good seen) (SeenEnd.Bad fault)) }
+{
+    match plan_for(alloc, declared, &seen, aim) {
+        Ok(plan) => match seen.copy(alloc) {
+            Ok(copy) => Ok(Outlook {
+                end: SeenEnd::Good(copy),
+                opening: Opening::Planned { seen, plan },
+            }),
+            Err(Memory) => {
+                drop(seen);
+                drop(plan);
+                Err(SeenFault::Memory)
+            }
+        },
+        Err(fault) => {
+            drop(seen);
+            Err(fault)
+        }
+    }
 }
 
 /// The plan of an aim, or why there is none as a fault of the observation.
@@ -121,16 +147,5 @@ fn plan_by(alloc: Global, declared: &Declared, seen: &Seen, aim: Aim) -> Result<
     match aim.purpose {
         Purpose::Up => plan_up(alloc, declared, seen, aim.orphans),
         Purpose::Down => plan_down(alloc, declared, seen, aim.orphans, aim.volumes),
-    }
-}
-
-/// A copy, or the fault that there was no memory for it.
-fn or_memory(copy: Result<Seen, Memory>) -> Result<Seen, SeenFault>
-    ensures ok { IfOk result (λ seen. copy ≡ Ok seen) }
-    ensures err { IfErr result (λ fault. fault ≡ SeenFault.Memory) }
-{
-    match copy {
-        Ok(seen) => Ok(seen),
-        Err(_) => Err(SeenFault::Memory),
     }
 }
