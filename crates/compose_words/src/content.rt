@@ -99,7 +99,8 @@ fn number_content(least: u32, most: u32, text: &str) -> Content
 
 /// The number that decimal digits write, with no sign, where it fits.
 fn numeral(text: &str) -> Option<u32>
-    ensures { SomeIff result (IsTrue (is_numeral text.now) × (digits_value 10 text.now < 2 ^ 32)) (digits_value 10 text.now) }
+    ensures { SomeIff result (IsTrue (is_numeral text.now) ×
+        (digits_value 10 text.now < 2 ^ 32)) (digits_value 10 text.now) }
 {
     if !is_digits(text) {
         return None;

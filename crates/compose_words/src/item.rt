@@ -118,7 +118,8 @@ fn value_of(
     next: Option<&Text>,
 ) -> Result<Option<Value>, Memory>
     requires { IsSome next → at + 1 < 2 ^ 32 }
-    ensures { IfOk result (λ value. value ≡ value_of kind at (option_copied own.entry) (option_copied next.entry)) }
+    ensures { IfOk result (λ value. value ≡
+        value_of kind at (option_copied own.entry) (option_copied next.entry)) }
 {
     if !kind.takes_value() {
         return Ok(None);

@@ -7,5 +7,6 @@ ghost use Rattle.compose_words.specs.declared.item.Item.{Item};
 /// is read twice. No other list of items does so.
 pub fn items_tile_words()
     ensures tiling { (words : List (List ℕ)) → Tiles words 0 (items_of words) }
-    ensures alone { (words : List (List ℕ)) → (items : List Item) → Tiles words 0 items → items ≡ items_of words }
+    ensures alone { (words : List (List ℕ)) → (items : List Item) →
+        Tiles words 0 items → items ≡ items_of words }
 {}

@@ -1,4 +1,4 @@
-ghost use Rattle.std.specs.Prelude.{◌≡◌, IfOk};
+ghost use Rattle.std.specs.Prelude.{◌≡◌, false, IfOk};
 ghost use Rattle.std.specs.Option.{option_copied, option_map};
 ghost use Rattle.compose_words.specs.Lookups.{first_given, first_verb, format_in, number_in, scale_in, text_in, value_given, values_given, verb_of};
 ghost use Rattle.compose_words.specs.declared.table.OptionName.{OptionName};
@@ -127,8 +127,53 @@ fn simulation(value: &Value) -> Option<Verb>
     }
 }
 
+/// Takes what was given to options, and remembers whether memory was wanting for any of it.
+#[derive(Drop)]
+pub(crate) struct Taker {
+    alloc: Global,
+    pub(crate) failed: bool,
+}
+
+impl Taker {
+    /// A taker that took nothing yet. No memory.
+    pub(crate) fn new(alloc: Global) -> Taker {
+        Taker {
+            alloc,
+            failed: false,
+        }
+    }
+
+    /// The texts that were given to an option, from left to right; none where there is no memory for them.
+    pub(crate) fn texts(&mut self, items: &[Item], name: OptionName) -> List<Text>
+        ensures kept { self.new.failed ≡ false → self.old.failed ≡ false }
+        ensures same { self.new.failed ≡ false → result ≡ values_given text_in name items.now }
+    {
+        match texts(self.alloc, items, name) {
+            Ok(texts) => texts,
+            Err(Memory) => {
+                self.failed = true;
+                List::new(self.alloc)
+            }
+        }
+    }
+
+    /// The text that was given to an option first; none where there is no memory for it.
+    pub(crate) fn first_text(&mut self, items: &[Item], name: OptionName) -> Option<Text>
+        ensures kept { self.new.failed ≡ false → self.old.failed ≡ false }
+        ensures same { self.new.failed ≡ false → result ≡ first_given text_in name items.now }
+    {
+        match first_text(self.alloc, items, name) {
+            Ok(text) => text,
+            Err(Memory) => {
+                self.failed = true;
+                None
+            }
+        }
+    }
+}
+
 /// The texts that were given to an option, from left to right.
-pub(crate) fn texts(alloc: Global, items: &[Item], name: OptionName) -> Result<List<Text>, Memory>
+fn texts(alloc: Global, items: &[Item], name: OptionName) -> Result<List<Text>, Memory>
     ensures { IfOk result (λ texts. texts ≡ values_given text_in name items.now) }
 {
     let mut texts = List::new(alloc);
@@ -154,11 +199,7 @@ pub(crate) fn scales(alloc: Global, items: &[Item]) -> Result<List<Scale>, Memor
 }
 
 /// The text that was given to an option first.
-pub(crate) fn first_text(
-    alloc: Global,
-    items: &[Item],
-    name: OptionName,
-) -> Result<Option<Text>, Memory>
+fn first_text(alloc: Global, items: &[Item], name: OptionName) -> Result<Option<Text>, Memory>
     ensures { IfOk result (λ text. text ≡ first_given text_in name items.now) }
 {
     for item in items {

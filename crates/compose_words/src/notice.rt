@@ -5,7 +5,7 @@ use crate::table::command_named;
 use tree_base::{List, Text};
 
 /// What a command line asks about the program itself.
-#[derive(Debug, Clone, Copy, PartialEq, Eq)]
+#[derive(Clone, Copy)]
 pub enum Notice {
     /// The usage text.
     Help,

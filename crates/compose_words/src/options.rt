@@ -2,7 +2,7 @@ ghost use Rattle.std.specs.Prelude.{◌≡◌, IfOk};
 ghost use Rattle.compose_words.specs.Lookups.{command_with, format_in, name_of, number_in, options_with, values_given, first_given, text_in};
 
 use crate::item::Item;
-use crate::lookup::{first_format, first_number, first_text, scales, texts};
+use crate::lookup::{Taker, first_format, first_number, scales};
 use crate::refusal::is_given;
 use crate::table::{CommandName, OptionName};
 use std::alloc::Global;
@@ -12,7 +12,7 @@ use tree_base::{List, Memory, Text};
 const USUAL_WORKERS: u32 = 4;
 
 /// How many containers a service has: 0 to 100.
-#[derive(Debug, Drop)]
+#[derive(Drop)]
 pub struct Scale {
     pub service: Text,
     pub number: u32,
@@ -31,7 +31,7 @@ impl Scale {
 }
 
 /// A command with its options, as a command line gives them. Paths and names stand as they were given.
-#[derive(Debug, Drop)]
+#[derive(Drop)]
 pub struct Options {
     /// The command with its own options.
     pub command: Command,
@@ -56,7 +56,7 @@ pub struct Options {
 }
 
 /// A command with the options that are its own. Times are in seconds, at most 1,000,000.
-#[derive(Debug, Drop)]
+#[derive(Drop)]
 pub enum Command {
     /// Prints the project: as JSON, or nothing at all.
     Config {
@@ -153,17 +153,25 @@ fn command_with(alloc: Global, verb: Verb, items: &[Item]) -> Result<Command, Me
 pub(crate) fn options_with(alloc: Global, verb: Verb, items: &[Item]) -> Result<Options, Memory>
     ensures { IfOk result (λ options. options ≡ options_with verb items.now) }
 {
+    let command = command_with(alloc, verb, items)?;
     let workers = first_number(items, OptionName::Parallel);
-    Ok(Options {
-        files: texts(alloc, items, OptionName::File)?,
-        project: first_text(alloc, items, OptionName::ProjectName)?,
-        directory: first_text(alloc, items, OptionName::ProjectDirectory)?,
-        profiles: texts(alloc, items, OptionName::Profile)?,
-        env_files: texts(alloc, items, OptionName::EnvFile)?,
+    let mut taker = Taker::new(alloc);
+    let options = Options {
+        command,
+        files: taker.texts(items, OptionName::File),
+        project: taker.first_text(items, OptionName::ProjectName),
+        directory: taker.first_text(items, OptionName::ProjectDirectory),
+        profiles: taker.texts(items, OptionName::Profile),
+        env_files: taker.texts(items, OptionName::EnvFile),
         parallel: workers.unwrap_or(USUAL_WORKERS),
-        socket: first_text(alloc, items, OptionName::Socket)?,
+        socket: taker.first_text(items, OptionName::Socket),
         in_memory: is_given(items, OptionName::Memory),
-        stop_file: first_text(alloc, items, OptionName::StopFile)?,
-        command: command_with(alloc, verb, items)?,
-    })
+        stop_file: taker.first_text(items, OptionName::StopFile),
+    };
+    if taker.failed {
+        drop(options);
+        Err(Memory)
+    } else {
+        Ok(options)
+    }
 }

@@ -14,8 +14,8 @@ use tree_base::{List, Text};
 /// An option may stand before or behind the command. Its value is the next word, whatever that is, or for
 /// a long name what stands behind `=`. The answer is the first refusal from the left; then `NoCommand`;
 /// then `UnknownWord` at the first option that isn't the command's; then `MissingValue` at `enginesim` without
-/// `--socket` or `--connections`; and else the options. `Memory` comes where no memory is left, and `BadHost` never. Numbers are within the bounds of their options, and the
-/// place of a refusal is that of one of the words.
+/// `--socket` or `--connections`; and else the options. `Memory` comes where no memory is left, and `BadHost`
+/// never. Numbers are within the bounds of their options, and the place of a refusal is that of one of the words.
 pub fn read_words(alloc: Global, words: &List<Text>) -> Result<Options, WordsRefusal>
     requires { length words.now < 2 ^ 32 }
     ensures meaning { IsUnlessMemory result (options_of words.now) }

@@ -12,7 +12,7 @@ use std::fmt;
 use tree_base::Memory;
 
 /// Why words are no command line. `at` is the place of a word, from 0.
-#[derive(Debug, Drop, Clone, Copy, PartialEq, Eq)]
+#[derive(Debug, Clone, Copy)]
 pub enum WordsRefusal {
     /// A word that is neither an option nor the command, a second command, a value for a flag, or an
     /// option of another command.

@@ -88,7 +88,8 @@ pub fn version_text(alloc: Global) -> Result<Text, Memory>
 
 /// Puts a line for each command.
 fn push_commands(alloc: Global, text: &mut Text, lines: &[CommandLine]) -> Result<(), Memory>
-    ensures { OnOk result (text.new ≡ text.old ++ lines_of command_text (map word_of lines.now) (map shown_command lines.now)) }
+    ensures { OnOk result (text.new ≡ text.old ++
+        lines_of command_text (map word_of lines.now) (map shown_command lines.now)) }
 {
     for line in lines {
         push_command(alloc, text, line)?;
@@ -98,7 +99,8 @@ fn push_commands(alloc: Global, text: &mut Text, lines: &[CommandLine]) -> Resul
 
 /// Puts a line for each option.
 fn push_options(alloc: Global, text: &mut Text, lines: &[OptionLine]) -> Result<(), Memory>
-    ensures { OnOk result (text.new ≡ text.old ++ lines_of option_text (map names_of lines.now) (map shown_option lines.now)) }
+    ensures { OnOk result (text.new ≡ text.old ++
+        lines_of option_text (map names_of lines.now) (map shown_option lines.now)) }
 {
     for line in lines {
         push_option(alloc, text, line)?;
@@ -107,7 +109,8 @@ fn push_options(alloc: Global, text: &mut Text, lines: &[OptionLine]) -> Result<
 }
 
 fn push_command(alloc: Global, text: &mut Text, line: &CommandLine) -> Result<(), Memory>
-    ensures { OnOk result (text.new ≡ text.old ++ command_text (word_of line.now) (shown_command line.now)) }
+    ensures { OnOk result (text.new ≡ text.old ++
+        command_text (word_of line.now) (shown_command line.now)) }
 {
     let mut names = Text::from_str(alloc, "  ")?;
     names.push_str(line.word)?;
@@ -117,7 +120,8 @@ fn push_command(alloc: Global, text: &mut Text, line: &CommandLine) -> Result<()
 }
 
 fn push_option(alloc: Global, text: &mut Text, line: &OptionLine) -> Result<(), Memory>
-    ensures { OnOk result (text.new ≡ text.old ++ option_text (names_of line.now) (shown_option line.now)) }
+    ensures { OnOk result (text.new ≡ text.old ++
+        option_text (names_of line.now) (shown_option line.now)) }
 {
     let mut names = Text::from_str(alloc, "  ")?;
     push_short(&mut names, line.short)?;
