@@ -86,7 +86,8 @@ fn join_part(
     requires closed { IsClosed inside text.now }
     requires fine { IsOk (parts levels at (own inside text.now)) }
     ensures value { Gives (result_and result out.new)
-        (appended out.old (part_value (tails levels) (value_at env.now) at text.now (first_part levels (own inside text.now)))) }
+        (appended out.old (part_value (tails levels) (value_at env.now) at text.now
+        (first_part levels (own inside text.now)))) }
     ensures len { IfOk result (λ len. len ≡ part_len (first_part levels (own inside text.now))) }
     ensures cut { IfOk result (λ len. (0 < len) × IsCharBoundary text.now len) }
 {
@@ -118,7 +119,7 @@ fn join_part(
             let len = join_form(
                 alloc,
                 out,
-                name,
+                &name,
                 colon,
                 action,
                 tail,
@@ -139,7 +140,7 @@ fn join_part(
 fn join_form(
     alloc: Global,
     out: &mut Text,
-    name: Text,
+    name: &Text,
     colon: bool,
     action: Action,
     text: &str,
@@ -151,10 +152,11 @@ fn join_form(
     requires closed { inside_len 0 false text.now < length text.now }
     requires fine { IsOk (parts levels at (inner text.now)) }
     ensures value { Gives (result_and result out.new) (appended out.old
-        (form_value name action (counted colon (value_at env.now name)) (text_value (parts levels) (value_at env.now) at (inner text.now)))) }
+        (form_value name.now action (counted colon (value_at env.now name.now))
+        (text_value (parts levels) (value_at env.now) at (inner text.now)))) }
     ensures len { IfOk result (λ len. len ≡ inside_len 0 false text.now) }
 {
-    match counted(env, &name, colon) {
+    match counted(env, name, colon) {
         Some(value) => match action {
             Action::Default => {
                 out.push_str(value.as_str())?;
@@ -171,6 +173,7 @@ fn join_form(
             Action::Require => {
                 let mut message = Text::new(alloc);
                 join(alloc, &mut message, text, at, levels, true, env)?;
+                let name = name.copy(alloc)?;
                 Err(SubstRefusal::RequiredVariable { name, message })
             }
             Action::Replace => Ok(inside_len(text.as_bytes())),

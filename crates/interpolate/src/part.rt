@@ -7,7 +7,7 @@ ghost use Rattle.interpolate.specs.Shapes.{action_part, operator_part, form_part
 use crate::scan::{inside_len, literal_len, name_len, starts_name};
 
 /// What a braced form gives where its variable is set, and where it is unset.
-#[derive(Clone, Copy, Debug, PartialEq, Eq)]
+#[derive(Clone, Copy)]
 pub enum Action {
     /// `-`: the value, else the tail.
     Default,
@@ -19,7 +19,7 @@ pub enum Action {
 
 /// What a text begins with, by how many bytes it is made of. Of a form it is what stands before the tail, so that a
 /// tail is gone through once, when it is read.
-#[derive(Clone, Copy, Debug, PartialEq, Eq)]
+#[derive(Clone, Copy)]
 pub enum Head {
     /// Bytes that stand for themselves.
     Literal {

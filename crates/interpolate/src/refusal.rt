@@ -5,7 +5,7 @@ ghost use Rattle.interpolate.specs.declared.refusal.SubstTreeRefusal.TheVariants
 use tree_base::{Memory, Path, Text};
 
 /// Why a text has no value. A place is a byte of the text, from 0, and one past the greatest `u32` is that.
-#[derive(Debug, PartialEq, Eq, Drop)]
+#[derive(Drop)]
 pub enum SubstRefusal {
     /// A `${` that no `}` closes.
     Unclosed { at: u32 },
@@ -25,7 +25,7 @@ impl From<Memory> for SubstRefusal {
 }
 
 /// Why the scalars of a tree aren't substituted.
-#[derive(Debug, Drop)]
+#[derive(Drop)]
 pub enum SubstTreeRefusal {
     /// The scalar at a path has no value.
     At { path: Path, cause: SubstRefusal },

@@ -55,8 +55,13 @@ fn with_step(refusal: SubstTreeRefusal, step: Step) -> Result<SubstTreeRefusal, 
     match refusal {
         SubstTreeRefusal::At { path, cause } => {
             let mut path = path;
-            path.push(step)?;
-            Ok(SubstTreeRefusal::At { path, cause })
+            match path.push(step) {
+                Ok(()) => Ok(SubstTreeRefusal::At { path, cause }),
+                Err(Memory) => {
+                    drop(cause);
+                    Err(Memory)
+                }
+            }
         }
         SubstTreeRefusal::TooMuchText => Ok(SubstTreeRefusal::TooMuchText),
         SubstTreeRefusal::Memory => Ok(SubstTreeRefusal::Memory),
@@ -231,6 +236,12 @@ fn entry_value(
     *size = with_bytes(*size, key.len())?;
     match tree_value(value, alloc, env, size) {
         Ok(value) => Ok(value),
-        Err(refusal) => Err(with_step(refusal, Step::Key(key.copy(alloc)?))?),
+        Err(refusal) => match key.copy(alloc) {
+            Ok(key) => Err(with_step(refusal, Step::Key(key))?),
+            Err(Memory) => {
+                drop(refusal);
+                Err(SubstTreeRefusal::Memory)
+            }
+        },
     }
 }
