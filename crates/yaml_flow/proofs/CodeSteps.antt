@@ -160,14 +160,16 @@ module _ (levels : ℕ) (row : Row) (bracket : ℕ) (items : List Tree) (p : Pro
   item_ends : Ends row (stop_from row at) got.0.1
   item_ends = node_end levels false row (piece_at row at at) at p at got refl node within
 
-  pub item_fails : (e : YamlRefusal) → Fails e (next_stop got.1 row bracket got.0.1) → Fails e (flow_item levels (flow levels) row (piece_at row bracket at) (items, p) at)
-  item_fails e h =
+  pub item_gives : (r : Result ℕ YamlRefusal) → Gives r (next_stop got.1 row bracket got.0.1) → Gives (result_left r (items ++ got.0.0 ∷ [], got.1)) (flow_item levels (flow levels) row (piece_at row bracket at) (items, p) at)
+  item_gives (Ok x) h =
+      let s = stop_ok got.1 row bracket (stop_from row at) got.0.1 item_ends x h in
+      item_is ∙ goes_on (at_stop row (piece_at row bracket at) got.1 got.0.1) got.1 (λ p. Ok (items ++ got.0.0 ∷ [], p)) s.0
+  item_gives (Err e) h =
       fails_as e _ _ (sym item_is) (fails_on e (at_stop row (piece_at row bracket at) got.1 got.0.1) (λ p. Ok (items ++ got.0.0 ∷ [], p)) (stop_fails got.1 row bracket (stop_from row at) got.0.1 item_ends e h))
 
-  pub item_ok : (x : ℕ) → next_stop got.1 row bracket got.0.1 ≡ Ok x → (flow_item levels (flow levels) row (piece_at row bracket at) (items, p) at ≡ Ok (items ++ got.0.0 ∷ [], got.1)) × (x ≡ stop_from row at)
-  item_ok x h =
-      let s = stop_ok got.1 row bracket (stop_from row at) got.0.1 item_ends x h in
-      (item_is ∙ goes_on (at_stop row (piece_at row bracket at) got.1 got.0.1) got.1 (λ p. Ok (items ++ got.0.0 ∷ [], p)) s.0, s.1)
+  pub item_stop : (r : Result ℕ YamlRefusal) → Gives r (next_stop got.1 row bracket got.0.1) → IfOk r (λ stop. stop ≡ stop_from row at)
+  item_stop (Ok x) h = (stop_ok got.1 row bracket (stop_from row at) got.0.1 item_ends x h).1
+  item_stop (Err e) h = tt
 
 -- a node behind its properties
 pub node_is : (levels : ℕ) (marks : Bool) (row : Row) (owner : ℕ) (p : Progress) (at behind : ℕ) (found : Properties) → flow_properties 3 marks p row no_properties at ≡ Ok (found, behind)

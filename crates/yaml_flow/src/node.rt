@@ -227,9 +227,8 @@ fn item(
         return Err(progress.bad(fault_of_pair(chars), row, at));
     }
     let (tree, end) = flow_node(alloc, progress, levels, row, at, at, false)?;
-    let stop = next_stop(progress, row, bracket, end)?;
     items.push(tree)?;
-    Ok(stop)
+    next_stop(progress, row, bracket, end)
 }
 
 /// Puts the entry that begins at a place: a key, its value behind a colon on the key's line, and nothing behind that.

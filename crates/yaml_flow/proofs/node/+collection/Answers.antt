@@ -1,12 +1,14 @@
-use Rattle.std.proofs.Common.{true, ◌≡◌, ◌∙◌, ◌-◌, Ok, false, if◌then◌else◌, refl, sym, ap}
+use Rattle.std.proofs.Common.{true, ◌≡◌, ◌∙◌, ◌-◌, List, false, if◌then◌else◌, refl, sym, ap, subst}
 use Rattle.std.proofs.lemmas.Result.{err_from_is_err_and}
+use Rattle.tree_base.specs.declared.tree.Tree.{Tree}
 use Rattle.yaml_flow.specs.declared.piece.Piece.{Piece}
 use Rattle.yaml_flow.specs.Flow.{flow, flow_entry, flow_item, flow_mapping, flow_node, flow_properties, flow_sequence, flow_value, nothing_before}
 use Rattle.yaml_flow.specs.Pieces.{is_last_of, piece_at}
-use Rattle.yaml_flow.proofs.CodeSteps.{empty_ends, empty_gives, entry_gives, entry_stop, full_piece, item_fails, item_ok, node_is, pair_fails, read_as, stop_within, value_fails, value_is}
+use Rattle.yaml_flow.proofs.CodeSteps.{empty_ends, empty_gives, entry_gives, entry_stop, full_piece, item_gives, item_stop, node_is, pair_fails, read_as, stop_within, value_fails, value_is}
 use Rattle.yaml_flow.proofs.Levels.{at_mapping, at_sequence, at_word}
 use Rattle.yaml_flow.proofs.PieceSteps.{refused, later, unclosed, closed, more_left}
 use Rattle.yaml_flow.proofs.ScanSteps.{next_at}
+use Rattle.yaml_lines.specs.Answers.{Gives}
 use Rattle.yaml_lines.specs.declared.plain.Context.TheVariants.{Flow}
 use Rattle.yaml_nodes.proofs.Chains.{gives_as, goes_on}
 use Rattle.yaml_nodes.specs.Marks.{is_key_behind, starts}
@@ -160,25 +162,19 @@ entry_piece-returns-clause-ends t c =
     let same = next_at a.progress.now a.row.now a.start c.in_ok-at.at false c.in_ok-at.ensures.is in
     rw same c.entry.ensures.ends
 
-pub item-returns-in_err-stop-clause-is : goal.item-returns-in_err-stop-clause-is
-item-returns-in_err-stop-clause-is t c =
-    let a = c.args in
-    let bare = ap (is_key_behind Flow) (sym c.text_at-chars.ensures.is) ∙ sym c.is_key_behind.ensures ∙ c.if-is_key_behind.false in
-    let p = err_from_is_err_and c.from_residual-in_err-stop.result c.from_residual-in_err-stop.ensures.1 in
-    rw (p.1, p.2) (item_fails a.levels a.row.now a.bracket a.items.now a.progress.now a.at ((c.in_ok-tree.tree, c.in_ok-tree.end), c.flow_node.new.progress) bare c.in_ok-tree.ensures.is c.in_ok-tree.ensures.within _ c.in_err-stop.ensures.is)
-
 pub item-returns-clause-is : goal.item-returns-clause-is
 item-returns-clause-is t c =
     let a = c.args in
+    let p = c.flow_node.new.progress in
     let bare = ap (is_key_behind Flow) (sym c.text_at-chars.ensures.is) ∙ sym c.is_key_behind.ensures ∙ c.if-is_key_behind.false in
-    let read = item_ok a.levels a.row.now a.bracket a.items.now a.progress.now a.at ((c.in_ok-tree.tree, c.in_ok-tree.end), c.flow_node.new.progress) bare c.in_ok-tree.ensures.is c.in_ok-tree.ensures.within c.in_ok-stop.stop c.in_ok-stop.ensures.is in
-    read.0 ∙ ap (λ l. Ok (l, c.flow_node.new.progress)) (sym c.in_ok-push.ensures.ok)
+    let read = item_gives a.levels a.row.now a.bracket a.items.now a.progress.now a.at ((c.in_ok-tree.tree, c.in_ok-tree.end), p) bare c.in_ok-tree.ensures.is c.in_ok-tree.ensures.within c.next_stop.result c.next_stop.ensures.is in
+    subst (λ (l : List Tree). Gives (result_left c.next_stop.result (l, p)) (flow_item a.levels (flow a.levels) a.row.now (piece_at a.row.now a.bracket a.at) (a.items.now, a.progress.now) a.at)) (sym c.in_ok-push.ensures.ok) read
 
 pub item-returns-clause-ends : goal.item-returns-clause-ends
 item-returns-clause-ends t c =
     let a = c.args in
     let bare = ap (is_key_behind Flow) (sym c.text_at-chars.ensures.is) ∙ sym c.is_key_behind.ensures ∙ c.if-is_key_behind.false in
-    (item_ok a.levels a.row.now a.bracket a.items.now a.progress.now a.at ((c.in_ok-tree.tree, c.in_ok-tree.end), c.flow_node.new.progress) bare c.in_ok-tree.ensures.is c.in_ok-tree.ensures.within c.in_ok-stop.stop c.in_ok-stop.ensures.is).1
+    item_stop a.levels a.row.now a.bracket a.items.now a.progress.now a.at ((c.in_ok-tree.tree, c.in_ok-tree.end), c.flow_node.new.progress) bare c.in_ok-tree.ensures.is c.in_ok-tree.ensures.within c.next_stop.result c.next_stop.ensures.is
 
 pub entry-returns-in_err-tree-clause-is : goal.entry-returns-in_err-tree-clause-is
 entry-returns-in_err-tree-clause-is t c =
