@@ -211,7 +211,7 @@ fn put(
     ensures sees { OnOk result (Sees outer.now env.new seen.new) }
 {
     see(alloc, seen, outer, &key, &value)?;
-    env.put(key, value)?;
+    drop(env.put(key, value)?);
     Ok(())
 }
 
@@ -223,7 +223,8 @@ fn see(alloc: Global, seen: &mut Env, outer: &Env, key: &Text, value: &Text) -> 
     match outer.value(key) {
         Some(_) => Ok(()),
         None => {
-            seen.put(key.copy(alloc)?, value.copy(alloc)?)?;
+            let key = key.copy(alloc)?;
+            drop(seen.put(key, value.copy(alloc)?)?);
             Ok(())
         }
     }

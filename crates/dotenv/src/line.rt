@@ -8,7 +8,7 @@ use std::alloc::Global;
 use tree_base::Text;
 
 /// What a line of an env file says.
-#[derive(Debug, Drop)]
+#[derive(Drop)]
 pub enum Line {
     /// It is blank or a comment.
     Nothing,

@@ -5,7 +5,7 @@ use std::alloc::Global;
 use tree_base::{Memory, Text};
 
 /// The quotes that a value may stand in.
-#[derive(Clone, Copy, Debug, PartialEq, Eq)]
+#[derive(Clone, Copy)]
 pub enum Quote {
     /// The value is literal, but for `\'`.
     Single,

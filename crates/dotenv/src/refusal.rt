@@ -6,7 +6,7 @@ use interpolate::SubstRefusal;
 use tree_base::Memory;
 
 /// Why an env file isn't read. Lines count from 1, and one past the greatest `u32` is that.
-#[derive(Debug, PartialEq, Eq, Drop)]
+#[derive(Drop)]
 pub enum EnvRefusal {
     /// A line that isn't UTF-8, or is neither a key alone nor a key with a value.
     BadLine { line: u32 },
@@ -26,7 +26,7 @@ impl From<Memory> for EnvRefusal {
 }
 
 /// Why a line isn't read.
-#[derive(Clone, Copy, Debug, PartialEq, Eq)]
+#[derive(Clone, Copy)]
 pub enum LineRefusal {
     BadLine,
     BadQuote,
