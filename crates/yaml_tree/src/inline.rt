@@ -110,8 +110,15 @@ pub(crate) fn inline_alone(
         (inline_alone levels indent owner.now.column found progress.old line.now at more.now) }
 {
     let (tree, end) = inline(alloc, progress, levels, owner.column, found, line, at)?;
-    line_end(progress, &line.row, end)?;
-    alone(progress, is_scalar(text_at(&line.row, at)), indent, more)?;
+    if let Err(refusal) = line_end(progress, &line.row, end) {
+        drop(tree);
+        return Err(refusal);
+    }
+    let scalar = is_scalar(text_at(&line.row, at));
+    if let Err(refusal) = alone(progress, scalar, indent, more) {
+        drop(tree);
+        return Err(refusal);
+    }
     Ok(tree)
 }
 

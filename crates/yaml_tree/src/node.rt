@@ -264,16 +264,40 @@ fn entries(
         (block (begins_entry column) (is_entry_at column) (block_entry column levels (node levels))
         (no_entries, progress.old) line.now more.now) }
 {
-    let (own, mut rest) = more.split_at(entry_len(more, column));
     let mut entries = no_entries(alloc);
-    put_entry(alloc, progress, levels, &mut entries, column, line, own)?;
+    match put_entries(alloc, progress, levels, &mut entries, column, line, more) {
+        Ok(()) => Ok(entries),
+        Err(refusal) => {
+            drop(entries);
+            Err(refusal)
+        }
+    }
+}
+
+/// Puts the entries of a mapping at a column, of which the first begins with a line.
+#[cycle(node)]
+fn put_entries(
+    alloc: Global,
+    progress: &mut Progress,
+    levels: u32,
+    entries: &mut Entries,
+    column: usize,
+    line: &LogicalLine,
+    more: &[LogicalLine],
+) -> Result<(), YamlRefusal>
+    ensures { Gives (result_left result (entries.new, progress.new))
+        (block (begins_entry column) (is_entry_at column) (block_entry column levels (node levels))
+        (entries.old, progress.old) line.now more.now) }
+{
+    let (own, mut rest) = more.split_at(entry_len(more, column));
+    put_entry(alloc, progress, levels, entries, column, line, own)?;
     while let Some((next, more)) = rest.split_first() {
         later_begun(progress, next, next.row.indent == column)?;
         let (own, after) = more.split_at(entry_len(more, column));
-        put_entry(alloc, progress, levels, &mut entries, column, next, own)?;
+        put_entry(alloc, progress, levels, entries, column, next, own)?;
         rest = after;
     }
-    Ok(entries)
+    Ok(())
 }
 
 /// Puts the entry that begins at a column of a line: a key and its colon on the line, then its value. An item behind

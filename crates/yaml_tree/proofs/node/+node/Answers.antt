@@ -1,14 +1,15 @@
-use Rattle.std.proofs.Common.{◌∙◌, [], sym, ap, refl, length, arith, rules}
+use Rattle.std.proofs.Common.{◌≡◌, ◌∙◌, Ok, [], sym, ap, refl, subst, length, arith, rules}
 use Rattle.std.proofs.lemmas.Grind.{common_steps}
 use Rattle.std.proofs.lemmas.Result.{err_from_is_err_and}
+use Rattle.yaml_lines.specs.Answers.{Fails}
 use Rattle.yaml_lines.specs.declared.plain.Context.TheVariants.{Block}
 use Rattle.yaml_nodes.proofs.Chains.{gives_as}
 use Rattle.yaml_nodes.proofs.KeySteps.{key_len_read}
-use Rattle.yaml_nodes.specs.Mappings.{no_entries}
+use Rattle.yaml_nodes.specs.declared.entries.Entries.{Entries}
 use Rattle.yaml_tree.proofs.Levels.{node_is}
 use Rattle.yaml_tree.proofs.PartSteps.{start_fails, start_ok, begun_fails, later_fails, later_ok, belongs_there, item_within}
 use Rattle.yaml_tree.specs.Blocks.{block_item, block_entry, node}
-use Rattle.yaml_tree.specs.Parts.{begins_item, begins_entry, is_item_at, is_entry_at}
+use Rattle.yaml_tree.specs.Parts.{begins_item, begins_entry, block, is_item_at, is_entry_at}
 use Rattle.yaml_tree.proofs.node.+node.Goals as goal
 
 pub items-returns-in_err-push_item : goal.items-returns-in_err-push_item
@@ -53,36 +54,40 @@ items-loop-next-preserved t c =
       is = later_ok (begins_item a.column) (is_item_at a.column) (block_item a.column (node a.levels)) _ (c.loop-next.items, c.loop-next.progress) _ _ _ c.in-Some.next.now c.in-Some.more.now _ _ _ _ c.loop-next.invariant.is c.in-Some.ensures.cases.0 c.is_item_at.ensures c.in_ok-later_begun.ensures c.item_len-in-Some.ensures.is c.split_at-in-Some.ensures.front c.split_at-in-Some.ensures.back c.in_ok-push_item-2.ensures;
     }
 
-pub entries-returns-in_err-put_entry : goal.entries-returns-in_err-put_entry
-entries-returns-in_err-put_entry t c =
+pub entries-returns-in-Ok : goal.entries-returns-in-Ok
+entries-returns-in-Ok t c =
+    let a = c.args in
+    let put = c.put_entries.new in
+    subst (λ (w : Entries). block (begins_entry a.column) (is_entry_at a.column) (block_entry a.column a.levels (node a.levels)) (w, a.progress.now) a.line.now a.more.now ≡ Ok (put.entries, put.progress)) c.no_entries-entries.ensures c.in-Ok.ensures
+
+pub put_entries-returns-in_err-put_entry : goal.put_entries-returns-in_err-put_entry
+put_entries-returns-in_err-put_entry t c =
     let p = err_from_is_err_and c.from_residual.result c.from_residual.ensures.1 in
     let a = c.args in
-    let none = ap (λ w. (w, a.progress.now)) c.no_entries-entries.ensures in
-    rw (p.1, p.2) (start_fails (begins_entry a.column) (is_entry_at a.column) (block_entry a.column a.levels (node a.levels)) _ (no_entries, a.progress.now) _ a.line.now a.more.now _ _ _ none c.entry_len.ensures.is c.split_at.ensures.front c.split_at.ensures.back c.in_err-put_entry.ensures)
+    rw (p.1, p.2) (start_fails (begins_entry a.column) (is_entry_at a.column) (block_entry a.column a.levels (node a.levels)) _ (a.entries.now, a.progress.now) (a.entries.now, a.progress.now) a.line.now a.more.now _ _ _ refl c.entry_len.ensures.is c.split_at.ensures.front c.split_at.ensures.back c.in_err-put_entry.ensures)
 
-pub entries-loop-next-init : goal.entries-loop-next-init
-entries-loop-next-init t c =
+pub put_entries-loop-next-init : goal.put_entries-loop-next-init
+put_entries-loop-next-init t c =
     let a = c.args in
-    let none = ap (λ w. (w, a.progress.now)) c.no_entries-entries.ensures in
     record {
       within = omega arith;
-      is = start_ok (begins_entry a.column) (is_entry_at a.column) (block_entry a.column a.levels (node a.levels)) (no_entries, a.progress.now) _ _ a.line.now a.more.now _ _ _ none c.entry_len.ensures.is c.split_at.ensures.front c.split_at.ensures.back c.in_ok-put_entry.ensures;
+      is = start_ok (begins_entry a.column) (is_entry_at a.column) (block_entry a.column a.levels (node a.levels)) (a.entries.now, a.progress.now) (a.entries.now, a.progress.now) _ a.line.now a.more.now _ _ _ refl c.entry_len.ensures.is c.split_at.ensures.front c.split_at.ensures.back c.in_ok-put_entry.ensures;
     }
 
-pub entries-returns-in_err-later_begun : goal.entries-returns-in_err-later_begun
-entries-returns-in_err-later_begun t c =
+pub put_entries-returns-in_err-later_begun : goal.put_entries-returns-in_err-later_begun
+put_entries-returns-in_err-later_begun t c =
     let p = err_from_is_err_and c.from_residual-in_err-later_begun.result c.from_residual-in_err-later_begun.ensures.1 in
     let a = c.args in
     rw (p.1, p.2) (begun_fails (begins_entry a.column) (is_entry_at a.column) (block_entry a.column a.levels (node a.levels)) _ _ (c.loop-next.entries, c.loop-next.progress) _ c.in-Some.next.now c.in-Some.more.now _ c.loop-next.invariant.is c.in-Some.ensures.cases.0 refl c.in_err-later_begun.ensures)
 
-pub entries-returns-in_err-put_entry-2 : goal.entries-returns-in_err-put_entry-2
-entries-returns-in_err-put_entry-2 t c =
+pub put_entries-returns-in_err-put_entry-2 : goal.put_entries-returns-in_err-put_entry-2
+put_entries-returns-in_err-put_entry-2 t c =
     let p = err_from_is_err_and c.from_residual-in_err-put_entry-2.result c.from_residual-in_err-put_entry-2.ensures.1 in
     let a = c.args in
     rw (p.1, p.2) (later_fails (begins_entry a.column) (is_entry_at a.column) (block_entry a.column a.levels (node a.levels)) _ _ (c.loop-next.entries, c.loop-next.progress) _ _ c.in-Some.next.now c.in-Some.more.now _ _ _ _ c.loop-next.invariant.is c.in-Some.ensures.cases.0 refl c.in_ok-later_begun.ensures c.entry_len-in-Some.ensures.is c.split_at-in-Some.ensures.front c.split_at-in-Some.ensures.back c.in_err-put_entry-2.ensures)
 
-pub entries-loop-next-preserved : goal.entries-loop-next-preserved
-entries-loop-next-preserved t c =
+pub put_entries-loop-next-preserved : goal.put_entries-loop-next-preserved
+put_entries-loop-next-preserved t c =
     let a = c.args in
     record {
       within = omega (arith, ap length c.in-Some.ensures.cases.0);

@@ -1,5 +1,4 @@
 use Rattle.std.proofs.Common.{◌≡◌, ◌≤◌, ◌+◌, ◌*◌, [], length}
-use Rattle.yaml_nodes.specs.Mappings.{no_entries}
 use Rattle.yaml_tree.proofs.PartSteps.{parts}
 use Rattle.yaml_tree.specs.Blocks.{block_item, block_entry, node}
 use Rattle.yaml_tree.specs.Parts.{begins_item, begins_entry, is_item_at, is_entry_at, block, later_parts}
@@ -33,7 +32,10 @@ abbrev pub decreases-block_mapping : goal.decreases-block_mapping
 decreases-block_mapping l = 8 * (length l.more.now + 1 + l.levels)
 
 abbrev pub decreases-entries : goal.decreases-entries
-decreases-entries l = 8 * (length l.more.now + 1 + l.levels) + 3
+decreases-entries l = 8 * (length l.more.now + 1 + l.levels) + 4
+
+abbrev pub decreases-put_entries : goal.decreases-put_entries
+decreases-put_entries l = 8 * (length l.more.now + 1 + l.levels) + 3
 
 abbrev pub decreases-put_entry : goal.decreases-put_entry
 decreases-put_entry l = 8 * (length l.more.now + 1 + l.levels) + 2
@@ -44,8 +46,8 @@ decreases-block_value l = 8 * (length l.more.now + 1 + l.levels) + 1
 abbrev pub decreases-items-loop-next : goal.decreases-items-loop-next
 decreases-items-loop-next l = length l.rest
 
-abbrev pub decreases-entries-loop-next : goal.decreases-entries-loop-next
-decreases-entries-loop-next l = length l.rest
+abbrev pub decreases-put_entries-loop-next : goal.decreases-put_entries-loop-next
+decreases-put_entries-loop-next l = length l.rest
 
 abbrev pub invariant-items-loop-next : goal.invariant-items-loop-next
 invariant-items-loop-next l = record {
@@ -54,9 +56,9 @@ invariant-items-loop-next l = record {
       ≡ block (begins_item l.column) (is_item_at l.column) (block_item l.column (node l.levels)) ([], l.fn.progress) l.line l.more;
 }
 
-abbrev pub invariant-entries-loop-next : goal.invariant-entries-loop-next
-invariant-entries-loop-next l = record {
+abbrev pub invariant-put_entries-loop-next : goal.invariant-put_entries-loop-next
+invariant-put_entries-loop-next l = record {
   within : length l.rest ≤ length l.more;
   is : later_parts (is_entry_at l.column) (block_entry l.column l.levels (node l.levels)) (l.entries, l.progress) (parts (begins_entry l.column) l.rest)
-      ≡ block (begins_entry l.column) (is_entry_at l.column) (block_entry l.column l.levels (node l.levels)) (no_entries, l.fn.progress) l.line l.more;
+      ≡ block (begins_entry l.column) (is_entry_at l.column) (block_entry l.column l.levels (node l.levels)) (l.fn.entries, l.fn.progress) l.line l.more;
 }
