@@ -6,7 +6,7 @@ use std::fmt;
 use tree_base::Memory;
 
 /// The short forms of the Compose Specification that this crate reads.
-#[derive(Debug, Drop, Clone, Copy, PartialEq, Eq)]
+#[derive(Debug, Clone, Copy)]
 pub enum Form {
     Port,
     Mount,
@@ -35,7 +35,7 @@ impl Form {
 }
 
 /// Why a short form was not read.
-#[derive(Debug, Drop, Clone, Copy, PartialEq, Eq)]
+#[derive(Debug, Clone, Copy)]
 pub enum FormRefusal {
     /// The text isn't of this form.
     BadForm { which: Form },

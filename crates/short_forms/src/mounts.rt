@@ -1,5 +1,6 @@
-ghost use Rattle.std.specs.Prelude.{◌≡◌, ◌==◌, [], ◌∷◌, slice_index};
+ghost use Rattle.std.specs.Prelude.{◌≡◌, ◌==◌, [], ◌∷◌, IfOk, slice_index};
 ghost use Rattle.std.specs.List.{list_all};
+ghost use Rattle.std.specs.Option.{option_copied};
 ghost use Rattle.short_forms.specs.Answers.{Gives, answer_of};
 ghost use Rattle.short_forms.specs.Cuts.{parts_at};
 ghost use Rattle.short_forms.specs.Mounts.{is_name_byte, is_path, is_volume_name, kind_of, mode_behind, mode_of, mount_at, mount_from, mount_in, mount_of, plain};
@@ -10,7 +11,7 @@ use std::alloc::Global;
 use tree_base::{Memory, Text, TryCopy};
 
 /// Where a mount takes its files from.
-#[derive(Debug, Drop, Clone, Copy, PartialEq, Eq)]
+#[derive(Clone, Copy)]
 pub enum MountKind {
     /// A path of the host.
     Bind,
@@ -21,7 +22,7 @@ pub enum MountKind {
 }
 
 /// A mount of a service (Compose Specification, "volumes").
-#[derive(Debug, Drop, PartialEq, Eq)]
+#[derive(Drop)]
 pub struct Mount {
     pub kind: MountKind,
     /// A path of the host, or the name of a volume.
@@ -36,11 +37,11 @@ pub struct Mount {
 impl TryCopy for Mount {
     fn copy(&self, alloc: Global) -> Result<Mount, Memory> {
         Ok(Mount {
-            kind: self.kind,
-            source: self.source.copy(alloc)?,
             target: self.target.copy(alloc)?,
-            read_only: self.read_only,
+            source: self.source.copy(alloc)?,
             selinux: self.selinux.copy(alloc)?,
+            kind: self.kind,
+            read_only: self.read_only,
         })
     }
 }
@@ -53,7 +54,7 @@ pub fn read_mount(alloc: Global, text: &Text) -> Result<Mount, FormRefusal>
     ensures { Gives result (answer_of Form.Mount (mount_of text.now)) }
 {
     match cut_text(text.as_str(), ':') {
-        None => mount_at(alloc, MountKind::Volume, None, text.as_str(), plain()),
+        None => mount_at(alloc, MountKind::Volume, None, text.as_str(), &plain()),
         Some((source, rest)) => mount_behind(alloc, source, rest),
     }
 }
@@ -63,7 +64,7 @@ fn mount_behind(alloc: Global, source: &str, rest: &str) -> Result<Mount, FormRe
     ensures { Gives result (answer_of Form.Mount (mount_in (source.now ∷ parts_at 58 rest.now))) }
 {
     match cut_text(rest, ':') {
-        None => mount_from(alloc, source, rest, plain()),
+        None => mount_from(alloc, source, rest, &plain()),
         Some((target, mode)) => mount_with(alloc, source, target, mode),
     }
 }
@@ -74,7 +75,7 @@ fn mount_with(alloc: Global, source: &str, target: &str, mode: &str) -> Result<M
         (mount_in (source.now ∷ target.now ∷ parts_at 58 mode.now))) }
 {
     match cut_text(mode, ':') {
-        None => mount_from(alloc, source, target, read_mode(alloc, mode)?),
+        None => mount_from(alloc, source, target, &read_mode(alloc, mode)?),
         Some(_) => Err(FormRefusal::BadForm { which: Form::Mount }),
     }
 }
@@ -132,17 +133,11 @@ fn with_word(alloc: Global, mode: Mode, word: &str) -> Result<Mode, FormRefusal>
 }
 
 /// A mount from a source.
-fn mount_from(alloc: Global, source: &str, target: &str, mode: Mode) -> Result<Mount, FormRefusal>
-    ensures { Gives result (answer_of Form.Mount (mount_from source.now target.now mode)) }
+fn mount_from(alloc: Global, source: &str, target: &str, mode: &Mode) -> Result<Mount, FormRefusal>
+    ensures { Gives result (answer_of Form.Mount (mount_from source.now target.now mode.now)) }
 {
     match kind_of(source.as_bytes()) {
-        Some(kind) => mount_at(
-            alloc,
-            kind,
-            Some(Text::from_str(alloc, source)?),
-            target,
-            mode,
-        ),
+        Some(kind) => mount_at(alloc, kind, Some(source), target, mode),
         None => Err(FormRefusal::BadForm { which: Form::Mount }),
     }
 }
@@ -151,22 +146,32 @@ fn mount_from(alloc: Global, source: &str, target: &str, mode: Mode) -> Result<M
 fn mount_at(
     alloc: Global,
     kind: MountKind,
-    source: Option<Text>,
+    source: Option<&str>,
     target: &str,
-    mode: Mode,
+    mode: &Mode,
 ) -> Result<Mount, FormRefusal>
-    ensures { Gives result (answer_of Form.Mount (mount_at kind source target.now mode)) }
+    ensures { Gives result (answer_of Form.Mount
+        (mount_at kind (option_copied source.entry) target.now mode.now)) }
 {
     if !is_absolute(target.as_bytes()) {
         return Err(FormRefusal::BadForm { which: Form::Mount });
     }
     Ok(Mount {
-        kind,
-        source,
         target: Text::from_str(alloc, target)?,
+        source: text_given(alloc, source)?,
+        selinux: mode.selinux.copy(alloc)?,
+        kind,
         read_only: mode.read_only,
-        selinux: mode.selinux,
     })
+}
+
+fn text_given(alloc: Global, text: Option<&str>) -> Result<Option<Text>, Memory>
+    ensures { IfOk result (λ given. given ≡ option_copied text.entry) }
+{
+    match text {
+        None => Ok(None),
+        Some(text) => Ok(Some(Text::from_str(alloc, text)?)),
+    }
 }
 
 fn is_absolute(path: &[u8]) -> bool

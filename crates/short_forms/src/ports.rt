@@ -1,4 +1,4 @@
-ghost use Rattle.std.specs.Prelude.{◌≡◌, ◌==◌, [], ◌∷◌, ◌+◌, ◌-◌, ◌≤◌, IfOk, IfSome, length, Some};
+ghost use Rattle.std.specs.Prelude.{◌≡◌, ◌==◌, [], ◌∷◌, ◌+◌, ◌-◌, ◌≤◌, IfOk, IfSome, length, None, Some};
 ghost use Rattle.std.specs.Fmt.{decimal};
 ghost use Rattle.std.specs.List.{list_all};
 ghost use Rattle.std.specs.Option.{option_map};
@@ -14,7 +14,7 @@ use std::alloc::Global;
 use tree_base::{List, Memory, Text, TryCopy};
 
 /// A port of a service (Compose Specification, "ports").
-#[derive(Debug, Drop, PartialEq, Eq)]
+#[derive(Drop)]
 pub struct Port {
     /// The address of the host that the port is bound to.
     pub host_ip: Option<Text>,
@@ -29,10 +29,10 @@ pub struct Port {
 impl TryCopy for Port {
     fn copy(&self, alloc: Global) -> Result<Port, Memory> {
         Ok(Port {
+            protocol: self.protocol.copy(alloc)?,
             host_ip: self.host_ip.copy(alloc)?,
             published: self.published.copy(alloc)?,
             target: self.target,
-            protocol: self.protocol.copy(alloc)?,
         })
     }
 }
@@ -46,13 +46,6 @@ const MOST_PORTS: u32 = 1_000;
 enum Span {
     One(u32),
     Range(u32, u32),
-}
-
-/// What the ports of one text have in common.
-#[derive(Drop)]
-struct Binding {
-    host_ip: Option<Text>,
-    protocol: Text,
 }
 
 /// The ports of `[[ip:]published:]target[/protocol]`, with the protocol `tcp`, `udp` or `sctp`, `tcp` where none is
@@ -93,16 +86,8 @@ fn is_protocol(text: &str) -> bool
 fn read_fields(alloc: Global, fields: &str, protocol: &str) -> Result<List<Port>, FormRefusal>
     ensures { Gives result (answer_of Form.Port (ports_in protocol.now (parts_at 58 fields.now))) }
 {
-    let protocol = Text::from_str(alloc, protocol)?;
     match cut_text(fields, ':') {
-        None => unpublished(
-            alloc,
-            &Binding {
-                host_ip: None,
-                protocol,
-            },
-            fields,
-        ),
+        None => unpublished(alloc, protocol, fields),
         Some((text, rest)) => ports_behind(alloc, protocol, text, rest),
     }
 }
@@ -110,23 +95,15 @@ fn read_fields(alloc: Global, fields: &str, protocol: &str) -> Result<List<Port>
 /// The ports behind a first colon.
 fn ports_behind(
     alloc: Global,
-    protocol: Text,
+    protocol: &str,
     text: &str,
     rest: &str,
 ) -> Result<List<Port>, FormRefusal>
     ensures { Gives result (answer_of Form.Port
-        (ports_in protocol (text.now ∷ parts_at 58 rest.now))) }
+        (ports_in protocol.now (text.now ∷ parts_at 58 rest.now))) }
 {
     match cut_text(rest, ':') {
-        None => published_of(
-            alloc,
-            &Binding {
-                host_ip: None,
-                protocol,
-            },
-            text,
-            rest,
-        ),
+        None => published_of(alloc, &None, protocol, text, rest),
         Some((published, target)) => ports_at(alloc, protocol, text, published, target),
     }
 }
@@ -134,13 +111,13 @@ fn ports_behind(
 /// The ports at an address of the host, behind a second colon.
 fn ports_at(
     alloc: Global,
-    protocol: Text,
+    protocol: &str,
     address: &str,
     text: &str,
     target: &str,
 ) -> Result<List<Port>, FormRefusal>
     ensures { Gives result (answer_of Form.Port
-        (ports_in protocol (address.now ∷ text.now ∷ parts_at 58 target.now))) }
+        (ports_in protocol.now (address.now ∷ text.now ∷ parts_at 58 target.now))) }
 {
     match cut_text(target, ':') {
         None => at_address(alloc, protocol, address, text, target),
@@ -151,19 +128,19 @@ fn ports_at(
 /// The ports at an address of the host, where it is one.
 fn at_address(
     alloc: Global,
-    protocol: Text,
+    protocol: &str,
     address: &str,
     text: &str,
     target: &str,
 ) -> Result<List<Port>, FormRefusal>
     ensures { Gives result (answer_of Form.Port
-        (ports_in protocol (address.now ∷ text.now ∷ target.now ∷ []))) }
+        (ports_in protocol.now (address.now ∷ text.now ∷ target.now ∷ []))) }
 {
     if !is_address(address) {
         return Err(FormRefusal::BadForm { which: Form::Port });
     }
     let host_ip = Some(Text::from_str(alloc, address)?);
-    published_of(alloc, &Binding { host_ip, protocol }, text, target)
+    published_of(alloc, &host_ip, protocol, text, target)
 }
 
 /// Whether a text is an IPv4 address.
@@ -193,14 +170,15 @@ fn is_octet(text: &[u8]) -> bool
 }
 
 /// The ports of a target that the host doesn't name.
-fn unpublished(alloc: Global, binding: &Binding, target: &str) -> Result<List<Port>, FormRefusal>
+fn unpublished(alloc: Global, protocol: &str, target: &str) -> Result<List<Port>, FormRefusal>
     ensures { Gives result (answer_of Form.Port
-        (option_map (unpublished (port_at binding.now.host_ip binding.now.protocol))
-        (target_of target.now))) }
+        (option_map (unpublished (port_at None protocol.now)) (target_of target.now))) }
 {
     match target_of(target) {
-        Some(Span::One(port)) => Ok(one_port(alloc, binding, None, port)?),
-        Some(Span::Range(first, last)) => Ok(ports_from(alloc, binding, None, first, last)?),
+        Some(Span::One(port)) => Ok(one_port(alloc, &None, protocol, None, port)?),
+        Some(Span::Range(first, last)) => {
+            Ok(ports_from(alloc, &None, protocol, None, first, last)?)
+        }
         None => Err(FormRefusal::BadForm { which: Form::Port }),
     }
 }
@@ -208,15 +186,16 @@ fn unpublished(alloc: Global, binding: &Binding, target: &str) -> Result<List<Po
 /// The ports of a published text and a target.
 fn published_of(
     alloc: Global,
-    binding: &Binding,
+    host_ip: &Option<Text>,
+    protocol: &str,
     text: &str,
     target: &str,
 ) -> Result<List<Port>, FormRefusal>
     ensures { Gives result (answer_of Form.Port
-        (published_of (port_at binding.now.host_ip binding.now.protocol) text.now target.now)) }
+        (published_of (port_at host_ip.now protocol.now) text.now target.now)) }
 {
     match (span_of(text), target_of(target)) {
-        (Some(host), Some(target)) => published(alloc, binding, text, host, target),
+        (Some(host), Some(target)) => published(alloc, host_ip, protocol, text, host, target),
         _ => Err(FormRefusal::BadForm { which: Form::Port }),
     }
 }
@@ -224,7 +203,8 @@ fn published_of(
 /// The ports of a published text with its span and the span of the targets.
 fn published(
     alloc: Global,
-    binding: &Binding,
+    host_ip: &Option<Text>,
+    protocol: &str,
     text: &str,
     host: Span,
     target: Span,
@@ -232,20 +212,22 @@ fn published(
     requires host { IsSpan host }
     requires target { IsSpan target }
     ensures { Gives result (answer_of Form.Port
-        (published (port_at binding.now.host_ip binding.now.protocol) text.now host target)) }
+        (published (port_at host_ip.now protocol.now) text.now host target)) }
 {
     match (host, target) {
         (Span::One(host), Span::One(port)) => {
-            Ok(one_port(alloc, binding, Some(number_text(alloc, host)?), port)?)
+            let published = Some(number_text(alloc, host)?);
+            Ok(one_port(alloc, host_ip, protocol, published, port)?)
         }
         (Span::Range(_, _), Span::One(port)) => {
-            Ok(one_port(alloc, binding, Some(Text::from_str(alloc, text)?), port)?)
+            let published = Some(Text::from_str(alloc, text)?);
+            Ok(one_port(alloc, host_ip, protocol, published, port)?)
         }
         (Span::Range(low, high), Span::Range(first, last)) => {
             if high - low != last - first {
                 return Err(FormRefusal::BadForm { which: Form::Port });
             }
-            Ok(ports_from(alloc, binding, Some(low), first, last)?)
+            Ok(ports_from(alloc, host_ip, protocol, Some(low), first, last)?)
         }
         (Span::One(_), Span::Range(_, _)) => Err(FormRefusal::BadForm { which: Form::Port }),
     }
@@ -308,39 +290,44 @@ fn number_text(alloc: Global, number: u32) -> Result<Text, Memory>
 
 fn port_at(
     alloc: Global,
-    binding: &Binding,
+    host_ip: &Option<Text>,
+    protocol: &str,
     published: Option<Text>,
     target: u32,
 ) -> Result<Port, Memory>
     ensures { IfOk result (λ p. p ≡
-        port_at binding.now.host_ip binding.now.protocol published target) }
+        port_at host_ip.now protocol.now published target) }
 {
+    let protocol = Text::from_str(alloc, protocol)?;
     Ok(Port {
-        host_ip: binding.host_ip.copy(alloc)?,
+        host_ip: host_ip.copy(alloc)?,
         published,
         target,
-        protocol: binding.protocol.copy(alloc)?,
+        protocol,
     })
 }
 
 fn one_port(
     alloc: Global,
-    binding: &Binding,
+    host_ip: &Option<Text>,
+    protocol: &str,
     published: Option<Text>,
     target: u32,
 ) -> Result<List<Port>, Memory>
     ensures { IfOk result (λ l. l ≡
-        port_at binding.now.host_ip binding.now.protocol published target ∷ []) }
+        port_at host_ip.now protocol.now published target ∷ []) }
 {
+    let port = port_at(alloc, host_ip, protocol, published, target)?;
     let mut ports = List::new(alloc);
-    ports.push(port_at(alloc, binding, published, target)?)?;
+    ports.push(port)?;
     Ok(ports)
 }
 
 /// A port for each target from a first to a last one, published from `low` on where that is given.
 fn ports_from(
     alloc: Global,
-    binding: &Binding,
+    host_ip: &Option<Text>,
+    protocol: &str,
     low: Option<u32>,
     first: u32,
     last: u32,
@@ -348,13 +335,13 @@ fn ports_from(
     requires targets { (first ≤ last) × (last ≤ 65535) }
     requires hosts { IfSome low (λ low. low ≤ 65535) }
     ensures { IfOk result (λ l. l ≡
-        ports_from (λ place. port_at binding.now.host_ip binding.now.protocol
-        (host_text low place)) first (last - first + 1)) }
+        ports_from (λ place. port_at host_ip.now protocol.now (host_text low place))
+        first (last - first + 1)) }
 {
     let mut ports = List::new(alloc);
     for place in 0..last - first + 1 {
         let host = host_text(alloc, low, place)?;
-        ports.push(port_at(alloc, binding, host, first + place)?)?;
+        ports.push(port_at(alloc, host_ip, protocol, host, first + place)?)?;
     }
     Ok(ports)
 }
