@@ -11,7 +11,7 @@ use std::alloc::Global;
 use tree_base::{Memory, Text};
 
 /// How the dollars of texts are printed.
-#[derive(Clone, Copy, Debug, PartialEq, Eq)]
+#[derive(Clone, Copy)]
 pub enum Dollars {
     /// Each `$` twice, as in a page.
     Twice,

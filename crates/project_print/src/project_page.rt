@@ -72,6 +72,6 @@ fn put_node(alloc: Global, entries: &mut TextMap<Node>, key: &str, node: Node) -
     ensures { OnOk result (entries.new ≡ with_entry entries.old key.now node) }
 {
     let key = Text::from_str(alloc, key)?;
-    let _ = entries.put(key, node)?;
+    drop(entries.put(key, node)?);
     Ok(())
 }
