@@ -33,7 +33,8 @@ impl Failing {
         ensures fails { self.new.fails ≡ self.old.fails }
         ensures calls { self.new.calls ≡ one_more self.old.calls }
         ensures told { result ≡ next_fails self.old.fails self.old.calls }
-        ensures failed { self.new.failed ≡ (if result then one_more self.old.failed else self.old.failed) }
+        ensures failed { self.new.failed ≡
+            (if result then one_more self.old.failed else self.old.failed) }
         ensures never_falls { self.old.failed ≤ self.new.failed }
     {
         self.calls = self.calls.saturating_add(1);

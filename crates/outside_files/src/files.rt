@@ -6,7 +6,7 @@ use std::alloc::Global;
 use tree_base::{List, Text};
 
 /// What a read of a file answers.
-#[derive(Debug, Drop)]
+#[derive(Drop)]
 pub enum FileAnswer {
     Bytes(List<u8>),
     Missing,

@@ -42,13 +42,14 @@ impl Files for MemoryFiles {
     fn read(&mut self, alloc: Global, path: &Text, limit: u64) -> FileAnswer
         ensures kept { Some (contents self.new) ≡ Some (contents self.old) }
         ensures counted { failed_reads self.old ≤ failed_reads self.new }
-        ensures failed { result ≡ FileAnswer.Failed → Rose (failed_reads self.old) (failed_reads self.new) }
+        ensures failed { result ≡ FileAnswer.Failed →
+            Rose (failed_reads self.old) (failed_reads self.new) }
         ensures told { IsReadOf (contents self.old) path.now limit result }
         ensures fails { failing_reads self.new ≡ failing_reads self.old }
         ensures reads { reads self.new ≡ one_more (reads self.old) }
         ensures fails_as_told { is_failed result ≡ next_read_fails self.old }
-        ensures faults { failed_reads self.new
-            ≡ (if next_read_fails self.old then one_more (failed_reads self.old) else failed_reads self.old) }
+        ensures faults { failed_reads self.new ≡ (if next_read_fails self.old
+            then one_more (failed_reads self.old) else failed_reads self.old) }
     {
         if self.failing.next_fails() {
             return FileAnswer::Failed;

@@ -54,14 +54,16 @@ impl Sink for MemorySink {
     /// Writes what fits of a piece; the write fails exactly where its number is among those that are to. No memory.
     fn write(&mut self, piece: &[u8]) -> SinkAnswer
         ensures counted { failed_writes self.old ≤ failed_writes self.new }
-        ensures answer { IsWriteOf piece.now (failed_writes self.old) (failed_writes self.new) result }
-        ensures told { GrewBy (Some (bytes_of self.old)) (take (taken result) piece.now) (Some (bytes_of self.new)) }
+        ensures answer { IsWriteOf piece.now
+            (failed_writes self.old) (failed_writes self.new) result }
+        ensures told { GrewBy (Some (bytes_of self.old))
+            (take (taken result) piece.now) (Some (bytes_of self.new)) }
         ensures exact { result ≡ answer_of self.old piece.now }
         ensures room { room_of self.new ≡ room_of self.old }
         ensures fails { failing_writes self.new ≡ failing_writes self.old }
         ensures writes { writes self.new ≡ one_more (writes self.old) }
-        ensures faults { failed_writes self.new
-            ≡ (if is_fault self.old piece.now then one_more (failed_writes self.old) else failed_writes self.old) }
+        ensures faults { failed_writes self.new ≡ (if is_fault self.old piece.now
+            then one_more (failed_writes self.old) else failed_writes self.old) }
     {
         if self.failing.next_fails() {
             return SinkAnswer::Failed;

@@ -21,5 +21,6 @@ pub trait Sink: Drop {
     fn write(&mut self, piece: &[u8]) -> SinkAnswer
         ensures counted { faults self.old ≤ faults self.new }
         ensures answer { IsWriteOf piece.now (faults self.old) (faults self.new) result }
-        ensures told { GrewBy (written self.old) (take (taken result) piece.now) (written self.new) };
+        ensures told { GrewBy (written self.old)
+            (take (taken result) piece.now) (written self.new) };
 }
