@@ -24,10 +24,19 @@ use tree_base::{Env, Memory, Text, TryCopy};
 pub fn read_env(alloc: Global, bytes: &[u8], outer: &Env) -> Result<Env, EnvRefusal>
     ensures { Gives result (env_file outer.now bytes.now) }
 {
-    let mut env = Env::new(alloc);
     let mut seen = TryCopy::copy(outer, alloc)?;
-    put_lines(alloc, &mut env, &mut seen, outer, bytes)?;
-    Ok(env)
+    let mut env = Env::new(alloc);
+    match put_lines(alloc, &mut env, &mut seen, outer, bytes) {
+        Ok(()) => {
+            drop(seen);
+            Ok(env)
+        }
+        Err(refusal) => {
+            drop(seen);
+            drop(env);
+            Err(refusal)
+        }
+    }
 }
 
 /// Puts the variables of lines, where `seen` has what a value sees.
