@@ -41,13 +41,7 @@ fn held(engine: Engine, script: List<Tick>, faults: FaultPlan, catalogue: Catalo
     ensures made { result.made ≡ 0 }
     ensures catalogue { result.catalogue ≡ catalogue }
 {
-    MemoryEngine {
-        engine,
-        script,
-        faults,
-        made: 0,
-        catalogue,
-    }
+    MemoryEngine::holding(engine, script, faults, catalogue)
 }
 
 /// Whether an Engine in memory can hold this.

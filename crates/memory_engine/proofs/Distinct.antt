@@ -42,7 +42,7 @@ module _ {X : Type 0} (key : X → List ℕ) where
   distinct-push y xs distinct apart =
       rw (map-append key xs (y ∷ [])) (IsDistinct-push nat_list_eq_equiv (map key xs) (key y) distinct (any-map (bytes_eq (key y)) key xs ∙ apart))
 
-  AllByRecursion-among : (P : List ℕ → Type 0) (xs : List X) (x : X) → AllByRecursion P (map key xs) → Among xs x → P (key x)
+  pub AllByRecursion-among : (P : List ℕ → Type 0) (xs : List X) (x : X) → AllByRecursion P (map key xs) → Among xs x → P (key x)
   AllByRecursion-among P [] x all h = absurd h
   AllByRecursion-among P (y ∷ ys) x all h = ⊎_elim
       (λ same. subst (λ z. P (key z)) (sym same) all.0)

@@ -16,7 +16,7 @@ use Rattle.memory_engine.specs.Keeping.{IsKept}
 use Rattle.memory_engine.specs.Serving.{with_container, with_first}
 use Rattle.memory_engine.specs.Ticking.{changed_report, changed_row, is_running, ticked, ticked_by}
 use Rattle.memory_engine.proofs.Texts.{by_cases, bytes_eq_itself}
-use Rattle.memory_engine.proofs.AnyAll.{among-find}
+use Rattle.memory_engine.proofs.AnyAll.{all-with_first, among-find}
 use Rattle.memory_engine.proofs.Distinct.{find-among}
 use Rattle.memory_engine.proofs.Places.{with_first-missed, with_first-same}
 use Rattle.memory_engine.proofs.Keeps.{keeps_changed}
@@ -119,3 +119,11 @@ ticked_keeps engine (tick ∷ script) kept =
     (same_by (λ row. row.name) tick.change (λ _ _. refl))
     (λ row there. ap (λ networks. list_all (λ i. is_some (network_at engine i)) networks) (same_by (λ r. r.networks) tick.change (λ _ _. refl) row) ∙ there)
     kept
+
+-- a container that changes keeps its name
+pub ticked_given : (given : List ℕ → Bool) (engine : Engine) (script : List Tick) → list_all (λ row. given row.name) engine.containers ≡ true
+    → list_all (λ row. given row.name) (ticked engine script).containers ≡ true
+ticked_given given engine [] all = all
+ticked_given given engine (tick ∷ script) all =
+    all-with_first (λ row. given row.name) (λ row. bytes_eq tick.container row.name) (changed_row tick.change)
+    (λ row was. ap given (same_by (λ r. r.name) tick.change (λ _ _. refl) row) ∙ was) engine.containers all

@@ -32,7 +32,7 @@ abbrev network_id_of : NetRow → List ℕ
 network_id_of row = row.id
 
 -- whether the networks of a container are there
-abbrev is_attached : Engine → ContainerRow → Bool
+abbrev pub is_attached : Engine → ContainerRow → Bool
 is_attached engine row = list_all (λ id. is_some (network_at engine id)) row.networks
 
 -- ---- which ids are free

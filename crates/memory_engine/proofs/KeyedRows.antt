@@ -1,10 +1,15 @@
 -- Look-ups in rows by a key, after a row is changed, taken out or added.
-use Rattle.std.proofs.Common.{◌≡◌, ℕ, Bool, true, false, not, cond, if◌then◌else◌, ◌&&◌, ◌||◌, List, [], ◌∷◌, ◌++◌, Option, Some, None, map, refl, sym, ap, ◌∙◌}
+use Rattle.std.proofs.Common.{◌≡◌, ℕ, zero, suc, ◌+◌, length, position, slice_get, nat_lt, subst, inl, inr, arith, Bool, true, false, not, cond, if◌then◌else◌, ◌&&◌, ◌||◌, List, [], ◌∷◌, ◌++◌, Option, Some, None, map, refl, sym, ap, ◌∙◌}
 use Rattle.std.specs.Prelude.{filter, find, is_some, is_none}
-use Rattle.std.specs.List.{list_all, list_any}
-use Rattle.std.specs.Option.{option_map}
+use Rattle.std.specs.List.{list_all, list_any, position_or_len, IsDistinct}
+use Rattle.std.specs.Option.{option_map, option_map_or}
 use Rattle.std.specs.Str.{bytes_eq}
+use Rattle.std.proofs.lemmas.Bool.{lt-ltb}
+use Rattle.std.proofs.lemmas.Map.Keys.{IsDistinct-head, IsDistinct-tail}
+use Rattle.std.proofs.lemmas.Option.{slice_get_within}
+use Rattle.run_model.specs.EngineRules.{Among}
 use Rattle.memory_engine.specs.Serving.{with_first}
+use Rattle.memory_engine.proofs.Distinct.{AllByRecursion-among}
 use Rattle.memory_engine.proofs.Texts.{by_cases, same_text, bytes_eq_itself, bytes_eq_flips, bytes_eq_alike, bytes_eq_apart}
 
 module _ {X : Type 0} (key : X → List ℕ) where
@@ -57,3 +62,32 @@ module _ {X : Type 0} (key : X → List ℕ) where
       by_cases (bytes_eq (key y) id)
       (λ here. let first : Some y ≡ Some x = rw here at found in let same : y ≡ x = cc in rw (← same) (same_text _ _ here))
       (λ apart. find-key id xs x (rw apart at found))
+
+  among-at : (xs : List X) (n : ℕ) (x : X) → slice_get xs n ≡ Some x → Among xs x
+  among-at [] n x at = let clash : None ≡ Some x = at in cc
+  among-at (y ∷ ys) zero x at = let same : x ≡ y = cc in inl same
+  among-at (y ∷ ys) (suc n) x at = inr (among-at ys n x at)
+
+  place_with_key : (id : List ℕ) (xs : List X) (n : ℕ) (x : X) → IsDistinct bytes_eq (map key xs) → slice_get xs n ≡ Some x → bytes_eq (key x) id ≡ true
+      → position_or_len (λ y. bytes_eq (key y) id) xs ≡ n
+  place_with_key id [] n x distinct at here = let clash : None ≡ Some x = at in cc
+  place_with_key id (y ∷ ys) zero x distinct at here =
+      let same : y ≡ x = cc in let first : bytes_eq (key y) id ≡ true = rw same here in rw first refl
+  place_with_key id (y ∷ ys) (suc n) x distinct at here =
+      let later = place_with_key id ys n x (IsDistinct-tail bytes_eq (key y) (map key ys) distinct) at here in
+      let other = AllByRecursion-among key (λ k. bytes_eq (key y) k ≡ false) ys x (IsDistinct-head bytes_eq (key y) (map key ys) distinct) (among-at ys n x at) in
+      let apart : bytes_eq (key y) id ≡ false = subst (λ k. bytes_eq (key y) k ≡ false) (same_text (key x) id here) other in
+      rw (apart, later) (omega arith)
+
+  position_with_key : (id : List ℕ) (xs : List X) (n : ℕ) (found : Option X) → IsDistinct bytes_eq (map key xs) → slice_get xs n ≡ found
+      → option_map_or (λ x. bytes_eq (key x) id) found false ≡ true → position (λ y. bytes_eq (key y) id) xs ≡ Some n
+  position_with_key id xs n None distinct at here = let clash : false ≡ true = here in cc
+  position_with_key id xs n (Some x) distinct at here =
+      let place = place_with_key id xs n x distinct at here in
+      let within = lt-ltb n (length xs) (slice_get_within xs n x at) in
+      rw (place, within) refl
+
+  -- where keys differ, a row with a key stands at the first place that has it
+  pub position-with_key : (id : List ℕ) (xs : List X) (n : ℕ) → IsDistinct bytes_eq (map key xs) → option_map_or (λ x. bytes_eq (key x) id) (slice_get xs n) false ≡ true
+      → position (λ y. bytes_eq (key y) id) xs ≡ Some n
+  position-with_key id xs n distinct here = position_with_key id xs n (slice_get xs n) distinct refl here

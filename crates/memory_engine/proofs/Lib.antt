@@ -1,9 +1,10 @@
 pub mod Texts
 pub mod Places
-pub mod KeyedRows
 pub mod AnyAll
 pub mod Distinct
+pub mod KeyedRows
 pub mod NumberedIds
+pub mod Naming
 pub mod Loops
 pub mod Outcomes
 pub mod Keeps

@@ -5,7 +5,7 @@ use Rattle.std.specs.List.{position_or_len}
 use Rattle.std.specs.Str.{bytes_eq}
 use Rattle.std.proofs.lemmas.Bool.{ltb-true, ltb-false}
 use Rattle.std.proofs.lemmas.List.{set-get_or}
-use Rattle.std.proofs.lemmas.Option.{get_or_from_slice_get, slice_get_cases}
+use Rattle.std.proofs.lemmas.Option.{get_or_from_slice_get, slice_get_cases, slice_get_past}
 use Rattle.engine_types.specs.declared.ImageRow.{ImageRow}
 use Rattle.memory_engine.specs.Serving.{with_first, with_image}
 use Rattle.memory_engine.proofs.Texts.{by_cases}
@@ -49,6 +49,14 @@ module _ {X : Type 0} (p : X → Bool) where
   no_place xs is = by_cases (nat_lt (position_or_len p xs) (length xs))
       (λ e. let clash : Some (position_or_len p xs) ≡ None = rw e at is in cc)
       (λ e. ltb-false _ _ e)
+
+  -- what stands at that place is what a look-up finds
+  pub find-at : (xs : List X) (n : ℕ) → position p xs ≡ Some n → slice_get xs n ≡ find p xs
+  find-at xs n is = let here = (first_place xs n is).0 in rw here (slice_get-first xs)
+
+  -- and where there is none, a look-up finds nothing
+  pub find-nowhere : (xs : List X) → position p xs ≡ None → find p xs ≡ None
+  find-nowhere xs is = sym (slice_get-first xs) ∙ slice_get_past xs (position_or_len p xs) (no_place xs is)
 
   -- the change where a place passes
   pub with_first-at : (f : X → X) (x : X) (xs : List X) (n : ℕ) → position p xs ≡ Some n → slice_get xs n ≡ Some x

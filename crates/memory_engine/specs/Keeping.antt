@@ -1,11 +1,16 @@
 -- What an Engine in memory keeps true of what it holds.
 use mathlib.Core.Bool.{Bool-set}
 use Rattle.std.specs.Prelude.{◌≡◌, ℕ, ◌^◌, ◌<◌, ◌≤◌, Bool, true, ◌&&◌, List, map, is_none}
-use Rattle.std.specs.List.{IsDistinct-prop}
+use Rattle.std.specs.List.{IsDistinct, IsDistinct-prop}
 use Rattle.std.specs.Str.{bytes_eq}
+use Rattle.engine_types.specs.declared.ContainerRow.{ContainerRow}
 use Rattle.engine_types.specs.declared.Engine.{Engine}
 use Rattle.run_model.specs.EngineRules.{IsSound, container_at, network_at}
 use Rattle.memory_engine.specs.Ids.{id_text}
+
+-- ids tell containers apart
+abbrev pub HasOwnIds : List ContainerRow → Type 0
+HasOwnIds rows = IsDistinct bytes_eq (map (λ row. row.id) rows)
 
 -- whether an id is neither a container's nor a network's
 abbrev pub is_free : Engine → List ℕ → Bool

@@ -1,5 +1,6 @@
 ghost use Rattle.std.specs.Prelude.{◌≡◌, IfOk, OnErr};
 ghost use Rattle.run_model.specs.EngineRules.{can_start as can_start_from, has_test as has_health_test, is_started as is_started_state, started_row};
+ghost use Rattle.memory_engine.specs.Keeping.{HasOwnIds};
 ghost use Rattle.memory_engine.specs.Serving.{inspected, logs_told, started, stopped, removed};
 
 use crate::{look_ups, refusals, rows};
@@ -10,6 +11,7 @@ use tree_base::{Memory, Text, TryCopy};
 
 /// The report on a container.
 pub fn inspect(alloc: Global, engine: &Engine, id: &Text) -> Result<Reply, Memory>
+    requires { HasOwnIds engine.now.containers }
     ensures { IfOk result (λ reply. inspected engine.now id.now ≡ (reply, engine.now)) }
 {
     let Some(row) = look_ups::container(engine, id) else {
@@ -20,6 +22,7 @@ pub fn inspect(alloc: Global, engine: &Engine, id: &Text) -> Result<Reply, Memor
 
 /// What a container has written.
 pub fn logs(alloc: Global, engine: &Engine, id: &Text) -> Result<Reply, Memory>
+    requires { HasOwnIds engine.now.containers }
     ensures { IfOk result (λ reply. logs_told engine.now id.now ≡ (reply, engine.now)) }
 {
     let Some(row) = look_ups::container(engine, id) else {
@@ -30,6 +33,7 @@ pub fn logs(alloc: Global, engine: &Engine, id: &Text) -> Result<Reply, Memory>
 
 /// Starts a container.
 pub fn start(alloc: Global, engine: &mut Engine, id: &Text) -> Result<Reply, Memory>
+    requires { HasOwnIds engine.old.containers }
     ensures ok { IfOk result (λ reply. started engine.old id.now ≡ (reply, engine.new)) }
     ensures err { OnErr result (engine.new ≡ engine.old) }
 {
@@ -50,6 +54,7 @@ pub fn start(alloc: Global, engine: &mut Engine, id: &Text) -> Result<Reply, Mem
 
 /// Stops a container.
 pub fn stop(alloc: Global, engine: &mut Engine, id: &Text) -> Result<Reply, Memory>
+    requires { HasOwnIds engine.old.containers }
     ensures ok { IfOk result (λ reply. stopped engine.old id.now ≡ (reply, engine.new)) }
     ensures err { OnErr result (engine.new ≡ engine.old) }
 {
@@ -70,6 +75,7 @@ pub fn stop(alloc: Global, engine: &mut Engine, id: &Text) -> Result<Reply, Memo
 
 /// Removes a container.
 pub fn remove(alloc: Global, engine: &mut Engine, id: &Text) -> Result<Reply, Memory>
+    requires { HasOwnIds engine.old.containers }
     ensures ok { IfOk result (λ reply. removed engine.old id.now ≡ (reply, engine.new)) }
     ensures err { OnErr result (engine.new ≡ engine.old) }
 {

@@ -1,7 +1,7 @@
-ghost use Rattle.std.specs.Prelude.{◌≡◌, IfOk, OnErr, OnOk};
+ghost use Rattle.std.specs.Prelude.{◌≡◌, IfOk, OnErr, OnOk, true, false};
 ghost use Rattle.std.specs.List.{list_all};
 ghost use Rattle.std.specs.Option.{option_copied};
-ghost use Rattle.run_model.specs.EngineRules.{endpoints_of, has_network_named};
+ghost use Rattle.run_model.specs.EngineRules.{endpoints_of, has_container_named, has_network_named};
 ghost use Rattle.memory_engine.specs.Ids.{id_text};
 ghost use Rattle.memory_engine.specs.Serving.{created, image_for, lacks_network as lacks_network_for};
 ghost use Rattle.memory_engine.specs.Serving.{networks_for, with_created};
@@ -13,17 +13,19 @@ use engine_types::{
 use std::alloc::Global;
 use tree_base::{Boxed, List, Memory, Text, TryCopy};
 
-/// Makes a container.
+/// Makes a container. `is_new` says that no container has its name.
 pub fn create(
     alloc: Global,
     engine: &mut Engine,
     name: &Text,
     spec: &ContainerSpec,
+    is_new: bool,
 ) -> Result<Reply, Memory>
+    requires { is_new ≡ true → has_container_named engine.old name.now ≡ false }
     ensures ok { IfOk result (λ reply. created engine.old name.now spec.now ≡ (reply, engine.new)) }
     ensures err { OnErr result (engine.new ≡ engine.old) }
 {
-    if look_ups::is_container_named(engine, name) {
+    if is_taken(engine, name, is_new) {
         return refusals::conflict(alloc);
     }
     let Some(image) = image_of(engine, spec) else {
@@ -34,6 +36,14 @@ pub fn create(
     }
     let image = image.copy(alloc)?;
     add(alloc, engine, name, spec, image)
+}
+
+/// Whether a container has a name, which needs no look at the containers where it is known to be new.
+fn is_taken(engine: &Engine, name: &Text, is_new: bool) -> bool
+    requires { is_new ≡ true → has_container_named engine.now name.now ≡ false }
+    ensures { result ≡ has_container_named engine.now name.now }
+{
+    !is_new && look_ups::is_container_named(engine, name)
 }
 
 /// Adds a container that nothing stands in the way of, under the next id.

@@ -14,6 +14,7 @@ mod ids;
 mod images;
 mod listing;
 mod look_ups;
+mod names;
 mod networks;
 mod refusals;
 mod rows;

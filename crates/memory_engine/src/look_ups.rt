@@ -3,19 +3,19 @@ ghost use Rattle.std.specs.List.{list_any};
 ghost use Rattle.std.specs.Option.{option_copied};
 ghost use Rattle.std.specs.Str.{bytes_eq};
 ghost use Rattle.run_model.specs.EngineRules.{container_at, has_container_named, has_network_named, has_volume, is_on, network_at};
+ghost use Rattle.memory_engine.specs.Keeping.{HasOwnIds};
 
+use crate::rows;
 use engine_types::{ContainerRow, Engine, ImageRow, NetRow};
 use tree_base::Text;
 
 /// The container with an id.
 pub fn container<'e>(engine: &'e Engine, id: &Text) -> Option<&'e ContainerRow>
+    requires { HasOwnIds engine.now.containers }
     ensures { option_copied result ≡ container_at engine.now id.now }
 {
-    engine
-        .containers
-        .as_slice()
-        .iter()
-        .find(|row| row.id == *id)
+    let at = rows::place_of_id(engine.containers.as_slice(), id)?;
+    engine.containers.get(at)
 }
 
 /// The network with an id.

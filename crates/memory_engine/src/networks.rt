@@ -1,6 +1,7 @@
 ghost use Rattle.std.specs.Prelude.{◌≡◌, IfOk, OnErr, OnOk, not, filter};
 ghost use Rattle.std.specs.Str.{bytes_eq};
 ghost use Rattle.memory_engine.specs.Ids.{id_text};
+ghost use Rattle.memory_engine.specs.Keeping.{HasOwnIds};
 ghost use Rattle.memory_engine.specs.Serving.{connected, network_in_use, network_removed};
 ghost use Rattle.memory_engine.specs.Serving.{with_network};
 
@@ -43,6 +44,7 @@ pub fn connect(
     network: &Text,
     container: &Text,
 ) -> Result<Reply, Memory>
+    requires { HasOwnIds engine.old.containers }
     ensures ok { IfOk result
         (λ reply. connected engine.old network.now container.now ≡ (reply, engine.new)) }
     ensures err { OnErr result (engine.new ≡ engine.old) }

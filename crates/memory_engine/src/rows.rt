@@ -1,19 +1,34 @@
-ghost use Rattle.std.specs.Prelude.{◌≡◌, ◌<◌, Some, length, not, filter, position};
+ghost use Rattle.std.specs.Prelude.{◌≡◌, ◌<◌, Some, false, length, not, filter, position};
 ghost use Rattle.std.specs.Prelude.{slice_get, slice_set};
+ghost use Rattle.std.specs.Option.{option_map_or};
 ghost use Rattle.std.specs.Str.{bytes_eq};
 ghost use Rattle.engine_types.specs.declared.ContainerRow.{ContainerRow};
+ghost use Rattle.memory_engine.specs.Keeping.{HasOwnIds};
 ghost use Rattle.memory_engine.specs.Serving.{with_first};
 
 use engine_types::{ContainerRow, Report};
 use std::alloc::Global;
 use std::mem;
-use tree_base::{List, Text};
+use tree_base::{List, Text, item_at};
 
-/// The place of the container with an id. No memory.
+/// The place of the container with an id. The ids that the Engine gives ascend, so their rows are found by halves. A row that
+/// it held from its beginning may have any id, and is found by going through all. No memory.
 pub fn place_of_id(rows: &[ContainerRow], id: &Text) -> Option<usize>
+    requires { HasOwnIds rows.now }
     ensures { result ≡ position (λ row. bytes_eq row.id id.now) rows.now }
 {
+    let at = rows.partition_point(|row| row.id < *id);
+    if is_at(rows, at, id) {
+        return Some(at);
+    }
     rows.iter().position(|row| row.id == *id)
+}
+
+/// Whether a container with an id stands at a place. No memory.
+fn is_at(rows: &[ContainerRow], at: usize, id: &Text) -> bool
+    ensures { result ≡ option_map_or (λ row. bytes_eq row.id id.now) (slice_get rows.now at) false }
+{
+    item_at(rows, at).is_some_and(|row| row.id == *id)
 }
 
 /// The place of the container with a name. No memory.
@@ -36,6 +51,7 @@ pub fn set_report_at(alloc: Global, rows: &mut List<ContainerRow>, at: usize, re
 
 /// Gives the container with an id another report. No memory.
 pub fn set_report(alloc: Global, rows: &mut List<ContainerRow>, id: &Text, report: Report)
+    requires { HasOwnIds rows.old }
     ensures { rows.new ≡ with_first (λ row. bytes_eq row.id id.now)
         (λ row. record row { report = report }) rows.old }
 {
@@ -46,6 +62,7 @@ pub fn set_report(alloc: Global, rows: &mut List<ContainerRow>, id: &Text, repor
 
 /// Gives the container with an id other networks. No memory.
 pub fn set_networks(alloc: Global, rows: &mut List<ContainerRow>, id: &Text, networks: List<Text>)
+    requires { HasOwnIds rows.old }
     ensures { rows.new ≡ with_first (λ row. bytes_eq row.id id.now)
         (λ row. record row { networks = networks }) rows.old }
 {

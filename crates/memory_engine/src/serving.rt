@@ -1,5 +1,7 @@
-ghost use Rattle.std.specs.Prelude.{◌≡◌, IfOk, OnErr};
-ghost use Rattle.run_model.specs.EngineRules.{Answers, IsSound};
+ghost use Rattle.std.specs.Prelude.{◌≡◌, IfOk, IfSome, OnErr, true, false};
+ghost use Rattle.run_model.specs.EngineRules.{Answers, IsSound, has_container_named};
+ghost use Rattle.memory_engine.specs.Keeping.{HasOwnIds};
+ghost use Rattle.memory_engine.specs.Naming.{name_given};
 ghost use Rattle.memory_engine.specs.Serving.{served};
 
 use crate::catalogue::Catalogue;
@@ -26,16 +28,22 @@ impl MemoryEngine {
     {
         // Ids are counted in 64 bits: the read tells the proof so.
         let _next = self.engine.next;
-        answer(alloc, &self.catalogue, &mut self.engine, request)
+        let is_new = self.names.note(alloc, request)?;
+        answer(alloc, &self.catalogue, &mut self.engine, request, is_new)
     }
 }
 
+/// Answers a request. `is_new` says that no container has the name that it gives to one.
 fn answer(
     alloc: Global,
     catalogue: &Catalogue,
     engine: &mut Engine,
     request: &Request,
+    is_new: bool,
 ) -> Result<Reply, Memory>
+    requires ids { HasOwnIds engine.old.containers }
+    requires new { is_new ≡ true
+        → IfSome (name_given request.now) (λ name. has_container_named engine.old name ≡ false) }
     ensures ok { IfOk result
         (λ reply. served catalogue.now engine.old request.now ≡ (reply, engine.new)) }
     ensures err { OnErr result (engine.new ≡ engine.old) }
@@ -44,7 +52,7 @@ fn answer(
         Request::ListContainers { project } => listing::list(alloc, engine, project),
         Request::Inspect { id } => containers::inspect(alloc, engine, id),
         Request::Logs { id } => containers::logs(alloc, engine, id),
-        Request::Create { name, spec } => creation::create(alloc, engine, name, spec.get()),
+        Request::Create { name, spec } => creation::create(alloc, engine, name, spec.get(), is_new),
         Request::Start { id } => containers::start(alloc, engine, id),
         Request::Stop { id, .. } => containers::stop(alloc, engine, id),
         Request::Remove { id } => containers::remove(alloc, engine, id),

@@ -1,8 +1,10 @@
-ghost use Rattle.std.specs.Prelude.{◌≡◌, IsOk, IfOk, [], None};
+ghost use Rattle.std.specs.Prelude.{◌≡◌, IsOk, IfOk, [], None, true};
 ghost use Rattle.memory_engine.specs.Keeping.{IsKept, IsKept-prop};
+ghost use Rattle.memory_engine.specs.Naming.{are_taken};
 
 use crate::catalogue::Catalogue;
 use crate::faults::FaultPlan;
+use crate::names::Names;
 use crate::script::Tick;
 use engine_types::Engine;
 use std::alloc::Global;
@@ -18,7 +20,9 @@ pub struct MemoryEngine {
     /// The number of exchanges that hands have logged, the greatest `u64` where there are more.
     pub made: u64,
     pub catalogue: Catalogue,
+    pub(crate) names: Names,
     pub ghost kept: { IsKept engine } by { IsKept-prop engine },
+    ghost taken: { are_taken names engine.containers ≡ true },
 }
 
 impl MemoryEngine {
@@ -53,6 +57,31 @@ impl MemoryEngine {
             },
             made: 0,
             catalogue: Catalogue::All,
+            names: Names::none(alloc),
         })
+    }
+
+    /// An Engine that holds this from its beginning, with which no exchange was made yet. No memory.
+    pub fn holding(
+        engine: Engine,
+        script: List<Tick>,
+        faults: FaultPlan,
+        catalogue: Catalogue,
+    ) -> MemoryEngine
+        requires { IsKept engine }
+        ensures engine { result.engine ≡ engine }
+        ensures script { result.script ≡ script }
+        ensures faults { result.faults ≡ faults }
+        ensures made { result.made ≡ 0 }
+        ensures catalogue { result.catalogue ≡ catalogue }
+    {
+        MemoryEngine {
+            engine,
+            script,
+            faults,
+            made: 0,
+            catalogue,
+            names: Names::unknown(),
+        }
     }
 }

@@ -2,5 +2,5 @@
 use Rattle.engine_holding.proofs.Held.{holds}
 use Rattle.engine_holding.proofs.holding.held.Goals as goal
 
-pub invariant_of-result : goal.invariant_of-result
-invariant_of-result c = record { kept = holds c.args.engine c.requires }
+pub holding-requires : goal.holding-requires
+holding-requires c = holds c.args.engine c.requires
