@@ -3,7 +3,7 @@ ghost use Rattle.outside_api.specs.Clock.{new_clock, after_now, after_pause, aft
 
 /// The clock of a hand in memory: it begins at 0 and rises by the pauses. It counts its readings and pauses,
 /// and how often it was asked whether to stop.
-#[derive(Debug, Drop)]
+#[derive(Drop)]
 pub struct HandClock {
     /// The time in milliseconds.
     pub time: u64,

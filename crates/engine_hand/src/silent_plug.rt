@@ -6,7 +6,7 @@ use std::alloc::Global;
 use tree_base::Text;
 
 /// A plug of hands whose peers close each connection without an answer. It tells no Engine, and no dial fails.
-#[derive(Debug, Drop)]
+#[derive(Drop)]
 pub struct SilentPlug {
     dialled: u64,
 }

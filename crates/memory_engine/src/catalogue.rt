@@ -5,7 +5,7 @@ use crate::look_ups::is_among;
 use tree_base::{List, Text};
 
 /// The names of the images that can be pulled, as they are written.
-#[derive(Debug, Drop)]
+#[derive(Drop)]
 pub enum Catalogue {
     /// Every name.
     All,

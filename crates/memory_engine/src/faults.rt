@@ -1,7 +1,7 @@
 use tree_base::List;
 
 /// What goes wrong with the exchanges on an Engine in memory, which count from 1 over its life.
-#[derive(Debug, Drop)]
+#[derive(Drop)]
 pub struct FaultPlan {
     /// The exchanges whose answer is lost.
     pub lost: List<LostAt>,
@@ -12,7 +12,7 @@ pub struct FaultPlan {
 }
 
 /// An exchange whose answer is lost, and whether the request takes effect.
-#[derive(Debug, Clone, Copy, PartialEq, Eq)]
+#[derive(Clone, Copy)]
 pub struct LostAt {
     pub exchange: u64,
     pub effect: bool,
