@@ -1,4 +1,5 @@
--- The labels by which an Engine's containers, networks and volumes are known to belong to a project: the names are those of Docker Compose, and one is this program's own.
+-- The labels by which an Engine's containers, networks and volumes are known to belong to a project: those of Docker
+-- Compose, and one of this program's own.
 use Rattle.std.specs.Prelude.{ℕ, List, Option, find, codes}
 use Rattle.std.specs.Option.{option_map}
 use Rattle.std.specs.Str.{bytes_eq}

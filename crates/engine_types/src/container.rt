@@ -73,7 +73,8 @@ pub struct ContainerSpec {
 }
 
 impl ContainerSpec {
-    /// What a container is made with of which nothing is said: it has no label, and each other field is None. No memory.
+    /// What a container is made with of which nothing is said: it has no label, and each other field is None.
+    /// No memory.
     pub fn empty(alloc: Global) -> ContainerSpec
         ensures { result ≡ empty_spec }
     {

@@ -2,7 +2,9 @@
 //! Compose writes, and one of this program's own.
 
 ghost use Rattle.std.specs.Prelude.{◌≡◌};
-ghost use Rattle.engine_types.specs.Labels.{project_label, service_label, number_label, hash_label, version_label, hash_version, oneoff_label, not_oneoff, network_label, volume_label};
+ghost use Rattle.engine_types.specs.Labels.{project_label, service_label, number_label, hash_label};
+ghost use Rattle.engine_types.specs.Labels.{version_label, hash_version, oneoff_label, not_oneoff};
+ghost use Rattle.engine_types.specs.Labels.{network_label, volume_label};
 
 /// The name of the project.
 pub const PROJECT: &str = "com.docker.compose.project";
