@@ -58,7 +58,7 @@ pub struct Attach {
 
 /// What a slot's start waits for: a condition on another slot, by its place. With `restart` the slot's container
 /// starts anew where the other one is replaced.
-#[derive(Debug, Clone, Copy, PartialEq, Eq)]
+#[derive(Clone, Copy, PartialEq, Eq)]
 pub struct Need {
     pub slot: u32,
     pub condition: Condition,
@@ -67,7 +67,7 @@ pub struct Need {
 }
 
 /// What is asked of a container: the conditions of the Compose Specification's `depends_on`, and `Running`.
-#[derive(Debug, Clone, Copy, PartialEq, Eq)]
+#[derive(Clone, Copy, PartialEq, Eq)]
 pub enum Condition {
     Started,
     Healthy,
@@ -76,7 +76,7 @@ pub enum Condition {
 }
 
 /// When an image is pulled: the Compose Specification's `pull_policy`.
-#[derive(Debug, Clone, Copy, PartialEq, Eq)]
+#[derive(Clone, Copy, PartialEq, Eq)]
 pub enum Policy {
     Always,
     Missing,
@@ -84,7 +84,7 @@ pub enum Policy {
 }
 
 /// The kinds of things that a project names.
-#[derive(Debug, Clone, Copy, PartialEq, Eq)]
+#[derive(Clone, Copy, PartialEq, Eq)]
 pub enum Kind {
     Service,
     Network,

@@ -33,7 +33,7 @@ impl TryCopy for Outcome {
 }
 
 /// Why a response is none.
-#[derive(Debug, Clone, Copy, PartialEq, Eq)]
+#[derive(Clone, Copy, PartialEq, Eq)]
 pub enum WireEnd {
     Fault,
     Ended,

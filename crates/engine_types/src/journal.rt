@@ -29,7 +29,7 @@ pub enum Entry {
 }
 
 /// What was passed: the deadline, with the reading of the clock in milliseconds, or the number of entries.
-#[derive(Debug, Clone, Copy, PartialEq, Eq)]
+#[derive(Clone, Copy, PartialEq, Eq)]
 pub enum LateWhy {
     Deadline(u64),
     Entries,
@@ -37,7 +37,7 @@ pub enum LateWhy {
 
 /// What bounds a run. The deadline is in milliseconds of the hands' clock; `wait` gives each slot its goal;
 /// `stop_seconds` stands in place of each container's own.
-#[derive(Debug, Clone, Copy, PartialEq, Eq)]
+#[derive(Clone, Copy, PartialEq, Eq)]
 pub struct RunLimits {
     pub workers: u32,
     pub deadline: Option<u64>,

@@ -17,7 +17,7 @@ pub struct Action {
 
 /// What an action does. Slots, networks and volumes are places in the declared set, containers places
 /// among those that were seen.
-#[derive(Debug, Clone, Copy, PartialEq, Eq)]
+#[derive(Clone, Copy, PartialEq, Eq)]
 pub enum ActionKind {
     MakeVolume { volume: u32 },
     MakeNetwork { network: u32 },

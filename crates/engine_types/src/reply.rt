@@ -77,7 +77,7 @@ impl TryCopy for Listed {
 }
 
 /// The state of a container: the Engine API's words for `State.Status`.
-#[derive(Debug, Clone, Copy, PartialEq, Eq)]
+#[derive(Clone, Copy, PartialEq, Eq)]
 pub enum ContainerState {
     Created,
     Running,
@@ -90,7 +90,7 @@ pub enum ContainerState {
 
 /// The health of a container: the Engine API's words for `State.Health.Status`, `Absent` for `none` or
 /// no health.
-#[derive(Debug, Clone, Copy, PartialEq, Eq)]
+#[derive(Clone, Copy, PartialEq, Eq)]
 pub enum Health {
     Absent,
     Starting,
@@ -99,7 +99,7 @@ pub enum Health {
 }
 
 /// What an inspection reports of a container.
-#[derive(Debug, Clone, Copy, PartialEq, Eq)]
+#[derive(Clone, Copy, PartialEq, Eq)]
 pub struct Report {
     pub state: ContainerState,
     pub exit_code: i64,

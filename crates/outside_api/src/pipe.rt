@@ -5,7 +5,7 @@ ghost use Rattle.outside_api.specs.Pipes.{Talk, ToldBy, IsGotOf, after_write, af
 use outside_files::SinkAnswer;
 
 /// What a read of a connection answers.
-#[derive(Debug, Clone, Copy, PartialEq, Eq)]
+#[derive(Clone, Copy, PartialEq, Eq)]
 pub enum PipeAnswer {
     /// So many bytes were read into the room; none is the end.
     Got(usize),

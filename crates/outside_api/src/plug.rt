@@ -12,7 +12,7 @@ use std::alloc::Global;
 use tree_base::Text;
 
 /// The Engine that hands are to speak with.
-#[derive(Debug, Drop)]
+#[derive(Drop)]
 pub enum Target {
     /// The one behind a socket at a path.
     Socket(Text),

@@ -8,7 +8,7 @@ use crate::pipe::Pipe;
 use std::alloc::Global;
 
 /// What a dial answers.
-#[derive(Debug, Drop)]
+#[derive(Drop)]
 pub enum DialAnswer<T> {
     Dialled(T),
     Failed,
