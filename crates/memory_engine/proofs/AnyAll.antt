@@ -86,6 +86,11 @@ module _ {X : Type 0} where
       (λ e. let clash : Some x ≡ None = rw e at missed in cc)
       (λ e. rw e (any-missed p xs (rw e at missed)))
 
+  -- a look-up finds something where some item passes
+  pub any-found : (p : X → Bool) (xs : List X) → is_some (find p xs) ≡ list_any p xs
+  any-found p [] = refl
+  any-found p (x ∷ xs) = by_cases (p x) (λ e. rw e refl) (λ e. rw e (any-found p xs))
+
   -- every item passes what all pass
   pub all-among : (p : X → Bool) (xs : List X) (x : X) → list_all p xs ≡ true → Among xs x → p x ≡ true
   all-among p [] x all h = absurd h

@@ -1,6 +1,6 @@
 -- What holds of each outcome of a request holds of its outcome.
 use Rattle.std.proofs.Common.{◌≡◌, ℕ, List, Option, Some, None, Bor, refl}
-use Rattle.std.specs.Prelude.{is_none}
+use Rattle.std.specs.Prelude.{is_none, is_some}
 use Rattle.std.specs.Option.{option_copied, option_map_or}
 use Rattle.engine_types.specs.declared.ContainerRow.{ContainerRow}
 use Rattle.engine_types.specs.declared.Engine.{Engine}
@@ -24,3 +24,7 @@ on_container_both P engine id act none some =
 pub none_copied : {T : Type 0} (o : Option (Bor T)) → is_none (option_copied o) ≡ is_none o
 none_copied None = refl
 none_copied (Some x) = refl
+
+pub some_copied : {T : Type 0} (o : Option (Bor T)) → is_some (option_copied o) ≡ is_some o
+some_copied None = refl
+some_copied (Some x) = refl

@@ -62,11 +62,7 @@ pub fn is_container_named(engine: &Engine, name: &Text) -> bool
 pub fn is_network_named(engine: &Engine, name: &Text) -> bool
     ensures { result ≡ has_network_named engine.now name.now }
 {
-    engine
-        .networks
-        .as_slice()
-        .iter()
-        .any(|row| *name == row.name)
+    network_named(engine, name).is_some()
 }
 
 /// Whether a volume is there.

@@ -10,8 +10,7 @@ use crate::script::{Change, Tick};
 use crate::state::MemoryEngine;
 use engine_types::{ContainerRow, ContainerState, Engine, Report};
 use std::alloc::Global;
-use std::mem;
-use tree_base::{List, Text};
+use tree_base::List;
 
 impl MemoryEngine {
     /// Applies the first tick of the script, if there is one, and uses it up. A tick for a container that
@@ -87,20 +86,8 @@ fn take_first(script: &mut List<Tick>) -> Option<Tick>
     ensures { MatchOption result ((script.old ≡ []) × (script.new ≡ []))
         (λ tick. script.old ≡ tick ∷ script.new) }
 {
-    let last = script.pop()?;
-    let Tick { container, change } = last;
-    let name = container.into_string();
-    let alloc = *name.allocator();
-    let last = Tick {
-        container: Text::from_string(name),
-        change,
-    };
-    let mut ticks = mem::replace(script, List::new(alloc)).into_vec();
-    if ticks.is_empty() {
-        return Some(last);
+    if script.is_empty() {
+        return None;
     }
-    let first = ticks.remove(0);
-    let _ = ticks.push(last);
-    *script = List::from_vec(ticks);
-    Some(first)
+    Some(script.remove(0))
 }
