@@ -93,6 +93,7 @@ impl Hand for MemoryHand {
         ensures time { time_of self.new ≡ time_of self.old }
     {
         if self.log.reserve(1).is_err() {
+            drop(request);
             return Outcome::Memory;
         }
         self.engine.made = self.engine.made.saturating_add(1);

@@ -54,7 +54,10 @@ fn answered_by(alloc: Global, engine: &mut MemoryEngine, request: &Request) -> (
     match engine.serve(alloc, request) {
         Ok(reply) => match reply.copy(alloc) {
             Ok(copy) => (Outcome::Answered(reply), Outcome::Answered(copy)),
-            Err(_) => (Outcome::Memory, Outcome::Memory),
+            Err(_) => {
+                drop(reply);
+                (Outcome::Memory, Outcome::Memory)
+            }
         },
         Err(_) => (Outcome::Memory, Outcome::Memory),
     }

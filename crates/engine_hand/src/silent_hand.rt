@@ -50,9 +50,11 @@ impl Hand for SilentHand {
 
     fn exchange(&mut self, _alloc: Global, request: Request) -> Outcome {
         if self.log.reserve(1).is_err() {
+            drop(request);
             return Outcome::Memory;
         }
         if self.ends.reserve(1).is_err() {
+            drop(request);
             return Outcome::Memory;
         }
         let cause = WireEnd::Ended;
