@@ -1,6 +1,6 @@
 -- An Engine that can be held from its beginning is sound, and the ids that it will give are free.
-use Rattle.std.proofs.Common.{◌≡◌, ℕ, zero, suc, ◌+◌, ◌-◌, ◌/◌, ◌%◌, ◌^◌, ◌<◌, ◌≤◌, Bool, true, false, not, ◌&&◌, ◌==◌, List, [], ◌∷◌, ◌++◌, Option, Some, None, map, length, replicate, refl, sym, ap, ◌∙◌, subst, arith}
-use Rattle.std.specs.Prelude.{find, is_some, is_none}
+use Rattle.std.proofs.Common.{◌≡◌, ℕ, zero, suc, ◌+◌, ◌-◌, ◌/◌, ◌%◌, ◌≤◌, true, false, not, ◌&&◌, ◌==◌, List, [], ◌∷◌, map, length, replicate, refl, ◌∙◌, subst, arith}
+use Rattle.std.specs.Prelude.{find, is_none}
 use Rattle.std.specs.Fmt.{digit_glyph, digits, digits_onto}
 use Rattle.std.specs.List.{list_all, list_any, IsDistinct, AllByRecursion}
 use Rattle.std.specs.Str.{bytes_eq}
@@ -14,7 +14,7 @@ use Rattle.engine_types.specs.declared.NetRow.{NetRow}
 use Rattle.run_model.specs.EngineRules.{container_at, network_at}
 use Rattle.engine_holding.specs.Holding.{are_apart, are_attached, are_foreign, are_told_apart, can_be_held, is_foreign}
 use Rattle.memory_engine.specs.Ids.{id_text}
-use Rattle.memory_engine.specs.Keeping.{IsKept, is_free}
+use Rattle.memory_engine.specs.Keeping.{IsKept}
 use Rattle.memory_engine.proofs.Texts.{by_cases, same_text}
 
 -- there are at most as many digits as there are steps

@@ -1,7 +1,7 @@
 -- An Engine in memory answers each request as an Engine may.
-use Rattle.std.proofs.Common.{◌≡◌, ℕ, ◌+◌, ◌^◌, ◌<◌, Bool, true, false, not, cond, if◌then◌else◌, ◌&&◌, ◌||◌, List, [], ◌∷◌, ◌++◌, Option, Some, None, Result, Ok, Err, map, refl, sym, ap, ◌∙◌, subst, ⊎_elim, arith}
-use Rattle.std.specs.Prelude.{filter, find, is_some, is_none, unwrap_or, IfOk}
-use Rattle.std.specs.List.{list_all, list_any, filter_map, cons_option, AllZip}
+use Rattle.std.proofs.Common.{◌≡◌, ℕ, ◌^◌, ◌<◌, true, not, if◌then◌else◌, ◌||◌, List, [], ◌∷◌, ◌++◌, Option, Some, Result, Ok, Err, refl, sym, ap, ◌∙◌, subst}
+use Rattle.std.specs.Prelude.{find, is_some, is_none, unwrap_or, IfOk}
+use Rattle.std.specs.List.{list_all, filter_map, AllZip}
 use Rattle.std.specs.Option.{option_map, option_map_or}
 use Rattle.std.specs.Str.{bytes_eq}
 use Rattle.std.proofs.lemmas.Bool.{and_parts, or_parts, cond_both, not-false}
@@ -14,12 +14,12 @@ use Rattle.engine_types.specs.declared.NetRow.{NetRow}
 use Rattle.engine_types.specs.declared.NetworkSpec.{NetworkSpec}
 use Rattle.engine_types.specs.declared.Reply.{Reply}
 use Rattle.engine_types.specs.declared.Request.{Request}
-use Rattle.run_model.specs.EngineRules.{Answers, ChangesContainer, ChangesImage, ChangesNetwork, ChangesVolume, Creates, Grants, IsSound, can_start, container_at, created_row, endpoints_of, has_container_named, has_network_named, has_volume, image_at, is_live, is_on, is_started, network_at, network_has_name, started_row, stopped_row}
+use Rattle.run_model.specs.EngineRules.{Answers, ChangesContainer, ChangesVolume, IsSound, can_start, container_at, created_row, endpoints_of, has_container_named, has_network_named, has_volume, image_at, is_live, is_on, is_started, network_at, network_has_name, started_row, stopped_row}
 use Rattle.memory_engine.specs.declared.catalogue.Catalogue.{Catalogue}
 use Rattle.memory_engine.specs.Ids.{id_text, image_id_text}
 use Rattle.memory_engine.specs.Keeping.{IsKept}
-use Rattle.memory_engine.specs.Serving.{can_be_pulled, conflict, connected, created, forbidden, image_for, image_told, joined_row, lacks_network, logs_told, network_in_use, network_named, network_removed, networks_for, not_found, pulled, removed, served, started, stopped, volume_in_use, volume_removed, with_container, with_created, with_first, with_image, with_network, with_volume, without_container, without_network, without_volume}
-use Rattle.memory_engine.proofs.Texts.{by_cases, same_text, bytes_eq_apart, bytes_eq_alike, bytes_eq_flips}
+use Rattle.memory_engine.specs.Serving.{can_be_pulled, conflict, connected, created, forbidden, image_for, image_told, joined_row, lacks_network, logs_told, network_in_use, network_named, network_removed, networks_for, not_found, pulled, removed, served, started, stopped, volume_in_use, volume_removed, with_container, with_created, with_image, with_network, with_volume, without_container, without_network, without_volume}
+use Rattle.memory_engine.proofs.Texts.{by_cases, bytes_eq_apart, bytes_eq_alike, bytes_eq_flips}
 use Rattle.memory_engine.proofs.AnyAll.{any-alike, any-filter, any-push, find-any, some_of}
 use Rattle.memory_engine.proofs.Distinct.{find-among}
 use Rattle.memory_engine.proofs.KeyedRows.{find-filter, find-push, find-with_first}

@@ -1,13 +1,12 @@
 -- Tests of some and of every item of a list.
-use Rattle.std.proofs.Common.{◌≡◌, ℕ, Bool, true, false, not, cond, if◌then◌else◌, ◌&&◌, ◌||◌, List, [], ◌∷◌, ◌++◌, Option, Some, None, map, refl, sym, ap, ◌∙◌, inl, inr, ⊎_elim, ◌⊎◌}
+use Rattle.std.proofs.Common.{◌≡◌, ℕ, Bool, true, false, not, if◌then◌else◌, ◌||◌, List, [], ◌∷◌, ◌++◌, Option, Some, None, map, refl, sym, ap, ◌∙◌, inl, inr, ⊎_elim}
 use Rattle.std.specs.Prelude.{filter, find, is_some, is_none}
-use Rattle.std.specs.List.{list_all, list_any, filter_map, cons_option}
-use Rattle.std.specs.Option.{option_map, option_map_or}
+use Rattle.std.specs.List.{list_all, list_any}
 use Rattle.std.specs.Str.{bytes_eq}
-use Rattle.std.proofs.lemmas.Bool.{and_parts, and_from, or_parts, or_cases, not-false, not-true}
+use Rattle.std.proofs.lemmas.Bool.{and_parts, and_from, or_parts}
 use Rattle.run_model.specs.EngineRules.{Among}
 use Rattle.memory_engine.specs.Serving.{with_first}
-use Rattle.memory_engine.proofs.Texts.{by_cases, same_text, bytes_eq_itself, bytes_eq_flips, bytes_eq_alike, bytes_eq_apart}
+use Rattle.memory_engine.proofs.Texts.{by_cases, same_text, bytes_eq_flips, bytes_eq_alike}
 
 pub or_comm : (a b : Bool) → (a || b) ≡ (b || a)
 or_comm a b = by_cases a (λ e. by_cases b (λ f. rw (e, f) refl) (λ f. rw (e, f) refl)) (λ e. by_cases b (λ f. rw (e, f) refl) (λ f. rw (e, f) refl))

@@ -1,5 +1,5 @@
 -- Keys that differ, after a row is changed, taken out or added.
-use Rattle.std.proofs.Common.{◌≡◌, ℕ, Bool, true, false, not, cond, if◌then◌else◌, ◌&&◌, ◌||◌, List, [], ◌∷◌, ◌++◌, Option, Some, None, map, refl, sym, ap, ◌∙◌, subst, inl, inr, ⊎_elim}
+use Rattle.std.proofs.Common.{◌≡◌, ℕ, Bool, false, List, [], ◌∷◌, ◌++◌, Some, map, refl, sym, ◌∙◌, subst, ⊎_elim}
 use Rattle.std.specs.Prelude.{filter, find}
 use Rattle.std.specs.List.{list_any, IsDistinct, AllByRecursion}
 use Rattle.std.specs.Str.{bytes_eq}
@@ -9,7 +9,7 @@ use Rattle.std.proofs.lemmas.Map.Keys.{IsDistinct-push, IsDistinct-head, IsDisti
 use Rattle.engine_types.specs.declared.ImageRow.{ImageRow}
 use Rattle.run_model.specs.EngineRules.{Among}
 use Rattle.memory_engine.specs.Serving.{with_first, with_image}
-use Rattle.memory_engine.proofs.Texts.{by_cases, same_text, bytes_eq_itself, bytes_eq_flips, bytes_eq_alike, bytes_eq_apart}
+use Rattle.memory_engine.proofs.Texts.{by_cases, same_text, bytes_eq_itself}
 use Rattle.memory_engine.proofs.AnyAll.{any-map}
 
 module _ {X : Type 0} (key : X → List ℕ) where

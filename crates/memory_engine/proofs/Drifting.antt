@@ -1,15 +1,14 @@
 -- A tick of the script is an own change of the Engine, or none.
-use Rattle.std.proofs.Common.{◌≡◌, ℕ, zero, suc, Bool, true, false, cond, if◌then◌else◌, List, [], ◌∷◌, Option, Some, None, map, refl, sym, ap, subst, ◌∙◌, inl, inr, ⊎_elim}
+use Rattle.std.proofs.Common.{◌≡◌, ℕ, Bool, true, false, List, [], ◌∷◌, Option, Some, None, map, refl, sym, ap, subst, ◌∙◌, inl, inr}
 use Rattle.std.specs.Prelude.{find, is_some}
 use Rattle.std.specs.List.{list_all, IsDistinct}
-use Rattle.std.specs.Option.{option_map}
 use Rattle.std.specs.Str.{bytes_eq}
 use Rattle.std.proofs.lemmas.Map.Keys.{IsDistinct-tail}
 use Rattle.engine_types.specs.declared.ContainerRow.{ContainerRow}
 use Rattle.engine_types.specs.declared.ContainerState.{ContainerState}
 use Rattle.engine_types.specs.declared.Engine.{Engine}
 use Rattle.engine_types.specs.declared.Report.{Report}
-use Rattle.run_model.specs.EngineRules.{Among, ChangesContainer, ChangesItself, Drifts, IsSound, TurnsInto, container_at, network_at}
+use Rattle.run_model.specs.EngineRules.{ChangesContainer, Drifts, TurnsInto, network_at}
 use Rattle.memory_engine.specs.declared.script.Change.{Change}
 use Rattle.memory_engine.specs.declared.script.Tick.{Tick}
 use Rattle.memory_engine.specs.Keeping.{IsKept}

@@ -1,23 +1,22 @@
 -- An Engine in memory stays sound, and its next ids stay free.
-use Rattle.std.proofs.Common.{◌≡◌, ℕ, ◌+◌, ◌^◌, ◌<◌, ◌≤◌, Bool, true, false, not, cond, if◌then◌else◌, ◌&&◌, ◌||◌, List, [], ◌∷◌, ◌++◌, Option, Some, None, map, refl, sym, ap, ◌∙◌, subst, ⊎_elim, arith}
+use Rattle.std.proofs.Common.{◌≡◌, ℕ, ◌^◌, ◌<◌, Bool, true, false, not, if◌then◌else◌, List, [], ◌∷◌, ◌++◌, Option, Some, None, refl, ap, ◌∙◌, arith}
 use Rattle.std.specs.Prelude.{filter, find, is_some, is_none}
 use Rattle.std.specs.List.{list_all, list_any, filter_map, cons_option, IsDistinct}
-use Rattle.std.specs.Option.{option_map, option_map_or}
+use Rattle.std.specs.Option.{option_map}
 use Rattle.std.specs.Str.{bytes_eq}
-use Rattle.std.proofs.lemmas.Bool.{and_parts, and_from, or_parts, cond_both, not-true}
+use Rattle.std.proofs.lemmas.Bool.{and_parts, and_from, cond_both}
 use Rattle.engine_types.specs.declared.ContainerRow.{ContainerRow}
 use Rattle.engine_types.specs.declared.ContainerSpec.{ContainerSpec}
 use Rattle.engine_types.specs.declared.Endpoint.{Endpoint}
 use Rattle.engine_types.specs.declared.Engine.{Engine}
-use Rattle.engine_types.specs.declared.ImageRow.{ImageRow}
 use Rattle.engine_types.specs.declared.NetRow.{NetRow}
 use Rattle.engine_types.specs.declared.NetworkSpec.{NetworkSpec}
-use Rattle.run_model.specs.EngineRules.{Among, IsSound, container_at, created_row, endpoints_of, has_container_named, has_volume, is_on, network_at}
+use Rattle.run_model.specs.EngineRules.{IsSound, container_at, created_row, endpoints_of, has_container_named, has_volume, is_on, network_at}
 use Rattle.memory_engine.specs.Ids.{id_text}
 use Rattle.memory_engine.specs.Keeping.{IsKept, is_free}
 use Rattle.memory_engine.specs.Serving.{network_in_use, network_named, networks_for, with_created, with_first, with_image, with_network, with_volume, without_container, without_network, without_volume}
-use Rattle.memory_engine.proofs.Texts.{by_cases, same_text, bytes_eq_itself, bytes_eq_flips, bytes_eq_apart}
-use Rattle.memory_engine.proofs.AnyAll.{all-among, all-filter, all-from_among, all-push, all-weaker, all-with_first, any-among, among-find, any-missed, none_of, some_from}
+use Rattle.memory_engine.proofs.Texts.{by_cases, bytes_eq_flips}
+use Rattle.memory_engine.proofs.AnyAll.{all-among, all-filter, all-from_among, all-push, all-weaker, all-with_first, any-among, among-find, none_of}
 use Rattle.memory_engine.proofs.Distinct.{distinct-filter, distinct-push, distinct-texts_filter, distinct-texts_push, distinct-with_image, find-among, keys-with_first}
 use Rattle.memory_engine.proofs.KeyedRows.{find-filter, find-push}
 use Rattle.memory_engine.proofs.NumberedIds.{id_text-apart}

@@ -1,7 +1,7 @@
 -- Look-ups in rows by a key, after a row is changed, taken out or added.
-use Rattle.std.proofs.Common.{◌≡◌, ℕ, zero, suc, ◌+◌, length, position, slice_get, nat_lt, subst, inl, inr, arith, Bool, true, false, not, cond, if◌then◌else◌, ◌&&◌, ◌||◌, List, [], ◌∷◌, ◌++◌, Option, Some, None, map, refl, sym, ap, ◌∙◌}
-use Rattle.std.specs.Prelude.{filter, find, is_some, is_none}
-use Rattle.std.specs.List.{list_all, list_any, position_or_len, IsDistinct}
+use Rattle.std.proofs.Common.{◌≡◌, ℕ, zero, suc, length, position, slice_get, subst, inl, inr, arith, true, false, not, if◌then◌else◌, List, [], ◌∷◌, ◌++◌, Option, Some, None, map, refl}
+use Rattle.std.specs.Prelude.{filter, find}
+use Rattle.std.specs.List.{position_or_len, IsDistinct}
 use Rattle.std.specs.Option.{option_map, option_map_or}
 use Rattle.std.specs.Str.{bytes_eq}
 use Rattle.std.proofs.lemmas.Bool.{lt-ltb}
@@ -10,7 +10,7 @@ use Rattle.std.proofs.lemmas.Option.{slice_get_within}
 use Rattle.run_model.specs.EngineRules.{Among}
 use Rattle.memory_engine.specs.Serving.{with_first}
 use Rattle.memory_engine.proofs.Distinct.{AllByRecursion-among}
-use Rattle.memory_engine.proofs.Texts.{by_cases, same_text, bytes_eq_itself, bytes_eq_flips, bytes_eq_alike, bytes_eq_apart}
+use Rattle.memory_engine.proofs.Texts.{by_cases, same_text, bytes_eq_alike, bytes_eq_apart}
 
 module _ {X : Type 0} (key : X → List ℕ) where
   -- the row with a key is changed, and keeps its key

@@ -1,9 +1,9 @@
 -- The listings of an Engine in memory show each of its rows once.
-use Rattle.std.proofs.Common.{◌≡◌, ℕ, Bool, true, false, cond, ◌||◌, List, [], ◌∷◌, ◌++◌, Option, Some, None, map, fold, refl, sym, ap, ◌∙◌, subst, ⊎_elim}
-use Rattle.std.specs.Prelude.{filter, find}
-use Rattle.std.specs.List.{list_any, filter_map, cons_option, IsDistinct}
+use Rattle.std.proofs.Common.{◌≡◌, ℕ, true, false, ◌||◌, List, [], ◌∷◌, Option, Some, None, map, fold, refl, sym, ap, ◌∙◌, subst}
+use Rattle.std.specs.Prelude.{filter}
+use Rattle.std.specs.List.{list_any, filter_map, cons_option}
 use Rattle.std.specs.Option.{option_map, option_map_or}
-use Rattle.std.specs.Ordering.{nat_cmp, eq_by_cmp, is_eq}
+use Rattle.std.specs.Ordering.{nat_cmp, is_eq}
 use Rattle.std.specs.declared.cmp.Ordering.{Ordering}
 use Rattle.std.specs.Cmp.Lexicographic.{slice_cmp, texts_ties}
 use Rattle.std.specs.Str.{bytes_eq}
@@ -12,8 +12,8 @@ use Rattle.engine_types.specs.declared.Engine.{Engine}
 use Rattle.engine_types.specs.declared.Listed.{Listed}
 use Rattle.engine_types.specs.declared.NetRow.{NetRow}
 use Rattle.run_model.specs.EngineRules.{Among, IsSound, ListsContainers, ListsNetworks, ListsVolumes, Shows, container_at, is_of_project, network_at, network_has_name}
-use Rattle.memory_engine.specs.Listing.{listed_row, listing, network_name, network_names, put_at, with_name}
-use Rattle.memory_engine.proofs.Texts.{by_cases, same_text, bytes_eq_itself}
+use Rattle.memory_engine.specs.Listing.{listed_row, listing, network_name, put_at, with_name}
+use Rattle.memory_engine.proofs.Texts.{by_cases, same_text}
 use Rattle.memory_engine.proofs.AnyAll.{among-filter, among-find, among-map, among-mapped, or_assoc, or_comm}
 use Rattle.memory_engine.proofs.Distinct.{distinct-filter, find-among}
 

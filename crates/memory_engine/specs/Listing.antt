@@ -1,5 +1,5 @@
 -- How an Engine in memory lists the containers of a project.
-use Rattle.std.specs.Prelude.{ℕ, List, [], ◌∷◌, Option, filter, fold, map, find}
+use Rattle.std.specs.Prelude.{ℕ, List, [], ◌∷◌, Option, filter, fold, map}
 use Rattle.std.specs.Ordering.{nat_cmp}
 use Rattle.std.specs.declared.cmp.Ordering.{Ordering}
 use Rattle.std.specs.Cmp.Lexicographic.{slice_cmp}

@@ -1,5 +1,5 @@
 -- What is told of a connection, and what a read on it may answer.
-use Rattle.std.specs.Prelude.{◌≡◌, ℕ, ◌<◌, ◌≤◌, ◌==◌, ◌||◌, Bool, true, false, List, ◌++◌, length, take, Option, Some, None}
+use Rattle.std.specs.Prelude.{◌≡◌, ℕ, ◌≤◌, ◌==◌, ◌||◌, Bool, false, List, ◌++◌, take, Option, Some, None}
 use Rattle.outside_files.specs.Counts.{Rose}
 use Rattle.outside_api.specs.declared.pipe.PipeAnswer.{PipeAnswer}
 use Rattle.outside_api.specs.declared.pipe.PipeAnswer.TheVariants.{Got, Failed}

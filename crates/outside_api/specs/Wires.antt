@@ -1,5 +1,5 @@
 -- What a dial may answer, and what a closed connection leaves.
-use Rattle.std.specs.Prelude.{◌≡◌, ◌⊎◌, ℕ, zero, suc, ◌+◌, ◌<◌, List, [], ◌∷◌, ◌++◌, Option, Some, None}
+use Rattle.std.specs.Prelude.{◌≡◌, ℕ, zero, suc, ◌+◌, List, [], ◌∷◌, ◌++◌, Option, Some, None}
 use Rattle.outside_files.specs.Counts.{Rose}
 use Rattle.outside_api.specs.Pipes.{Talk}
 use Rattle.outside_api.specs.declared.wire.DialAnswer.{DialAnswer}

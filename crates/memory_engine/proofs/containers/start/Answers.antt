@@ -1,5 +1,5 @@
 -- The container that was found is the one that is changed.
-use Rattle.std.proofs.Common.{◌≡◌, ◌∙◌, Bool, true, false, sym, ap, refl, Some, List, rules}
+use Rattle.std.proofs.Common.{◌≡◌, ◌∙◌, true, false, ap, refl, Some, rules}
 use Rattle.std.specs.Str.{bytes_eq}
 use Rattle.engine_types.specs.declared.ContainerRow.{ContainerRow}
 use Rattle.engine_types.specs.declared.Report.{Report}

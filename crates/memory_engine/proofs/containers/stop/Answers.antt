@@ -1,5 +1,5 @@
 -- The container that was found is the one that is changed.
-use Rattle.std.proofs.Common.{◌≡◌, ◌∙◌, Bool, true, false, sym, ap, refl, Some, List, pos, rules}
+use Rattle.std.proofs.Common.{◌≡◌, ◌∙◌, true, refl, Some, rules}
 use Rattle.std.specs.Str.{bytes_eq}
 use Rattle.engine_types.specs.declared.ContainerRow.{ContainerRow}
 use Rattle.run_model.specs.EngineRules.{container_at, is_live, stopped_row}

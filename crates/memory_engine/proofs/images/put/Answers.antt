@@ -1,5 +1,5 @@
 -- An image keeps its place, or goes last.
-use Rattle.std.proofs.Common.{◌≡◌, sym, rules}
+use Rattle.std.proofs.Common.{rules}
 use Rattle.memory_engine.proofs.Places.{with_image-at, with_image-last}
 use Rattle.memory_engine.proofs.images.put.Goals as goal
 

@@ -1,5 +1,5 @@
 -- The container at the place of an id is the one with that id.
-use Rattle.std.proofs.Common.{◌≡◌, ◌∙◌, sym}
+use Rattle.std.proofs.Common.{◌∙◌, sym}
 use Rattle.std.specs.Str.{bytes_eq}
 use Rattle.engine_types.specs.declared.ContainerRow.{ContainerRow}
 use Rattle.memory_engine.proofs.Places.{find-at, find-nowhere}

@@ -1,5 +1,5 @@
 -- A network has the name where a look-up finds one.
-use Rattle.std.proofs.Common.{◌≡◌, ◌∙◌, sym, ap}
+use Rattle.std.proofs.Common.{◌∙◌, sym, ap}
 use Rattle.std.specs.Prelude.{is_some}
 use Rattle.std.specs.Str.{bytes_eq}
 use Rattle.engine_types.specs.declared.NetRow.{NetRow}

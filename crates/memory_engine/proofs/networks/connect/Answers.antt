@@ -1,5 +1,5 @@
 -- The container that was found is the one that joins.
-use Rattle.std.proofs.Common.{◌≡◌, ◌∙◌, Bool, true, false, [], ◌∷◌, ◌++◌, sym, ap, refl, Some, List, ℕ, rules, tests}
+use Rattle.std.proofs.Common.{◌≡◌, ◌∙◌, false, [], ◌∷◌, ◌++◌, sym, ap, refl, Some, List, ℕ, rules, tests}
 use Rattle.std.specs.Prelude.{is_none}
 use Rattle.std.specs.Str.{bytes_eq}
 use Rattle.engine_types.specs.declared.ContainerRow.{ContainerRow}

@@ -1,6 +1,5 @@
 -- What is retained is what passes the test.
-use Rattle.std.proofs.Common.{◌≡◌, ◌∙◌, ap, not, rules, tests}
-use Rattle.std.specs.Prelude.{filter}
+use Rattle.std.proofs.Common.{not, rules, tests}
 use Rattle.std.specs.Str.{bytes_eq}
 use Rattle.std.proofs.lemmas.Fn.{filter_same}
 use Rattle.memory_engine.proofs.networks.take_out.Goals as goal

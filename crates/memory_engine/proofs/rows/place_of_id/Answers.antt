@@ -1,5 +1,5 @@
 -- Where ids differ, a row with the id is the first with it.
-use Rattle.std.proofs.Common.{◌≡◌, ◌∙◌, sym}
+use Rattle.std.proofs.Common.{◌∙◌, sym}
 use Rattle.engine_types.specs.declared.ContainerRow.{ContainerRow}
 use Rattle.memory_engine.proofs.KeyedRows.{position-with_key}
 use Rattle.memory_engine.proofs.rows.place_of_id.Goals as goal

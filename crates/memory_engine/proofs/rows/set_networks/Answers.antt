@@ -1,5 +1,5 @@
 -- Only the row at the first place that passes is changed.
-use Rattle.std.proofs.Common.{◌≡◌, sym}
+use Rattle.std.proofs.Common.{sym}
 use Rattle.std.specs.Str.{bytes_eq}
 use Rattle.engine_types.specs.declared.ContainerRow.{ContainerRow}
 use Rattle.memory_engine.proofs.Places.{with_first-set, with_first-none}

@@ -1,5 +1,5 @@
 -- The first container with the name is changed.
-use Rattle.std.proofs.Common.{◌≡◌, sym, ap, List}
+use Rattle.std.proofs.Common.{sym, ap, List}
 use Rattle.std.specs.Str.{bytes_eq}
 use Rattle.engine_types.specs.declared.ContainerRow.{ContainerRow}
 use Rattle.memory_engine.specs.Ticking.{changed_row}
