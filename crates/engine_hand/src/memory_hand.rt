@@ -66,8 +66,8 @@ impl Hand for MemoryHand {
 
     ghost clock = { λ hand. counts_of hand.clock };
 
-    /// Makes the next exchange on the Engine, which comes to what the plan of faults says of its number. Where there is no
-    /// room in the log, nothing changes.
+    /// Makes the next exchange on the Engine, which comes to what the plan of faults says of its number. Where there
+    /// is no room in the log, nothing changes.
     fn exchange(&mut self, alloc: Global, request: Request) -> Outcome
         ensures log { Logs (log_of self.old) request result (log_of self.new) }
         ensures told { Tells (Some self.old.engine.engine) request result

@@ -18,7 +18,8 @@ pub fn outcome_on(
 ) -> (Outcome, Outcome)
     ensures same { result.0 ≡ result.1 }
     ensures told { Tells (Some engine.old.engine) request.now result.0 (Some engine.new.engine) }
-    ensures fate { ComesTo fate engine.old.catalogue engine.old.engine request.now result.0 engine.new.engine }
+    ensures fate { ComesTo fate engine.old.catalogue engine.old.engine request.now result.0
+        engine.new.engine }
     ensures cause { (faults : ℕ) → HasCause request.now None faults
         (faults_after fate faults) result.0 }
     ensures script { engine.new.script ≡ engine.old.script }
@@ -44,7 +45,8 @@ pub fn outcome_on(
 fn answered_by(alloc: Global, engine: &mut MemoryEngine, request: &Request) -> (Outcome, Outcome)
     ensures same { result.0 ≡ result.1 }
     ensures told { Tells (Some engine.old.engine) request.now result.0 (Some engine.new.engine) }
-    ensures served { IsServed engine.old.catalogue engine.old.engine request.now result.0 engine.new.engine }
+    ensures served { IsServed engine.old.catalogue engine.old.engine request.now result.0
+        engine.new.engine }
     ensures cause { (faults : ℕ) → HasCause request.now None faults faults result.0 }
     ensures script { engine.new.script ≡ engine.old.script }
     ensures faults { engine.new.faults ≡ engine.old.faults }

@@ -7,9 +7,9 @@ use outside_api::Hand;
 use std::alloc::Global;
 use tree_base::ReservedList;
 
-/// A hand whose peer takes each request and closes the connection without an answer. It tells what it heard, which is no byte
-/// and the connection's end: that is no response, so each exchange is lost with the cause Ended, and no fault is counted. It
-/// tells no Engine.
+/// A hand whose peer takes each request and closes the connection without an answer. It tells what it heard, which is
+/// no byte and the connection's end: that is no response, so each exchange is lost with the cause Ended, and no fault is
+/// counted. It tells no Engine.
 #[derive(Drop)]
 pub struct SilentHand {
     log: ReservedList<Exchange>,

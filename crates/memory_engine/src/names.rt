@@ -6,8 +6,8 @@ use engine_types::Request;
 use std::alloc::Global;
 use tree_base::{Memory, Text, TextMap};
 
-/// The names that containers were given since the Engine held none. A name that isn't among them is free, which is known
-/// without a look at the containers.
+/// The names that containers were given since the Engine held none. A name that isn't among them is free, which is
+/// known without a look at the containers.
 #[derive(Drop)]
 pub struct Names {
     /// None where the Engine held containers from its beginning, whose names aren't known here.

@@ -11,8 +11,8 @@ use std::alloc::Global;
 use std::mem;
 use tree_base::{List, Text, item_at};
 
-/// The place of the container with an id. The ids that the Engine gives ascend, so their rows are found by halves. A row that
-/// it held from its beginning may have any id, and is found by going through all. No memory.
+/// The place of the container with an id. The ids that the Engine gives ascend, so their rows are found by halves. A row
+/// that it held from its beginning may have any id, and is found by going through all. No memory.
 pub fn place_of_id(rows: &[ContainerRow], id: &Text) -> Option<usize>
     requires { HasOwnIds rows.now }
     ensures { result ≡ position (λ row. bytes_eq row.id id.now) rows.now }
