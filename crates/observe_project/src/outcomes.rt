@@ -87,23 +87,28 @@ pub(crate) fn fault_in(alloc: Global, exchange: &Exchange) -> SeenFault
 fn copy_fault(alloc: Global, exchange: &Exchange) -> Result<SeenFault, Memory>
     ensures { IfOk result (λ fault. fault ≡ fault_in exchange.now.request exchange.now.outcome) }
 {
-    let request = exchange.request.copy(alloc)?;
     match &exchange.outcome {
-        Outcome::Answered(Reply::Refused { status, message }) => Ok(SeenFault::RequestFailed {
-            request,
-            status: *status,
-            message: message.copy(alloc)?,
-        }),
+        Outcome::Answered(Reply::Refused { status, message }) => {
+            let message = message.copy(alloc)?;
+            let request = exchange.request.copy(alloc)?;
+            Ok(SeenFault::RequestFailed {
+                request,
+                status: *status,
+                message,
+            })
+        }
         Outcome::Answered(_) => Ok(SeenFault::RequestFailed {
-            request,
+            request: exchange.request.copy(alloc)?,
             status: 0,
             message: Text::new(alloc),
         }),
         Outcome::Lost(cause) => Ok(SeenFault::Lost {
-            request,
+            request: exchange.request.copy(alloc)?,
             cause: *cause,
         }),
-        Outcome::NotSent => Ok(SeenFault::NotSent { request }),
+        Outcome::NotSent => Ok(SeenFault::NotSent {
+            request: exchange.request.copy(alloc)?,
+        }),
         Outcome::Memory => Ok(SeenFault::Memory),
     }
 }
