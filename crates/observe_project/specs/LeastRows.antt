@@ -20,7 +20,8 @@ first_with row (Some first) = if is_before first.id row.id then Some first else 
 -- the row with the second least id, with one row more
 abbrev pub second_with : NetRow → Option NetRow → Option NetRow → Option NetRow
 second_with row None second = None
-second_with row (Some first) second = if is_before first.id row.id then first_with row second else Some first
+second_with row (Some first) second =
+    if is_before first.id row.id then first_with row second else Some first
 
 -- the row with the least id, with one row more where that has the name
 abbrev pub first_named : List ℕ → NetRow → Option NetRow → Option NetRow
@@ -28,11 +29,14 @@ first_named name row first = if bytes_eq name row.name then first_with row first
 
 -- the row with the second least id, with one row more where that has the name
 abbrev pub second_named : List ℕ → NetRow → Option NetRow → Option NetRow → Option NetRow
-second_named name row first second = if bytes_eq name row.name then second_with row first second else second
+second_named name row first second =
+    if bytes_eq name row.name then second_with row first second else second
 
 -- what is wrong with a network that isn't there
 abbrev pub missing_fault : Purpose → NetworkSpec → Option SeenFault
-missing_fault purpose network = if network.external && is_up purpose then Some (SeenFault.ExternalMissing Kind.Network network.name) else None
+missing_fault purpose network =
+    if network.external && is_up purpose
+    then Some (SeenFault.ExternalMissing Kind.Network network.name) else None
 
 -- what is wrong with a network that is there once
 abbrev pub foreign_fault : Declared → NetworkSpec → NetRow → Option SeenFault
@@ -42,7 +46,9 @@ foreign_fault declared network row =
     else Some (SeenFault.ForeignNetwork network.name row.id)
 
 -- what is wrong with a network, by the first two rows of its name
-abbrev pub fault_by : Declared → Purpose → NetworkSpec → Option NetRow → Option NetRow → Option SeenFault
+abbrev pub fault_by : Declared → Purpose → NetworkSpec → Option NetRow → Option NetRow
+    → Option SeenFault
 fault_by declared purpose network None second = missing_fault purpose network
 fault_by declared purpose network (Some row) None = foreign_fault declared network row
-fault_by declared purpose network (Some row) (Some other) = Some (SeenFault.NetworkTwice network.name row.id other.id)
+fault_by declared purpose network (Some row) (Some other) =
+    Some (SeenFault.NetworkTwice network.name row.id other.id)

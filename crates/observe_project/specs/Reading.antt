@@ -75,10 +75,12 @@ abbrev pub AreAsked : (List ℕ → List Exchange → Onward) → Type 0
 AreAsked onward = (id : List ℕ) → is_asked (onward id []) ≡ true
 
 -- an image's id that was found leads on, and else the image is wanted
-abbrev pub found_or_wanted : Option Slot → List ℕ → (List ℕ → List Exchange → Onward) → Option (List ℕ) → List Exchange → Onward
+abbrev pub found_or_wanted : Option Slot → List ℕ → (List ℕ → List Exchange → Onward)
+    → Option (List ℕ) → List Exchange → Onward
 found_or_wanted builder image onward (Some id) = onward id
 found_or_wanted builder image onward None = wanting builder image onward
 
 -- whether a declared volume is external and, for `up`, missing
 abbrev pub is_missing : Purpose → List (List ℕ) → VolumeSpec → Bool
-is_missing purpose names volume = volume.external && is_up purpose && not (list_any (bytes_eq volume.name) names)
+is_missing purpose names volume =
+    volume.external && is_up purpose && not (list_any (bytes_eq volume.name) names)

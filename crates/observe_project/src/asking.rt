@@ -16,8 +16,10 @@ pub(crate) fn ask<H: Hand>(
     ensures same { exchanges.new.items ≡ exchanges.old.items }
     ensures room { OnOk result (0 < exchanges.new.spare) }
     ensures asked { Asked request result
-        (standing (H.log hand.old) (H.engine hand.old) (H.heard hand.old) (H.faults hand.old) (H.clock hand.old))
-        (standing (H.log hand.new) (H.engine hand.new) (H.heard hand.new) (H.faults hand.new) (H.clock hand.new)) }
+        (standing (H.log hand.old) (H.engine hand.old) (H.heard hand.old)
+        (H.faults hand.old) (H.clock hand.old))
+        (standing (H.log hand.new) (H.engine hand.new) (H.heard hand.new)
+        (H.faults hand.new) (H.clock hand.new)) }
 {
     match kept_copy(alloc, &request, exchanges) {
         Ok(kept) => {

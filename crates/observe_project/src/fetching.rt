@@ -1,4 +1,4 @@
-ghost use Rattle.std.specs.Prelude.{◌≡◌, ℕ, List, ◌∷◌, true, IfOk};
+ghost use Rattle.std.specs.Prelude.{◌≡◌, ℕ, List, [], ◌∷◌, ◌++◌, true, IfOk, OnOk};
 ghost use Rattle.engine_types.specs.declared.Exchange.{Exchange};
 ghost use Rattle.engine_types.specs.declared.Request.{Request};
 ghost use Rattle.engine_types.specs.declared.Slot.{Slot};
@@ -17,7 +17,7 @@ use crate::outcomes::{
 use engine_types::{Declared, Exchange, ImageRow, Policy, Request, Seen, SeenFault};
 use outside_api::Hand;
 use std::alloc::Global;
-use tree_base::{Memory, ReservedList, Text};
+use tree_base::{List, Memory, ReservedList, Text};
 
 /// Looks at each image of the declared set, in byte order.
 pub(crate) fn see_images<H: Hand>(
@@ -29,8 +29,10 @@ pub(crate) fn see_images<H: Hand>(
 ) -> Result<Seen, SeenFault>
     ensures { Steps (seeing_images declared.now (images_of declared.now) seen)
         (λ s. ending (SeenEnd.Good s)) result exchanges.old.items exchanges.new.items
-        (standing (H.log hand.old) (H.engine hand.old) (H.heard hand.old) (H.faults hand.old) (H.clock hand.old))
-        (standing (H.log hand.new) (H.engine hand.new) (H.heard hand.new) (H.faults hand.new) (H.clock hand.new)) }
+        (standing (H.log hand.old) (H.engine hand.old) (H.heard hand.old)
+        (H.faults hand.old) (H.clock hand.old))
+        (standing (H.log hand.new) (H.engine hand.new) (H.heard hand.new)
+        (H.faults hand.new) (H.clock hand.new)) }
 {
     let images = or_memory(images_of(alloc, declared))?;
     see_each(alloc, hand, declared, images.as_slice(), seen, exchanges)
@@ -46,8 +48,10 @@ fn see_each<H: Hand>(
 ) -> Result<Seen, SeenFault>
     ensures { Steps (seeing_images declared.now images.now begun)
         (λ s. ending (SeenEnd.Good s)) result exchanges.old.items exchanges.new.items
-        (standing (H.log hand.old) (H.engine hand.old) (H.heard hand.old) (H.faults hand.old) (H.clock hand.old))
-        (standing (H.log hand.new) (H.engine hand.new) (H.heard hand.new) (H.faults hand.new) (H.clock hand.new)) }
+        (standing (H.log hand.old) (H.engine hand.old) (H.heard hand.old)
+        (H.faults hand.old) (H.clock hand.old))
+        (standing (H.log hand.new) (H.engine hand.new) (H.heard hand.new)
+        (H.faults hand.new) (H.clock hand.new)) }
 {
     let mut seen = begun;
     for image in images {
@@ -68,8 +72,10 @@ fn see_next<H: Hand>(
     ensures { (images : List (List ℕ))
         → Steps (seeing_images declared.now (image.now ∷ images) seen)
         (seeing_images declared.now images) result exchanges.old.items exchanges.new.items
-        (standing (H.log hand.old) (H.engine hand.old) (H.heard hand.old) (H.faults hand.old) (H.clock hand.old))
-        (standing (H.log hand.new) (H.engine hand.new) (H.heard hand.new) (H.faults hand.new) (H.clock hand.new)) }
+        (standing (H.log hand.old) (H.engine hand.old) (H.heard hand.old)
+        (H.faults hand.old) (H.clock hand.old))
+        (standing (H.log hand.new) (H.engine hand.new) (H.heard hand.new)
+        (H.faults hand.new) (H.clock hand.new)) }
 {
     let id = see_image(alloc, hand, declared, image, exchanges)?;
     or_memory(with_image(alloc, seen, image, id))
@@ -78,10 +84,27 @@ fn see_next<H: Hand>(
 fn with_image(alloc: Global, seen: Seen, image: &Text, id: Text) -> Result<Seen, Memory>
     ensures { IfOk result (λ now. now ≡ with_image seen image.now id) }
 {
+    let mut seen = seen;
+    match put_image(alloc, &mut seen.images, image, id) {
+        Ok(()) => Ok(seen),
+        Err(memory) => {
+            drop(seen);
+            Err(memory)
+        }
+    }
+}
+
+/// Puts an image last, with its id.
+fn put_image(
+    alloc: Global,
+    images: &mut List<ImageRow>,
+    image: &Text,
+    id: Text,
+) -> Result<(), Memory>
+    ensures { OnOk result (images.new ≡ images.old ++ record { name = image.now; id = id } ∷ []) }
+{
     let name = image.copy(alloc)?;
-    let mut images = seen.images;
-    images.push(ImageRow { name, id })?;
-    Ok(Seen { images, ..seen })
+    images.push(ImageRow { name, id })
 }
 
 fn see_image<H: Hand>(
@@ -92,9 +115,12 @@ fn see_image<H: Hand>(
     exchanges: &mut ReservedList<Exchange>,
 ) -> Result<Text, SeenFault>
     ensures { (onward : List ℕ → List Exchange → Onward) → AreAsked onward
-        → Steps (by_policy declared.now (policy_of declared.now image.now) image.now onward) onward result exchanges.old.items exchanges.new.items
-        (standing (H.log hand.old) (H.engine hand.old) (H.heard hand.old) (H.faults hand.old) (H.clock hand.old))
-        (standing (H.log hand.new) (H.engine hand.new) (H.heard hand.new) (H.faults hand.new) (H.clock hand.new)) }
+        → Steps (by_policy declared.now (policy_of declared.now image.now) image.now onward) onward
+        result exchanges.old.items exchanges.new.items
+        (standing (H.log hand.old) (H.engine hand.old) (H.heard hand.old)
+        (H.faults hand.old) (H.clock hand.old))
+        (standing (H.log hand.new) (H.engine hand.new) (H.heard hand.new)
+        (H.faults hand.new) (H.clock hand.new)) }
 {
     match policy_of(declared, image) {
         Policy::Always => pull(alloc, hand, image, exchanges),
@@ -112,9 +138,12 @@ fn fetch<H: Hand>(
     exchanges: &mut ReservedList<Exchange>,
 ) -> Result<Text, SeenFault>
     ensures { (onward : List ℕ → List Exchange → Onward) → AreAsked onward
-        → Steps (fetching (builder_of declared.now image.now) image.now onward) onward result exchanges.old.items exchanges.new.items
-        (standing (H.log hand.old) (H.engine hand.old) (H.heard hand.old) (H.faults hand.old) (H.clock hand.old))
-        (standing (H.log hand.new) (H.engine hand.new) (H.heard hand.new) (H.faults hand.new) (H.clock hand.new)) }
+        → Steps (fetching (builder_of declared.now image.now) image.now onward) onward
+        result exchanges.old.items exchanges.new.items
+        (standing (H.log hand.old) (H.engine hand.old) (H.heard hand.old)
+        (H.faults hand.old) (H.clock hand.old))
+        (standing (H.log hand.new) (H.engine hand.new) (H.heard hand.new)
+        (H.faults hand.new) (H.clock hand.new)) }
 {
     let found = look_for(alloc, hand, image, exchanges)?;
     match found {
@@ -132,9 +161,12 @@ fn want<H: Hand>(
     exchanges: &mut ReservedList<Exchange>,
 ) -> Result<Text, SeenFault>
     ensures { (onward : List ℕ → List Exchange → Onward) → AreAsked onward
-        → Steps (wanting (builder_of declared.now image.now) image.now onward) onward result exchanges.old.items exchanges.new.items
-        (standing (H.log hand.old) (H.engine hand.old) (H.heard hand.old) (H.faults hand.old) (H.clock hand.old))
-        (standing (H.log hand.new) (H.engine hand.new) (H.heard hand.new) (H.faults hand.new) (H.clock hand.new)) }
+        → Steps (wanting (builder_of declared.now image.now) image.now onward) onward
+        result exchanges.old.items exchanges.new.items
+        (standing (H.log hand.old) (H.engine hand.old) (H.heard hand.old)
+        (H.faults hand.old) (H.clock hand.old))
+        (standing (H.log hand.new) (H.engine hand.new) (H.heard hand.new)
+        (H.faults hand.new) (H.clock hand.new)) }
 {
     match builder_of(declared, image) {
         Some(slot) => Err(needs_build(alloc, &slot.service)),
@@ -160,8 +192,10 @@ fn pull<H: Hand>(
 ) -> Result<Text, SeenFault>
     ensures { (onward : List ℕ → List Exchange → Onward) → AreAsked onward
         → Steps (pulling image.now onward) onward result exchanges.old.items exchanges.new.items
-        (standing (H.log hand.old) (H.engine hand.old) (H.heard hand.old) (H.faults hand.old) (H.clock hand.old))
-        (standing (H.log hand.new) (H.engine hand.new) (H.heard hand.new) (H.faults hand.new) (H.clock hand.new)) }
+        (standing (H.log hand.old) (H.engine hand.old) (H.heard hand.old)
+        (H.faults hand.old) (H.clock hand.old))
+        (standing (H.log hand.new) (H.engine hand.new) (H.heard hand.new)
+        (H.faults hand.new) (H.clock hand.new)) }
 {
     ask_to_pull(alloc, hand, image, exchanges)?;
     inspect(alloc, hand, image, exchanges)
@@ -174,9 +208,12 @@ fn ask_to_pull<H: Hand>(
     exchanges: &mut ReservedList<Exchange>,
 ) -> Result<(), SeenFault>
     ensures { (onward : List ℕ → List Exchange → Onward)
-        → Steps (pulling image.now onward) (λ _. inspecting image.now onward) result exchanges.old.items exchanges.new.items
-        (standing (H.log hand.old) (H.engine hand.old) (H.heard hand.old) (H.faults hand.old) (H.clock hand.old))
-        (standing (H.log hand.new) (H.engine hand.new) (H.heard hand.new) (H.faults hand.new) (H.clock hand.new)) }
+        → Steps (pulling image.now onward) (λ _. inspecting image.now onward)
+        result exchanges.old.items exchanges.new.items
+        (standing (H.log hand.old) (H.engine hand.old) (H.heard hand.old)
+        (H.faults hand.old) (H.clock hand.old))
+        (standing (H.log hand.new) (H.engine hand.new) (H.heard hand.new)
+        (H.faults hand.new) (H.clock hand.new)) }
 {
     let name = or_memory(image.copy(alloc))?;
     let exchange = ask(alloc, hand, Request::Pull { name }, exchanges)?;
@@ -188,7 +225,9 @@ fn ask_to_pull<H: Hand>(
 fn read_pull(alloc: Global, exchange: &Exchange, image: &Text) -> Result<(), SeenFault>
     ensures { (onward : List ℕ → List Exchange → Onward)
         → exchange.now.request ≡ Request.Pull image.now
-        → Reads (after_pull image.now onward exchange.now.outcome) (λ _. inspecting image.now onward) exchange.now.request exchange.now.outcome result }
+        → Reads (after_pull image.now onward exchange.now.outcome)
+        (λ _. inspecting image.now onward)
+        exchange.now.request exchange.now.outcome result }
 {
     if tells_pulled(&exchange.outcome) {
         return Ok(());
@@ -217,8 +256,10 @@ fn inspect<H: Hand>(
 ) -> Result<Text, SeenFault>
     ensures { (onward : List ℕ → List Exchange → Onward) → AreAsked onward
         → Steps (inspecting image.now onward) onward result exchanges.old.items exchanges.new.items
-        (standing (H.log hand.old) (H.engine hand.old) (H.heard hand.old) (H.faults hand.old) (H.clock hand.old))
-        (standing (H.log hand.new) (H.engine hand.new) (H.heard hand.new) (H.faults hand.new) (H.clock hand.new)) }
+        (standing (H.log hand.old) (H.engine hand.old) (H.heard hand.old)
+        (H.faults hand.old) (H.clock hand.old))
+        (standing (H.log hand.new) (H.engine hand.new) (H.heard hand.new)
+        (H.faults hand.new) (H.clock hand.new)) }
 {
     let name = or_memory(image.copy(alloc))?;
     let exchange = ask(alloc, hand, Request::Image { name }, exchanges)?;
@@ -230,7 +271,8 @@ fn inspect<H: Hand>(
 fn read_id(alloc: Global, exchange: &Exchange) -> Result<Text, SeenFault>
     ensures { (image : List ℕ) (onward : List ℕ → List Exchange → Onward) → AreAsked onward
         → exchange.now.request ≡ Request.Image image
-        → Reads (after_look image onward exchange.now.outcome) onward exchange.now.request exchange.now.outcome result }
+        → Reads (after_look image onward exchange.now.outcome) onward
+        exchange.now.request exchange.now.outcome result }
 {
     match id_told(&exchange.outcome) {
         Some(id) => or_memory(id.copy(alloc)),
@@ -246,9 +288,12 @@ fn look_for<H: Hand>(
     exchanges: &mut ReservedList<Exchange>,
 ) -> Result<Option<Text>, SeenFault>
     ensures { (builder : Option Slot) (onward : List ℕ → List Exchange → Onward) → AreAsked onward
-        → Steps (fetching builder image.now onward) (found_or_wanted builder image.now onward) result exchanges.old.items exchanges.new.items
-        (standing (H.log hand.old) (H.engine hand.old) (H.heard hand.old) (H.faults hand.old) (H.clock hand.old))
-        (standing (H.log hand.new) (H.engine hand.new) (H.heard hand.new) (H.faults hand.new) (H.clock hand.new)) }
+        → Steps (fetching builder image.now onward) (found_or_wanted builder image.now onward)
+        result exchanges.old.items exchanges.new.items
+        (standing (H.log hand.old) (H.engine hand.old) (H.heard hand.old)
+        (H.faults hand.old) (H.clock hand.old))
+        (standing (H.log hand.new) (H.engine hand.new) (H.heard hand.new)
+        (H.faults hand.new) (H.clock hand.new)) }
 {
     let name = or_memory(image.copy(alloc))?;
     let exchange = ask(alloc, hand, Request::Image { name }, exchanges)?;
@@ -260,7 +305,9 @@ fn look_for<H: Hand>(
 fn read_found(alloc: Global, exchange: &Exchange) -> Result<Option<Text>, SeenFault>
     ensures { (builder : Option Slot) (image : List ℕ) (onward : List ℕ → List Exchange → Onward)
         → AreAsked onward → exchange.now.request ≡ Request.Image image
-        → Reads (after_first_look builder image onward exchange.now.outcome) (found_or_wanted builder image onward) exchange.now.request exchange.now.outcome result }
+        → Reads (after_first_look builder image onward exchange.now.outcome)
+        (found_or_wanted builder image onward)
+        exchange.now.request exchange.now.outcome result }
 {
     if tells_missing(&exchange.outcome) {
         return Ok(None);

@@ -6,6 +6,7 @@ ghost use Rattle.std.specs.Map.{keys_of};
 ghost use Rattle.run_model.specs.Observation.{builder_of, images_of, is_always, is_missing, policy_of};
 ghost use Rattle.tree_base.specs.ByteOrder.{first_of_each};
 
+use crate::keys::put_key;
 use engine_types::{Declared, Policy, Slot};
 use std::alloc::Global;
 use tree_base::{List, Memory, Text, TextMap};
@@ -39,11 +40,11 @@ fn keep_new(
 ) -> Result<(), Memory>
     ensures { (all : List (List ℕ)) → images.old.items ≡ first_of_each (λ t. t) all
         → keys_of known.old ≡ map (λ t. t) images.old.items
-        → OnOk result ((images.new.items ≡ first_of_each (λ t. t) (all ++ image.now ∷ [])) × (keys_of known.new ≡ map (λ t. t) images.new.items)) }
+        → OnOk result ((images.new.items ≡ first_of_each (λ t. t) (all ++ image.now ∷ []))
+        × (keys_of known.new ≡ map (λ t. t) images.new.items)) }
 {
-    let key = image.copy(alloc)?;
-    let before = known.put(key, ())?;
-    if before.is_some() {
+    let was_known = put_key(alloc, known, image)?;
+    if was_known {
         return Ok(());
     }
     let copy = image.copy(alloc)?;
@@ -72,7 +73,8 @@ fn says_always(slots: &[Slot], image: &Text) -> bool
 }
 
 fn has_always(slots: &[Slot], image: &Text) -> bool
-    ensures { result ≡ list_any (λ slot. bytes_eq image.now slot.image && is_always slot.policy) slots.now }
+    ensures { result ≡
+        list_any (λ slot. bytes_eq image.now slot.image && is_always slot.policy) slots.now }
 {
     slots.iter().any(|slot| is_always_with(slot, image))
 }
@@ -92,7 +94,8 @@ fn says_missing(slots: &[Slot], image: &Text) -> bool
 }
 
 fn has_missing(slots: &[Slot], image: &Text) -> bool
-    ensures { result ≡ list_any (λ slot. bytes_eq image.now slot.image && is_missing slot.policy) slots.now }
+    ensures { result ≡
+        list_any (λ slot. bytes_eq image.now slot.image && is_missing slot.policy) slots.now }
 {
     slots.iter().any(|slot| is_missing_with(slot, image))
 }

@@ -2,7 +2,6 @@ ghost use Rattle.std.specs.Prelude.{◌≡◌, None, Some, ℕ, IfOk, IfErr, Opt
 ghost use Rattle.std.specs.List.{list_any};
 ghost use Rattle.std.specs.Option.{option_copied};
 ghost use Rattle.std.specs.Str.{bytes_eq};
-ghost use Rattle.engine_types.specs.declared.Kind.{Kind};
 ghost use Rattle.engine_types.specs.declared.SeenFault.{SeenFault};
 ghost use Rattle.outside_api.specs.Hands.{Heard};
 ghost use Rattle.run_model.specs.Observation.{after_judging, first_in, is_up, judging, listing_fault, network_fault, volume_fault};
@@ -87,7 +86,7 @@ fn volumes_fault(
         fault ≡ first_in (volume_fault purpose names.now) declared.now.volumes) }
 {
     match first_missing(purpose, names, declared.volumes.as_slice()) {
-        Some(volume) => missing(alloc, volume),
+        Some(volume) => external_missing(alloc, Kind::Volume, &volume.name),
         None => Ok(None),
     }
 }
@@ -112,14 +111,17 @@ fn is_missing(purpose: Purpose, names: &[Text], volume: &VolumeSpec) -> bool
     volume.external && is_up(purpose) && !is_listed(names, &volume.name)
 }
 
-fn missing(alloc: Global, volume: &VolumeSpec) -> Result<Option<SeenFault>, Memory>
+/// That an external network or volume is missing.
+pub(crate) fn external_missing(
+    alloc: Global,
+    kind: Kind,
+    name: &Text,
+) -> Result<Option<SeenFault>, Memory>
     ensures { IfOk result (λ fault.
-        fault ≡ Some (SeenFault.ExternalMissing Kind.Volume volume.now.name)) }
+        fault ≡ Some (SeenFault.ExternalMissing kind name.now)) }
 {
-    Ok(Some(SeenFault::ExternalMissing {
-        kind: Kind::Volume,
-        name: volume.name.copy(alloc)?,
-    }))
+    let name = name.copy(alloc)?;
+    Ok(Some(SeenFault::ExternalMissing { kind, name }))
 }
 
 fn is_listed(names: &[Text], name: &Text) -> bool

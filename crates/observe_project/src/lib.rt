@@ -11,6 +11,7 @@ mod asking;
 mod fetching;
 mod images;
 mod judging;
+mod keys;
 mod listing;
 mod networks;
 mod observing;

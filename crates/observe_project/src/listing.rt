@@ -9,6 +9,7 @@ ghost use Rattle.tree_base.specs.ByteOrder.{first_of_each};
 ghost use Rattle.observe_project.specs.Steps.{Reads, Steps, standing};
 
 use crate::asking::{ask, keep};
+use crate::keys::put_key;
 use crate::outcomes::{containers_told, fault_in, networks_told, or_memory, volumes_told};
 use engine_types::{Declared, Exchange, Listed, NetRow, Request, Seen, SeenFault};
 use outside_api::Hand;
@@ -25,8 +26,10 @@ pub(crate) fn list_all<H: Hand>(
     ensures { (purpose : Purpose)
         → Steps (observed declared.now purpose)
         (judging declared.now purpose) result exchanges.old.items exchanges.new.items
-        (standing (H.log hand.old) (H.engine hand.old) (H.heard hand.old) (H.faults hand.old) (H.clock hand.old))
-        (standing (H.log hand.new) (H.engine hand.new) (H.heard hand.new) (H.faults hand.new) (H.clock hand.new)) }
+        (standing (H.log hand.old) (H.engine hand.old) (H.heard hand.old)
+        (H.faults hand.old) (H.clock hand.old))
+        (standing (H.log hand.new) (H.engine hand.new) (H.heard hand.new)
+        (H.faults hand.new) (H.clock hand.new)) }
 {
     let containers = list_containers(alloc, hand, declared, exchanges)?;
     let networks = list_networks(alloc, hand, declared, containers, exchanges)?;
@@ -43,8 +46,10 @@ fn list_containers<H: Hand>(
     ensures { (purpose : Purpose)
         → Steps (observed declared.now purpose)
         (listing_networks declared.now purpose) result exchanges.old.items exchanges.new.items
-        (standing (H.log hand.old) (H.engine hand.old) (H.heard hand.old) (H.faults hand.old) (H.clock hand.old))
-        (standing (H.log hand.new) (H.engine hand.new) (H.heard hand.new) (H.faults hand.new) (H.clock hand.new)) }
+        (standing (H.log hand.old) (H.engine hand.old) (H.heard hand.old)
+        (H.faults hand.old) (H.clock hand.old))
+        (standing (H.log hand.new) (H.engine hand.new) (H.heard hand.new)
+        (H.faults hand.new) (H.clock hand.new)) }
 {
     let project = or_memory(declared.project.copy(alloc))?;
     let exchange = ask(alloc, hand, Request::ListContainers { project }, exchanges)?;
@@ -56,7 +61,9 @@ fn list_containers<H: Hand>(
 fn read_containers(alloc: Global, exchange: &Exchange) -> Result<Seen, SeenFault>
     ensures { (declared : Declared) (purpose : Purpose)
         → exchange.now.request ≡ Request.ListContainers declared.project
-        → Reads (after_containers declared purpose exchange.now.outcome) (listing_networks declared purpose) exchange.now.request exchange.now.outcome result }
+        → Reads (after_containers declared purpose exchange.now.outcome)
+        (listing_networks declared purpose)
+        exchange.now.request exchange.now.outcome result }
 {
     match containers_told(&exchange.outcome) {
         Some(rows) => or_memory(see_containers(alloc, rows.as_slice())),
@@ -95,11 +102,11 @@ fn keep_new(
 ) -> Result<(), Memory>
     ensures { (rows : List Listed) → distinct.old ≡ first_of_each (λ r. r.id) rows
         → keys_of ids.old ≡ map (λ r. r.id) distinct.old
-        → OnOk result ((distinct.new ≡ first_of_each (λ r. r.id) (rows ++ row.now ∷ [])) × (keys_of ids.new ≡ map (λ r. r.id) distinct.new)) }
+        → OnOk result ((distinct.new ≡ first_of_each (λ r. r.id) (rows ++ row.now ∷ []))
+        × (keys_of ids.new ≡ map (λ r. r.id) distinct.new)) }
 {
-    let id = row.id.copy(alloc)?;
-    let known = ids.put(id, ())?;
-    if known.is_some() {
+    let was_known = put_key(alloc, ids, &row.id)?;
+    if was_known {
         return Ok(());
     }
     let copy = row.copy(alloc)?;
@@ -118,8 +125,10 @@ fn list_networks<H: Hand>(
     ensures { (purpose : Purpose)
         → Steps (listing_networks declared.now purpose seen)
         (listing_volumes declared.now purpose) result exchanges.old.items exchanges.new.items
-        (standing (H.log hand.old) (H.engine hand.old) (H.heard hand.old) (H.faults hand.old) (H.clock hand.old))
-        (standing (H.log hand.new) (H.engine hand.new) (H.heard hand.new) (H.faults hand.new) (H.clock hand.new)) }
+        (standing (H.log hand.old) (H.engine hand.old) (H.heard hand.old)
+        (H.faults hand.old) (H.clock hand.old))
+        (standing (H.log hand.new) (H.engine hand.new) (H.heard hand.new)
+        (H.faults hand.new) (H.clock hand.new)) }
 {
     if declared.networks.is_empty() {
         return Ok(seen);
@@ -134,9 +143,13 @@ fn ask_for_networks<H: Hand>(
     exchanges: &mut ReservedList<Exchange>,
 ) -> Result<Seen, SeenFault>
     ensures { (declared : Declared) (purpose : Purpose)
-        → Steps (asking Request.ListNetworks (after_networks declared purpose seen)) (listing_volumes declared purpose) result exchanges.old.items exchanges.new.items
-        (standing (H.log hand.old) (H.engine hand.old) (H.heard hand.old) (H.faults hand.old) (H.clock hand.old))
-        (standing (H.log hand.new) (H.engine hand.new) (H.heard hand.new) (H.faults hand.new) (H.clock hand.new)) }
+        → Steps (asking Request.ListNetworks (after_networks declared purpose seen))
+        (listing_volumes declared purpose)
+        result exchanges.old.items exchanges.new.items
+        (standing (H.log hand.old) (H.engine hand.old) (H.heard hand.old)
+        (H.faults hand.old) (H.clock hand.old))
+        (standing (H.log hand.new) (H.engine hand.new) (H.heard hand.new)
+        (H.faults hand.new) (H.clock hand.new)) }
 {
     let exchange = ask(alloc, hand, Request::ListNetworks, exchanges)?;
     let seen = read_networks(alloc, &exchange, seen);
@@ -147,7 +160,9 @@ fn ask_for_networks<H: Hand>(
 fn read_networks(alloc: Global, exchange: &Exchange, seen: Seen) -> Result<Seen, SeenFault>
     ensures { (declared : Declared) (purpose : Purpose)
         → exchange.now.request ≡ Request.ListNetworks
-        → Reads (after_networks declared purpose seen exchange.now.outcome) (listing_volumes declared purpose) exchange.now.request exchange.now.outcome result }
+        → Reads (after_networks declared purpose seen exchange.now.outcome)
+        (listing_volumes declared purpose)
+        exchange.now.request exchange.now.outcome result }
 {
     match networks_told(&exchange.outcome) {
         Some(rows) => or_memory(see_networks(alloc, rows, seen)),
@@ -158,10 +173,13 @@ fn read_networks(alloc: Global, exchange: &Exchange, seen: Seen) -> Result<Seen,
 fn see_networks(alloc: Global, rows: &List<NetRow>, seen: Seen) -> Result<Seen, Memory>
     ensures { IfOk result (λ now. now ≡ record seen { networks = rows.now }) }
 {
-    Ok(Seen {
-        networks: rows.copy(alloc)?,
-        ..seen
-    })
+    match rows.copy(alloc) {
+        Ok(networks) => Ok(Seen { networks, ..seen }),
+        Err(memory) => {
+            drop(seen);
+            Err(memory)
+        }
+    }
 }
 
 /// Lists the volumes where the project declares any.
@@ -175,8 +193,10 @@ fn list_volumes<H: Hand>(
     ensures { (purpose : Purpose)
         → Steps (listing_volumes declared.now purpose seen)
         (judging declared.now purpose) result exchanges.old.items exchanges.new.items
-        (standing (H.log hand.old) (H.engine hand.old) (H.heard hand.old) (H.faults hand.old) (H.clock hand.old))
-        (standing (H.log hand.new) (H.engine hand.new) (H.heard hand.new) (H.faults hand.new) (H.clock hand.new)) }
+        (standing (H.log hand.old) (H.engine hand.old) (H.heard hand.old)
+        (H.faults hand.old) (H.clock hand.old))
+        (standing (H.log hand.new) (H.engine hand.new) (H.heard hand.new)
+        (H.faults hand.new) (H.clock hand.new)) }
 {
     if declared.volumes.is_empty() {
         return Ok(seen);
@@ -191,9 +211,13 @@ fn ask_for_volumes<H: Hand>(
     exchanges: &mut ReservedList<Exchange>,
 ) -> Result<Seen, SeenFault>
     ensures { (declared : Declared) (purpose : Purpose)
-        → Steps (asking Request.ListVolumes (after_volumes declared purpose seen)) (judging declared purpose) result exchanges.old.items exchanges.new.items
-        (standing (H.log hand.old) (H.engine hand.old) (H.heard hand.old) (H.faults hand.old) (H.clock hand.old))
-        (standing (H.log hand.new) (H.engine hand.new) (H.heard hand.new) (H.faults hand.new) (H.clock hand.new)) }
+        → Steps (asking Request.ListVolumes (after_volumes declared purpose seen))
+        (judging declared purpose)
+        result exchanges.old.items exchanges.new.items
+        (standing (H.log hand.old) (H.engine hand.old) (H.heard hand.old)
+        (H.faults hand.old) (H.clock hand.old))
+        (standing (H.log hand.new) (H.engine hand.new) (H.heard hand.new)
+        (H.faults hand.new) (H.clock hand.new)) }
 {
     let exchange = ask(alloc, hand, Request::ListVolumes, exchanges)?;
     let seen = read_volumes(alloc, &exchange, seen);
@@ -202,8 +226,11 @@ fn ask_for_volumes<H: Hand>(
 }
 
 fn read_volumes(alloc: Global, exchange: &Exchange, seen: Seen) -> Result<Seen, SeenFault>
-    ensures { (declared : Declared) (purpose : Purpose) → exchange.now.request ≡ Request.ListVolumes
-        → Reads (after_volumes declared purpose seen exchange.now.outcome) (judging declared purpose) exchange.now.request exchange.now.outcome result }
+    ensures { (declared : Declared) (purpose : Purpose)
+        → exchange.now.request ≡ Request.ListVolumes
+        → Reads (after_volumes declared purpose seen exchange.now.outcome)
+        (judging declared purpose)
+        exchange.now.request exchange.now.outcome result }
 {
     match volumes_told(&exchange.outcome) {
         Some(names) => or_memory(see_volumes(alloc, names, seen)),
@@ -214,8 +241,11 @@ fn read_volumes(alloc: Global, exchange: &Exchange, seen: Seen) -> Result<Seen, 
 fn see_volumes(alloc: Global, names: &List<Text>, seen: Seen) -> Result<Seen, Memory>
     ensures { IfOk result (λ now. now ≡ record seen { volumes = names.now }) }
 {
-    Ok(Seen {
-        volumes: names.copy(alloc)?,
-        ..seen
-    })
+    match names.copy(alloc) {
+        Ok(volumes) => Ok(Seen { volumes, ..seen }),
+        Err(memory) => {
+            drop(seen);
+            Err(memory)
+        }
+    }
 }

@@ -4,11 +4,11 @@ ghost use Rattle.std.specs.Str.{bytes_eq};
 ghost use Rattle.engine_types.specs.Labels.{project_label};
 ghost use Rattle.run_model.specs.EngineRules.{has_label};
 ghost use Rattle.run_model.specs.Observation.{network_fault};
-ghost use Rattle.tree_base.specs.ByteOrder.{by_key, is_before};
+ghost use Rattle.tree_base.specs.ByteOrder.{by_key};
 ghost use Rattle.engine_types.specs.declared.SeenFault.{SeenFault};
 ghost use Rattle.observe_project.specs.LeastRows.{fault_by, first_named, first_with, foreign_fault, missing_fault, second_named, second_with};
 
-use crate::judging::is_up;
+use crate::judging::{external_missing, is_up};
 use engine_types::{Declared, Kind, NetRow, NetworkSpec, Purpose, SeenFault, labels};
 use run_lookups::has_label;
 use std::alloc::Global;
@@ -88,9 +88,11 @@ struct Least<'r> {
 
 fn two_least<'r>(rows: &'r [NetRow], name: &Text) -> Least<'r>
     ensures first { option_copied result.first ≡
-        slice_get (by_key (λ row. row.id) (filter (λ row. bytes_eq name.now row.name) rows.now)) 0 }
+        slice_get (by_key (λ row. row.id)
+        (filter (λ row. bytes_eq name.now row.name) rows.now)) 0 }
     ensures second { option_copied result.second ≡
-        slice_get (by_key (λ row. row.id) (filter (λ row. bytes_eq name.now row.name) rows.now)) 1 }
+        slice_get (by_key (λ row. row.id)
+        (filter (λ row. bytes_eq name.now row.name) rows.now)) 1 }
 {
     let mut least = Least {
         first: None,
@@ -126,7 +128,7 @@ fn first_with<'r>(row: &'r NetRow, first: Option<&'r NetRow>) -> Option<&'r NetR
 {
     match first {
         Some(first) => {
-            if is_before(&first.id, &row.id) {
+            if first.id < row.id {
                 Some(first)
             } else {
                 Some(row)
@@ -146,7 +148,7 @@ fn second_with<'r>(
 {
     match first {
         Some(first) => {
-            if is_before(&first.id, &row.id) {
+            if first.id < row.id {
                 first_with(row, second)
             } else {
                 Some(first)
@@ -154,12 +156,6 @@ fn second_with<'r>(
         }
         None => None,
     }
-}
-
-fn is_before(text: &Text, other: &Text) -> bool
-    ensures { result ≡ is_before text.now other.now }
-{
-    *text < *other
 }
 
 fn missing(
@@ -170,10 +166,7 @@ fn missing(
     ensures { IfOk result (λ fault. fault ≡ missing_fault purpose network.now) }
 {
     if network.external && is_up(purpose) {
-        Ok(Some(SeenFault::ExternalMissing {
-            kind: Kind::Network,
-            name: network.name.copy(alloc)?,
-        }))
+        external_missing(alloc, Kind::Network, &network.name)
     } else {
         Ok(None)
     }

@@ -24,8 +24,9 @@ use tree_base::ReservedList;
 /// The end is bad at the first request that isn't answered as asked (RequestFailed, PullFailed, Lost, NotSent); where
 /// a declared network is there twice (with the two least ids), is another project's, or an external network or
 /// volume is missing for `up`; where a missing image is to be built; and for want of memory. Room for an
-/// exchange is taken before it is made, so every exchange that was made is in the list. Each of them has its cause in itself, and
-/// where the end tells of a lost response or of a request that wasn't sent, what was heard last is what was heard of that request.
+/// exchange is taken before it is made, so every exchange that was made is in the list. Each of them has its cause in
+/// itself, and where the end tells of a lost response or of a request that wasn't sent, what was heard last is what
+/// was heard of that request.
 pub fn observe<H: Hand>(
     alloc: Global,
     hand: &mut H,
@@ -68,8 +69,10 @@ fn see<H: Hand>(
 ) -> Result<Seen, SeenFault>
     ensures { Steps (observed declared.now purpose)
         (λ seen. ending (SeenEnd.Good seen)) result exchanges.old.items exchanges.new.items
-        (standing (H.log hand.old) (H.engine hand.old) (H.heard hand.old) (H.faults hand.old) (H.clock hand.old))
-        (standing (H.log hand.new) (H.engine hand.new) (H.heard hand.new) (H.faults hand.new) (H.clock hand.new)) }
+        (standing (H.log hand.old) (H.engine hand.old) (H.heard hand.old)
+        (H.faults hand.old) (H.clock hand.old))
+        (standing (H.log hand.new) (H.engine hand.new) (H.heard hand.new)
+        (H.faults hand.new) (H.clock hand.new)) }
 {
     let listed = list_all(alloc, hand, declared, exchanges)?;
     look(alloc, hand, declared, purpose, listed, exchanges)
@@ -86,8 +89,10 @@ fn look<H: Hand>(
 ) -> Result<Seen, SeenFault>
     ensures { Steps (judging declared.now purpose listed)
         (λ seen. ending (SeenEnd.Good seen)) result exchanges.old.items exchanges.new.items
-        (standing (H.log hand.old) (H.engine hand.old) (H.heard hand.old) (H.faults hand.old) (H.clock hand.old))
-        (standing (H.log hand.new) (H.engine hand.new) (H.heard hand.new) (H.faults hand.new) (H.clock hand.new)) }
+        (standing (H.log hand.old) (H.engine hand.old) (H.heard hand.old)
+        (H.faults hand.old) (H.clock hand.old))
+        (standing (H.log hand.new) (H.engine hand.new) (H.heard hand.new)
+        (H.faults hand.new) (H.clock hand.new)) }
 {
     let seen = judge(alloc, declared, purpose, listed)?;
     look_at_images(alloc, hand, declared, purpose, seen, exchanges)
@@ -103,8 +108,10 @@ fn look_at_images<H: Hand>(
 ) -> Result<Seen, SeenFault>
     ensures { Steps (after_judging declared.now purpose seen None)
         (λ seen. ending (SeenEnd.Good seen)) result exchanges.old.items exchanges.new.items
-        (standing (H.log hand.old) (H.engine hand.old) (H.heard hand.old) (H.faults hand.old) (H.clock hand.old))
-        (standing (H.log hand.new) (H.engine hand.new) (H.heard hand.new) (H.faults hand.new) (H.clock hand.new)) }
+        (standing (H.log hand.old) (H.engine hand.old) (H.heard hand.old)
+        (H.faults hand.old) (H.clock hand.old))
+        (standing (H.log hand.new) (H.engine hand.new) (H.heard hand.new)
+        (H.faults hand.new) (H.clock hand.new)) }
 {
     match purpose {
         Purpose::Up => see_images(alloc, hand, declared, seen, exchanges),
