@@ -8,11 +8,11 @@ ghost use Rattle.engine_types.specs.declared.ActionKind.TheVariants.{MakeVolume,
 ghost use Rattle.run_model.specs.EngineRules.{is_live as is_live_state};
 ghost use Rattle.run_model.specs.Observation.{is_up as is_up_purpose};
 ghost use Rattle.run_model.specs.Labels.{has_declared_service};
-ghost use Rattle.run_model.specs.Plans.{asks_restart, is_kept, is_network_seen, is_removed, is_restarted, is_unattached, is_unstarted, is_updated, is_volume_seen, is_wanted, kept_of, network_name, slot_at};
+ghost use Rattle.run_model.specs.Plans.{asks_restart, is_kept, is_network_seen, is_removed, is_restarted, is_unattached, is_unstarted, is_updated, is_volume_seen, is_wanted, kept_of, slot_at};
 
 use crate::planner::Planner;
 use engine_types::{ActionKind, Listed, Need, Pairs, Purpose, Seen, Slot, label, labels};
-use run_lookups::{is_live, is_of_project, network_name};
+use run_lookups::{goes, has_joined, is_live, is_of_project};
 use tree_base::{Text, item_at};
 
 impl Planner<'_> {
@@ -55,14 +55,10 @@ impl Planner<'_> {
     fn is_removed(&self, row: &Listed) -> bool
         ensures { result ≡ is_removed self.now row.now }
     {
-        if !is_of_project(&self.declared.project, &row.labels) {
-            return false;
-        }
-        if self.has_service(&row.labels) {
-            !(self.is_up() && self.is_kept(row))
-        } else {
-            self.orphans
-        }
+        let is_declared = self.has_service(&row.labels);
+        let is_kept = self.is_up() && self.is_kept(row);
+        is_of_project(&self.declared.project, &row.labels)
+            && goes(is_declared, is_kept, self.orphans)
     }
 
     /// Whether labels name a declared service. No memory.
@@ -134,7 +130,7 @@ impl Planner<'_> {
             return false;
         };
         match kept {
-            Some(row) => !contains(row.networks.as_slice(), network_name(self.declared, joined)),
+            Some(row) => !has_joined(self.declared, joined, row),
             None => attach != 0,
         }
     }

@@ -1,5 +1,6 @@
-//! Questions to what a run sees, each answered here and nowhere else: whose a container is, by its labels; whether it agrees
-//! with what is declared; which container a slot keeps, and how it is stopped; what a state and a reply mean.
+//! Questions to what a run sees, each answered here and nowhere else: whose a container is, by its labels; whether it
+//! agrees with what is declared; which container a slot keeps, and how it is stopped; whether a container is on a
+//! network, and whether it is to go; what a state and a reply mean.
 //!
 //! Contracts say that each answer is the defined one, for any labels and anything seen.
 #![tactic(auto)]
@@ -8,6 +9,8 @@ mod agreement;
 mod kept;
 mod labels;
 mod names;
+mod networks;
+mod removal;
 mod replies;
 mod requests;
 mod states;
@@ -18,6 +21,8 @@ pub use labels::{
     has_declared_service, has_label, is_of_project, is_of_slot, names_service, names_slot,
 };
 pub use names::network_name;
+pub use networks::has_joined;
+pub use removal::goes;
 pub use replies::is_good;
 pub use requests::stop_kept;
 pub use states::is_live;

@@ -16,7 +16,8 @@ pub fn stop_kept(
     slot: u32,
 ) -> Result<Option<Request>, Memory>
     ensures { IfOk result (λ request. request
-        ≡ option_and_then (λ slot. option_map (λ row. Request.Stop row.id slot.stop_seconds) (kept_of declared.now seen.now slot))
+        ≡ option_and_then (λ slot. option_map (λ row. Request.Stop row.id slot.stop_seconds)
+        (kept_of declared.now seen.now slot))
         (slot_at declared.now slot)) }
 {
     let Some(slot) = declared.slots.get(slot as usize) else {
