@@ -21,6 +21,14 @@ text_of {X} f xs i = ap (λ (o : Option (List ℕ)). unwrap_or o []) (slice_get-
     at None = refl
     at (Some x) = refl
 
+-- a flag that was made of an element is that of the element
+pub flag_of : {X : Type 0} (f : X → Bool) (xs : List X) (i : ℕ) → unwrap_or (slice_get (map f xs) i) false ≡ option_map_or f (slice_get xs i) false
+flag_of {X} f xs i = ap (λ (o : Option Bool). unwrap_or o false) (slice_get-map f xs i) ∙ at (slice_get xs i)
+  where
+    at : (o : Option X) → unwrap_or (option_map f o) false ≡ option_map_or f o false
+    at None = refl
+    at (Some x) = refl
+
 pub length-mapped : {X Y : Type 0} (f : X → Y) (xs : List X) → length (map f xs) ≡ length xs
 length-mapped f [] = refl
 length-mapped f (x ∷ xs) = ap suc (length-mapped f xs)

@@ -1,5 +1,5 @@
 -- Of numbers that rise and hold all that pass, those are left that pass.
-use Rattle.std.proofs.Common.{◌≡◌, ◌⊎◌, ℕ, zero, suc, ◌+◌, ◌<◌, ◌≤◌, Bool, true, false, cond, List, [], ◌∷◌, length, Some, slice_get, get_or, refl, sym, ap, ◌∙◌, subst, inl, inr, arith, ⊎_elim, add-one}
+use Rattle.std.proofs.Common.{◌≡◌, ◌⊎◌, ℕ, zero, suc, ◌+◌, ◌<◌, ◌≤◌, Bool, true, false, cond, List, [], ◌∷◌, length, Some, get_or, refl, sym, ap, ◌∙◌, subst, inl, inr, arith, ⊎_elim, add-one}
 use Rattle.std.specs.Prelude.{filter}
 use Rattle.std.specs.List.{Contains}
 use Rattle.std.specs.List.Sorted.{IsStrictlyIncreasing}
@@ -8,7 +8,7 @@ use Rattle.std.proofs.lemmas.Option.{slice_get-get_or, slice_get_within, get_or_
 use Rattle.run_model.specs.EngineRules.{Among}
 use Rattle.run_model.specs.Numbers.{numbers_from}
 use Rattle.run_model.proofs.DistinctLists.{at_place, from_place}
-use Rattle.plan_core.proofs.Splits.{by_cases, filter-no, filter-yes}
+use Rattle.plan_core.proofs.Splits.{by_cases, filter-no}
 
 -- each number is greater than the one before it, and the first is at least this one
 abbrev pub Rises : ℕ → List ℕ → Type 0

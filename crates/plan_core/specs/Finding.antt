@@ -47,7 +47,8 @@ slot_seen seen c = option_map_or container_text (slice_get seen.containers c) []
 
 -- the service that the labels of the container at this place name, and the empty text past the last
 abbrev pub service_seen : Seen → ℕ → List ℕ
-service_seen seen c = option_map_or (λ row. service_named row.labels) (slice_get seen.containers c) []
+service_seen seen c =
+    option_map_or (λ row. service_named row.labels) (slice_get seen.containers c) []
 
 -- the name of the container at this place, and the empty text past the last
 abbrev pub name_seen : Seen → ℕ → List ℕ
@@ -59,7 +60,8 @@ volume_name_at declared v = option_map_or (λ volume. volume.name) (slice_get de
 
 -- the name of the network with this number, and the empty text past the last
 abbrev pub network_name_at : Declared → ℕ → List ℕ
-network_name_at declared n = option_map_or (λ network. network.name) (slice_get declared.networks n) []
+network_name_at declared n =
+    option_map_or (λ network. network.name) (slice_get declared.networks n) []
 
 -- the name of the slot with this number, and the empty text past the last
 abbrev pub slot_name_at : Declared → ℕ → List ℕ
@@ -67,7 +69,8 @@ slot_name_at declared s = option_map_or (λ slot. slot.name) (slot_at declared s
 
 -- the key of the service with this number, and the empty text past the last
 abbrev pub service_key_at : Declared → ℕ → List ℕ
-service_key_at declared n = option_map_or (λ service. service.key) (slice_get declared.services n) []
+service_key_at declared n =
+    option_map_or (λ service. service.key) (slice_get declared.services n) []
 
 -- the numbers of the services, each under the keys of those that it depends on
 abbrev pub dependents_of : Declared → List (List ℕ × ℕ)
@@ -77,13 +80,15 @@ dependents_of declared = places_under (λ service. service.depends_on) 0 declare
 abbrev pub needed_names : Declared → Slot → List (List ℕ)
 needed_names declared slot = map (λ need. slot_name_at declared need.slot) slot.needs
 
--- the texts under which an action is found: the stop of a container under its id, its removal under its service, its slot
--- and its name, what is done with a slot's container under the slot's name, and the make of a network or volume under its name
+-- the texts under which an action is found: the stop of a container under its id, its removal under its service,
+-- its slot and its name, what is done with a slot's container under the slot's name, and the make of a network or
+-- volume under its name
 abbrev pub texts_of : Basis → ActionKind → List (List ℕ)
 texts_of basis (MakeVolume v) = volume_name_at basis.declared v ∷ []
 texts_of basis (MakeNetwork n) = network_name_at basis.declared n ∷ []
 texts_of basis (StopContainer c) = id_at basis.seen.containers c ∷ []
-texts_of basis (RemoveContainer c) = service_seen basis.seen c ∷ slot_seen basis.seen c ∷ name_seen basis.seen c ∷ []
+texts_of basis (RemoveContainer c) =
+    service_seen basis.seen c ∷ slot_seen basis.seen c ∷ name_seen basis.seen c ∷ []
 texts_of basis (CreateSlot s) = slot_name_at basis.declared s ∷ []
 texts_of basis (ConnectSlot s k) = slot_name_at basis.declared s ∷ []
 texts_of basis (StopKept s) = slot_name_at basis.declared s ∷ []
@@ -96,7 +101,9 @@ actions_under basis kinds = places_under (texts_of basis) 0 kinds
 
 -- the name of the network that the attach with this number of the slot with this number joins
 abbrev pub joined_name : Declared → ℕ → ℕ → List ℕ
-joined_name declared s k = option_map_or (λ slot. option_map_or (network_name declared) (slice_get slot.attach k) []) (slot_at declared s) []
+joined_name declared s k =
+    option_map_or (λ slot. option_map_or (network_name declared) (slice_get slot.attach k) [])
+    (slot_at declared s) []
 
 -- what stands before the first colon of each bind of a slot
 abbrev pub bind_sources : Slot → List (List ℕ)
@@ -104,19 +111,27 @@ bind_sources slot = map (before_first (λ byte. byte == 58)) (unwrap_or slot.spe
 
 -- the texts under which the create of a slot's container finds what it needs: removals, networks and volumes
 abbrev pub asked_by_slot : Declared → Slot → List (List ℕ)
-asked_by_slot declared slot = (slot_text slot ∷ slot.name ∷ []) ++ map (network_name declared) slot.attach ++ bind_sources slot
+asked_by_slot declared slot =
+    (slot_text slot ∷ slot.name ∷ []) ++ map (network_name declared) slot.attach
+    ++ bind_sources slot
 
 -- the services that depend on the service of the container at this place
 abbrev pub dependents_on : Declared → Seen → ℕ → List (List ℕ)
-dependents_on declared seen c = map (service_key_at declared) (numbers_under (dependents_of declared) (service_seen seen c))
+dependents_on declared seen c =
+    map (service_key_at declared)
+    (numbers_under (dependents_of declared) (service_seen seen c))
 
 -- the texts under which an action finds those that it needs; what needs every removal has none
 abbrev pub asked_of : Basis → ActionKind → List (List ℕ)
-asked_of basis (StopContainer c) = if is_up basis.aim.purpose then [] else dependents_on basis.declared basis.seen c
+asked_of basis (StopContainer c) =
+    if is_up basis.aim.purpose then [] else dependents_on basis.declared basis.seen c
 asked_of basis (RemoveContainer c) = id_at basis.seen.containers c ∷ []
-asked_of basis (CreateSlot s) = option_map_or (asked_by_slot basis.declared) (slot_at basis.declared s) []
-asked_of basis (ConnectSlot s k) = slot_name_at basis.declared s ∷ joined_name basis.declared s k ∷ []
-asked_of basis (StopKept s) = option_map_or (needed_names basis.declared) (slot_at basis.declared s) []
+asked_of basis (CreateSlot s) =
+    option_map_or (asked_by_slot basis.declared) (slot_at basis.declared s) []
+asked_of basis (ConnectSlot s k) =
+    slot_name_at basis.declared s ∷ joined_name basis.declared s k ∷ []
+asked_of basis (StopKept s) =
+    option_map_or (needed_names basis.declared) (slot_at basis.declared s) []
 asked_of basis (StartSlot s) = slot_name_at basis.declared s ∷ []
 asked_of basis _ = []
 

@@ -18,13 +18,15 @@ under_each texts number = map (λ text. (text, number)) texts
 
 -- the numbers that stand under this text, in the order of the entries
 abbrev pub numbers_under : List (List ℕ × ℕ) → List ℕ → List ℕ
-numbers_under entries text = map (λ entry. entry.1) (filter (λ entry. bytes_eq text entry.0) entries)
+numbers_under entries text =
+    map (λ entry. entry.1) (filter (λ entry. bytes_eq text entry.0) entries)
 
 -- whether a number stands under this text
 abbrev pub is_under : List (List ℕ × ℕ) → List ℕ → Bool
 is_under entries text = list_any (λ entry. bytes_eq text entry.0) entries
 
 -- the places of a list, from this one on, under the texts of their items
-abbrev pub places_under : {X : Type 0} → (X → List (List ℕ)) → ℕ → List X → List (List ℕ × ℕ)
+abbrev pub places_under : {X : Type 0} → (X → List (List ℕ)) → ℕ → List X
+    → List (List ℕ × ℕ)
 places_under texts at [] = []
 places_under texts at (x ∷ xs) = under_each (texts x) at ++ places_under texts (at + 1) xs

@@ -22,15 +22,19 @@ containers_under seen = texts_under (map container_text seen.containers)
 
 -- whether the container at this place agrees with a slot
 abbrev pub agrees_at : Declared → Seen → Slot → ℕ → Bool
-agrees_at declared seen slot c = option_map_or (agrees_seen declared seen slot) (slice_get seen.containers c) false
+agrees_at declared seen slot c =
+    option_map_or (agrees_seen declared seen slot) (slice_get seen.containers c) false
 
 -- whether the container at this place is a slot's
 abbrev pub is_slots_at : Declared → Seen → Slot → ℕ → Bool
-is_slots_at declared seen slot c = option_map_or (λ row. is_of_slot declared.project slot row.labels) (slice_get seen.containers c) false
+is_slots_at declared seen slot c =
+    option_map_or (λ row. is_of_slot declared.project slot row.labels)
+    (slice_get seen.containers c) false
 
 -- the id of the container at a place, if any
 abbrev pub id_in : Seen → Option ℕ → List (List ℕ)
-id_in seen place = option_map_or (λ row. row.id ∷ []) (option_and_then (slice_get seen.containers) place) []
+id_in seen place =
+    option_map_or (λ row. row.id ∷ []) (option_and_then (slice_get seen.containers) place) []
 
 -- the numbers of the slots, under the ids of the containers that they keep at these places
 abbrev pub kept_under : Seen → List (Option ℕ) → List (List ℕ × ℕ)
@@ -42,8 +46,11 @@ services_under declared = places_under (λ service. service.key ∷ []) 0 declar
 
 -- whether a service is the one that a container's labels name, and depends on the one that another's name
 abbrev pub depends_by : Listed → Listed → DeclaredService → Bool
-depends_by row other service = names_service service.key row.labels && list_any (λ key. names_service key other.labels) service.depends_on
+depends_by row other service =
+    names_service service.key row.labels
+    && list_any (λ key. names_service key other.labels) service.depends_on
 
 -- the same of the service with this number
 abbrev pub depends_by_at : Declared → Listed → Listed → ℕ → Bool
-depends_by_at declared row other n = option_map_or (depends_by row other) (slice_get declared.services n) false
+depends_by_at declared row other n =
+    option_map_or (depends_by row other) (slice_get declared.services n) false

@@ -8,16 +8,18 @@ use Rattle.engine_types.specs.declared.Slot.{Slot}
 use Rattle.run_model.specs.EngineRules.{Among}
 use Rattle.run_model.specs.Plans.{IsOrderly, down_basis, planned, slot_at, up_basis}
 
--- neither the needs of the slots nor the dependencies of the services go in a circle: there is a rank of the slots that falls
--- along each need, and one of the keys that falls along each dependency
+-- neither the needs of the slots nor the dependencies of the services go in a circle: there is a rank of the slots
+-- that falls along each need, and one of the keys that falls along each dependency
 pub record HasNoCycle (declared : Declared) : Type 0 where
   pub rank : ℕ → ℕ
-  pub falls : (s : ℕ) (slot : Slot) (need : Need) → slot_at declared s ≡ Some slot → Among slot.needs need → rank need.slot < rank s
+  pub falls : (s : ℕ) (slot : Slot) (need : Need) → slot_at declared s ≡ Some slot
+      → Among slot.needs need → rank need.slot < rank s
   pub height : List ℕ → ℕ
-  pub sinks : (service : DeclaredService) (key : List ℕ) → Among declared.services service → Among service.depends_on key
-      → height key < height service.key
+  pub sinks : (service : DeclaredService) (key : List ℕ) → Among declared.services service
+      → Among service.depends_on key → height key < height service.key
 
 -- where neither of them goes in a circle, plans can be carried out in some order
 abbrev pub PlansAreOrderly : Type 0
-PlansAreOrderly = (declared : Declared) (seen : Seen) (orphans volumes : Bool) → HasNoCycle declared
-    → IsOrderly declared (planned (up_basis declared seen orphans)) × IsOrderly declared (planned (down_basis declared seen orphans volumes))
+PlansAreOrderly = (declared : Declared) (seen : Seen) (orphans volumes : Bool)
+    → HasNoCycle declared → IsOrderly declared (planned (up_basis declared seen orphans))
+    × IsOrderly declared (planned (down_basis declared seen orphans volumes))

@@ -1,20 +1,21 @@
 //! Under which texts the actions of a plan are found, and under which ones an action finds those that it needs.
 
-ghost use Rattle.std.specs.Prelude.{◌≡◌, ◌++◌, ◌∷◌, ◌==◌, ℕ, [], map, slice_get, IfOk, OnOk, unwrap_or};
+ghost use Rattle.std.specs.Prelude.{◌≡◌, ◌++◌, ◌∷◌, ◌==◌, ℕ, [], map, slice_get, IfOk, OnOk};
 ghost use Rattle.std.specs.List.{before_first};
 ghost use Rattle.std.specs.Option.{option_map_or};
 ghost use Rattle.engine_types.specs.declared.ActionKind.TheVariants.{StopContainer};
 ghost use Rattle.plan_core.specs.Finding.{actions_under, asked_by_slot, asked_of, bind_sources, dependents_of, joined_name, name_seen, needed_names, network_name_at, service_key_at, service_seen, slot_name_at, texts_of, volume_name_at};
 ghost use Rattle.plan_core.specs.Keeping.{services_under};
-ghost use Rattle.plan_core.specs.Index.{seen_entries, seen_texts, under_each};
+ghost use Rattle.plan_core.specs.Index.{numbers_under, seen_entries, seen_texts, under_each};
 ghost use Rattle.run_model.specs.Plans.{network_name, slot_at};
 
 use crate::kinds::id_at;
 use crate::needed::source_of;
 use crate::planner::Planner;
 use crate::slot_texts::service_named;
-use crate::text_index::TextIndex;
+use crate::text_index::{TextIndex, push_under};
 use engine_types::{ActionKind, Attach, Declared, Need, Seen, Slot};
+use run_lookups::network_name;
 use std::alloc::Global;
 use tree_base::{Memory, Text, item_at};
 
@@ -42,7 +43,8 @@ impl<'a> Planner<'a> {
         at: usize,
     ) -> Result<(), Memory>
         ensures { OnOk result (seen_entries entries.new.items
-            ≡ seen_entries entries.old.items ++ under_each (option_map_or (texts_of self.now) (slice_get kinds.now at) []) at) }
+            ≡ seen_entries entries.old.items
+            ++ under_each (option_map_or (texts_of self.now) (slice_get kinds.now at) []) at) }
     {
         match item_at(kinds, at) {
             Some(kind) => self.push_texts(entries, *kind, at as u64),
@@ -130,14 +132,22 @@ impl<'a> Planner<'a> {
         if self.is_up() {
             return Ok(());
         }
-        let services = self.dependents.find(service_seen(self.seen, container));
-        push_services(texts, self.declared, services)
+        push_services(texts, self.declared, self.dependents_on(container))
+    }
+
+    /// The numbers of the services that depend on the service of the container at a place. No memory.
+    fn dependents_on(&self, container: u64) -> &[u64]
+        ensures { result.now ≡ numbers_under (dependents_of self.now.declared)
+            (service_seen self.now.seen container) }
+    {
+        self.dependents.find(service_seen(self.seen, container))
     }
 
     /// Puts the texts last under which the create of a slot's container finds what it needs.
     fn push_asked_by_slot(&self, texts: &mut Vec<&'a str>, slot: u32) -> Result<(), Memory>
         ensures { OnOk result (seen_texts texts.new.items ≡ seen_texts texts.old.items
-            ++ option_map_or (asked_by_slot self.now.declared) (slot_at self.now.declared slot) []) }
+            ++ option_map_or (asked_by_slot self.now.declared)
+            (slot_at self.now.declared slot) []) }
     {
         let Some(row) = self.declared.slots.get(slot as usize) else {
             return Ok(());
@@ -170,12 +180,13 @@ fn push_service<'a>(
     at: usize,
 ) -> Result<(), Memory>
     ensures { OnOk result (seen_entries entries.new.items ≡ seen_entries entries.old.items
-        ++ under_each (option_map_or (λ service. service.key ∷ []) (slice_get declared.now.services at) []) at) }
+        ++ under_each (option_map_or (λ service. service.key ∷ [])
+        (slice_get declared.now.services at) []) at) }
 {
-    if let Some(service) = declared.services.get(at) {
-        entries.push((service.key.as_str(), at as u64))?;
+    match declared.services.get(at) {
+        Some(service) => push_under(entries, service.key.as_str(), at as u64),
+        None => Ok(()),
     }
-    Ok(())
 }
 
 /// The numbers of the services, under the keys of those that they depend on.
@@ -199,7 +210,8 @@ fn push_dependent<'a>(
     at: usize,
 ) -> Result<(), Memory>
     ensures { OnOk result (seen_entries entries.new.items ≡ seen_entries entries.old.items
-        ++ under_each (option_map_or (λ service. service.depends_on) (slice_get declared.now.services at) []) at) }
+        ++ under_each (option_map_or (λ service. service.depends_on)
+        (slice_get declared.now.services at) []) at) }
 {
     match declared.services.get(at) {
         Some(service) => push_keys(entries, service.depends_on.as_slice(), at as u64),
@@ -255,7 +267,8 @@ fn push_needed<'a>(
     needs: &[Need],
 ) -> Result<(), Memory>
     ensures { OnOk result (seen_texts texts.new.items
-        ≡ seen_texts texts.old.items ++ map (λ need. slot_name_at declared.now need.slot) needs.now) }
+        ≡ seen_texts texts.old.items
+        ++ map (λ need. slot_name_at declared.now need.slot) needs.now) }
 {
     for need in needs {
         texts.push(slot_name_at(declared, need.slot))?;
@@ -273,7 +286,7 @@ fn push_network_names<'a>(
         ≡ seen_texts texts.old.items ++ map (network_name declared.now) attaches.now) }
 {
     for attach in attaches {
-        texts.push(network_name_at(declared, attach.network))?;
+        texts.push(network_name(declared, attach))?;
     }
     Ok(())
 }
@@ -308,7 +321,7 @@ fn joined_name(declared: &Declared, slot: u32, attach: u32) -> &str
         return "";
     };
     match slot.attach.get(attach as usize) {
-        Some(attach) => network_name_at(declared, attach.network),
+        Some(attach) => network_name(declared, attach),
         None => "",
     }
 }
@@ -344,7 +357,7 @@ fn volume_name_at(declared: &Declared, volume: u32) -> &str
 }
 
 /// The name of the network with a number, and the empty text past the last. No memory.
-pub(crate) fn network_name_at(declared: &Declared, network: u32) -> &str
+fn network_name_at(declared: &Declared, network: u32) -> &str
     ensures { result.now ≡ network_name_at declared.now network }
 {
     match declared.networks.get(network as usize) {

@@ -4,6 +4,7 @@ ghost use Rattle.std.specs.Prelude.{◌≡◌, ◌++◌, ◌∷◌, [], filter, 
 ghost use Rattle.std.specs.List.{list_any};
 ghost use Rattle.std.specs.Option.{option_copied, option_map_or};
 ghost use Rattle.tree_base.specs.ByteOrder.{is_before, least_by};
+ghost use Rattle.plan_core.specs.Finding.{container_text};
 ghost use Rattle.plan_core.specs.Index.{seen_entries, under_each};
 ghost use Rattle.plan_core.specs.Keeping.{agrees_at, containers_under, id_in, is_slots_at, kept_under, texts_under};
 ghost use Rattle.plan_core.specs.Rows.{id_at};
@@ -11,14 +12,43 @@ ghost use Rattle.run_model.specs.Plans.{AreKeptPlaces, has_container, is_updated
 
 use crate::kinds::id_at;
 use crate::slot_texts::slot_text;
-use crate::text_index::TextIndex;
+use crate::text_index::{TextIndex, push_under};
 use engine_types::{Declared, Listed, Seen, Slot};
 use run_lookups::{agrees_seen, is_of_slot};
 use std::alloc::Global;
 use tree_base::{Memory, Text, item_at};
 
+/// What is looked up once for all slots: for each the place of the container that it keeps, among those that were
+/// seen, and whether it is updated.
+#[derive(Drop)]
+pub(crate) struct Found {
+    pub(crate) kept: Vec<Option<u64>>,
+    pub(crate) updated: Vec<bool>,
+}
+
+impl Found {
+    /// Looks for the containers of the slots, which are found under these texts.
+    pub(crate) fn new(
+        alloc: Global,
+        declared: &Declared,
+        seen: &Seen,
+        texts: &[Text],
+    ) -> Result<Found, Memory>
+        requires { texts.now ≡ map container_text seen.now.containers }
+        ensures kept { IfOk result (λ found.
+            AreKeptPlaces declared.now seen.now found.kept.items) }
+        ensures updated { IfOk result (λ found.
+            found.updated.items ≡ map (is_updated declared.now seen.now) declared.now.slots) }
+    {
+        let rows = texts_under(alloc, texts)?;
+        let kept = all_kept(alloc, declared, seen, &rows)?;
+        let updated = all_updated(alloc, declared, seen, &rows)?;
+        Ok(Found { kept, updated })
+    }
+}
+
 /// The places of texts under these: where they are the texts of the containers that were seen, the places of these.
-pub(crate) fn texts_under<'a>(alloc: Global, texts: &'a [Text]) -> Result<TextIndex<'a>, Memory>
+fn texts_under<'a>(alloc: Global, texts: &'a [Text]) -> Result<TextIndex<'a>, Memory>
     ensures { IfOk result (λ index. index ≡ texts_under texts.now) }
 {
     let mut entries = Vec::new(alloc);
@@ -37,14 +67,14 @@ fn push_text<'a>(
     ensures { OnOk result (seen_entries entries.new.items ≡ seen_entries entries.old.items
         ++ under_each (option_map_or (λ text. text ∷ []) (slice_get texts.now at) []) at) }
 {
-    if let Some(text) = item_at(texts, at) {
-        entries.push((text.as_str(), at as u64))?;
+    match item_at(texts, at) {
+        Some(text) => push_under(entries, text.as_str(), at as u64),
+        None => Ok(()),
     }
-    Ok(())
 }
 
 /// The places, among the containers that were seen, of those that the slots keep, in the slots' order.
-pub(crate) fn all_kept(
+fn all_kept(
     alloc: Global,
     declared: &Declared,
     seen: &Seen,
@@ -86,7 +116,8 @@ fn kept_among(
     places: &[u64],
 ) -> Result<Option<u64>, Memory>
     ensures { IfOk result (λ place. place
-        ≡ least_by (id_at seen.now.containers) (filter (agrees_at declared.now seen.now slot.now) places.now)) }
+        ≡ least_by (id_at seen.now.containers)
+        (filter (agrees_at declared.now seen.now slot.now) places.now)) }
 {
     let mut best = None;
     for at in (0..places.len()).rev() {
@@ -122,7 +153,8 @@ fn agrees_at(
     slot: &Slot,
     place: u64,
 ) -> Result<bool, Memory>
-    ensures { IfOk result (λ agreeing. agreeing ≡ agrees_at declared.now seen.now slot.now place) }
+    ensures { IfOk result (λ agreeing.
+        agreeing ≡ agrees_at declared.now seen.now slot.now place) }
 {
     match seen.containers.get(place as usize) {
         Some(row) => agrees_seen(alloc, declared, seen, slot, row),
@@ -134,7 +166,10 @@ fn agrees_at(
 pub(crate) fn row_at<'a>(seen: &'a Seen, place: Option<u64>) -> Option<&'a Listed>
     ensures { option_copied result ≡ option_and_then (slice_get seen.now.containers) place }
 {
-    seen.containers.get(place? as usize)
+    match place {
+        Some(place) => seen.containers.get(place as usize),
+        None => None,
+    }
 }
 
 /// The numbers of the slots, under the ids of the containers that they keep at these places.
@@ -171,7 +206,7 @@ fn push_kept<'a>(
 }
 
 /// For each slot whether it is updated: it keeps no container, and one of it was seen.
-pub(crate) fn all_updated(
+fn all_updated(
     alloc: Global,
     declared: &Declared,
     seen: &Seen,

@@ -61,7 +61,8 @@ impl Planner<'_> {
 
     /// Puts an action last where the plan has it.
     fn push_wanted(&self, kinds: &mut List<ActionKind>, kind: ActionKind) -> Result<(), Memory>
-        ensures { OnOk result (kinds.new ≡ kinds.old ++ filter (is_wanted self.now) (kind ∷ [])) }
+        ensures { OnOk result (kinds.new ≡
+            kinds.old ++ filter (is_wanted self.now) (kind ∷ [])) }
     {
         if self.is_wanted(kind) {
             kinds.push(kind)?;
@@ -86,16 +87,21 @@ impl Planner<'_> {
         ensures { result ≡ count_of self.now row }
     {
         match row {
-            Row::NewVolumes | Row::OldVolumes => self.declared.volumes.len(),
-            Row::NewNetworks | Row::OldNetworks => self.declared.networks.len(),
-            Row::Creates | Row::Restarts | Row::Starts => self.declared.slots.len(),
+            Row::NewVolumes => self.declared.volumes.len(),
+            Row::NewNetworks => self.declared.networks.len(),
+            Row::Creates => self.declared.slots.len(),
+            Row::Restarts => self.declared.slots.len(),
+            Row::Starts => self.declared.slots.len(),
+            Row::OldNetworks => self.declared.networks.len(),
+            Row::OldVolumes => self.declared.volumes.len(),
         }
     }
 
     /// The stop and the removal of each container that goes, in byte order of the ids.
     fn push_ends_by_id(&self, alloc: Global, kinds: &mut List<ActionKind>) -> Result<(), Memory>
         ensures { OnOk result (kinds.new ≡ kinds.old
-            ++ filter (is_wanted self.now) (flat_map ends_of (places_by_id self.now.seen.containers))) }
+            ++ filter (is_wanted self.now)
+            (flat_map ends_of (places_by_id self.now.seen.containers))) }
     {
         let order = places_by_id(alloc, self.seen.containers.as_slice())?;
         self.push_removals(kinds, order.as_slice())?;
@@ -125,7 +131,8 @@ impl Planner<'_> {
 
     fn push_connects(&self, kinds: &mut List<ActionKind>) -> Result<(), Memory>
         ensures { OnOk result (kinds.new ≡ kinds.old
-            ++ filter (is_wanted self.now) (flat_map (connects_of self.now) (places self.now.declared.slots))) }
+            ++ filter (is_wanted self.now)
+            (flat_map (connects_of self.now) (places self.now.declared.slots))) }
     {
         for at in 0..self.declared.slots.len() {
             let slot = number_of(at)?;
@@ -161,7 +168,10 @@ impl Planner<'_> {
 pub(crate) fn number_of(at: usize) -> Result<u32, Memory>
     ensures { IfOk result (λ number. number ≡ at) }
 {
-    u32::try_from(at).map_err(|_| Memory)
+    match u32::try_from(at) {
+        Ok(number) => Ok(number),
+        Err(_) => Err(Memory),
+    }
 }
 
 /// The places of containers in byte order of their ids, and in their own order where ids are equal.

@@ -1,16 +1,15 @@
 //! Which actions an action needs to have ended well.
 
-ghost use Rattle.std.specs.Prelude.{◌≡◌, ◌==◌, ◌&&◌, ◌++◌, ◌∷◌, ℕ, [], false, true, filter, slice_get, if◌then◌else◌, IfOk, OnOk};
+ghost use Rattle.std.specs.Prelude.{◌≡◌, ◌==◌, ◌&&◌, ◌++◌, ◌∷◌, ℕ, [], false, true, filter, if◌then◌else◌, IfOk, OnOk};
 ghost use Rattle.std.specs.List.{before_first, list_any};
-ghost use Rattle.std.specs.Option.{option_map_or};
 ghost use Rattle.engine_types.specs.declared.ActionKind.TheVariants.{StopContainer, CreateSlot, ConnectSlot, StopKept, StartSlot};
 ghost use Rattle.plan_core.specs.Finding.{actions_under, is_needed_at, is_removal_at, needs_removals, removals_in};
 ghost use Rattle.plan_core.specs.Keeping.{depends_by, depends_by_at};
 ghost use Rattle.run_model.specs.Labels.{names_service};
-ghost use Rattle.run_model.specs.Plans.{Basis, asks_restart, attaches_to, depends_on, is_bound_by, is_in_way, is_needed_by, needed_by, slot_at};
+ghost use Rattle.run_model.specs.Plans.{Basis, asks_restart, attaches_to, depends_on, is_bound_by, is_in_way, is_needed_by, needed_by};
 
 use crate::kinds::number_of;
-use crate::planner::Planner;
+use crate::planner::{Planner, copied};
 use crate::slot_texts::service_named;
 use crate::text_index::{TextIndex, places_found};
 use engine_types::{
@@ -21,8 +20,8 @@ use std::alloc::Global;
 use tree_base::{List, Memory, Text, item_at};
 
 impl Planner<'_> {
-    /// The numbers of the actions that an action needs, of actions that are numbered by their places. `removals` are those of
-    /// all removals, which are listed once for all that need them.
+    /// The numbers of the actions that an action needs, of actions that are numbered by their places. `removals` are
+    /// those of all removals, which are listed once for all that need them.
     pub(crate) fn needed_by(
         &self,
         alloc: Global,
@@ -163,7 +162,8 @@ impl Planner<'_> {
     /// The create of a slot's container needs the removals of the containers that are in its way, and the networks
     /// and volumes that it uses.
     fn create_needs(&self, alloc: Global, slot: u32, other: ActionKind) -> Result<bool, Memory>
-        ensures { IfOk result (λ needed. needed ≡ is_needed_by self.now (CreateSlot slot) other) }
+        ensures { IfOk result (λ needed.
+            needed ≡ is_needed_by self.now (CreateSlot slot) other) }
     {
         let Some(slot) = self.declared.slots.get(slot as usize) else {
             return Ok(false);
@@ -222,12 +222,18 @@ impl Planner<'_> {
 
     /// Whether one of these needs asks for a restart by the update of a slot.
     fn restarts_for(&self, needs: &[Need], started: u32) -> bool
-        ensures { result ≡ list_any (λ need.
-            (need.slot == started) && asks_restart self.now.declared self.now.seen need) needs.now }
+        ensures { result ≡ list_any (λ need. (need.slot == started)
+            && asks_restart self.now.declared self.now.seen need) needs.now }
     {
-        needs
-            .iter()
-            .any(|need| need.slot == started && self.asks_restart(need))
+        needs.iter().any(|need| self.restarts_by(need, started))
+    }
+
+    /// Whether a need asks for a restart by the update of a slot. No memory.
+    fn restarts_by(&self, need: &Need, started: u32) -> bool
+        ensures { result ≡ ((need.now.slot == started)
+            && asks_restart self.now.declared self.now.seen need.now) }
+    {
+        need.slot == started && self.asks_restart(need)
     }
 }
 
@@ -261,15 +267,6 @@ fn is_removal_at(kinds: &[ActionKind], at: usize) -> bool
         Some(kind) => matches!(kind, ActionKind::RemoveContainer { .. }),
         None => false,
     }
-}
-
-/// A list of these numbers.
-fn copied(alloc: Global, numbers: &[u32]) -> Result<List<u32>, Memory>
-    ensures { IfOk result (λ list. list ≡ numbers.now) }
-{
-    let mut list = List::new(alloc);
-    list.extend_from_slice(numbers)?;
-    Ok(list)
 }
 
 /// Puts a place last where it is asked for.

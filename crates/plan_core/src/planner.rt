@@ -4,7 +4,7 @@ ghost use Rattle.plan_core.specs.Finding.{container_text, slot_seen, slot_text, 
 ghost use Rattle.run_model.specs.Plans.{AreKeptPlaces, kept};
 
 use crate::finding::{dependents_of, services_under};
-use crate::keeping::{all_kept, all_updated, kept_under, row_at, texts_under};
+use crate::keeping::{Found, kept_under, row_at};
 use crate::slot_texts::{SlotTexts, text_at};
 use crate::text_index::TextIndex;
 use engine_types::{Declared, Listed, Purpose, Seen};
@@ -12,8 +12,8 @@ use std::alloc::Global;
 use std::marker::Model;
 use tree_base::{List, Memory, item_at};
 
-/// What a plan is made from, beside what is looked up once: which containers the slots keep, which slots are updated, and
-/// the services by their keys.
+/// What a plan is made from, beside what is looked up once: which containers the slots keep, which slots are updated,
+/// and the services by their keys.
 #[derive(Drop)]
 pub(crate) struct Planner<'a> {
     pub(crate) declared: &'a Declared,
@@ -21,12 +21,10 @@ pub(crate) struct Planner<'a> {
     pub(crate) purpose: Purpose,
     pub(crate) orphans: bool,
     pub(crate) volumes: bool,
-    /// For each slot the place of the container that it keeps, among those that were seen.
-    pub(crate) kept: Vec<Option<u64>>,
+    /// Which containers the slots keep, and which slots are updated.
+    pub(crate) found: Found,
     /// The numbers of the slots, under the ids of the containers that they keep.
     pub(crate) kept_ids: TextIndex<'a>,
-    /// For each slot whether it is updated.
-    pub(crate) updated: Vec<bool>,
     /// The numbers of the services, under their keys.
     pub(crate) services: TextIndex<'a>,
     /// The numbers of the services, under the keys of those that they depend on.
@@ -50,9 +48,10 @@ impl<'a> Model for Planner<'a> {
     } };
 
     ghost invariant = { λ p.
-        AreKeptPlaces p.declared.now p.seen.now p.kept.items
-        × (p.kept_ids ≡ kept_under p.seen.now p.kept.items)
-        × (p.updated.items ≡ map (is_updated p.declared.now p.seen.now) p.declared.now.slots)
+        AreKeptPlaces p.declared.now p.seen.now p.found.kept.items
+        × (p.kept_ids ≡ kept_under p.seen.now p.found.kept.items)
+        × (p.found.updated.items
+        ≡ map (is_updated p.declared.now p.seen.now) p.declared.now.slots)
         × (p.services ≡ services_under p.declared.now)
         × (p.dependents ≡ dependents_of p.declared.now)
         × (p.texts.now.slots ≡ map slot_text p.declared.now.slots)
@@ -78,10 +77,8 @@ impl<'a> Planner<'a> {
           aim = record { purpose = purpose; orphans = orphans; volumes = volumes };
         }) }
     {
-        let rows = texts_under(alloc, texts.containers.as_slice())?;
-        let kept = all_kept(alloc, declared, seen, &rows)?;
-        let updated = all_updated(alloc, declared, seen, &rows)?;
-        let kept_ids = kept_under(alloc, seen, kept.as_slice())?;
+        let found = Found::new(alloc, declared, seen, texts.containers.as_slice())?;
+        let kept_ids = kept_under(alloc, seen, found.kept.as_slice())?;
         let services = services_under(alloc, declared)?;
         let dependents = dependents_of(alloc, declared)?;
         Ok(Planner {
@@ -90,9 +87,8 @@ impl<'a> Planner<'a> {
             purpose,
             orphans,
             volumes,
-            kept,
+            found,
             kept_ids,
-            updated,
             services,
             dependents,
             texts,
@@ -103,7 +99,7 @@ impl<'a> Planner<'a> {
     pub(crate) fn kept(&self, slot: usize) -> Option<&'a Listed>
         ensures { option_copied result ≡ kept self.now.declared self.now.seen slot }
     {
-        kept_at(self.seen, self.kept.as_slice(), slot)
+        kept_at(self.seen, self.found.kept.as_slice(), slot)
     }
 
     /// The text of the slot with a number, and the empty text past the last. No memory.
@@ -113,7 +109,8 @@ impl<'a> Planner<'a> {
         text_at(self.texts.slots.as_slice(), slot as usize)
     }
 
-    /// The text of the slot that the labels of the container at a place name, and the empty text past the last. No memory.
+    /// The text of the slot that the labels of the container at a place name, and the empty text past the last. No
+    /// memory.
     pub(crate) fn slot_seen(&self, container: u64) -> &'a str
         ensures { result.now ≡ slot_seen self.now.seen container }
     {
@@ -124,7 +121,7 @@ impl<'a> Planner<'a> {
     pub(crate) fn kept_places(&self, alloc: Global) -> Result<List<Option<u64>>, Memory>
         ensures { IfOk result (λ kept. AreKeptPlaces self.now.declared self.now.seen kept) }
     {
-        listed(alloc, self.kept.as_slice())
+        copied(alloc, self.found.kept.as_slice())
     }
 }
 
@@ -134,16 +131,17 @@ fn kept_at<'a>(seen: &'a Seen, kept: &[Option<u64>], slot: usize) -> Option<&'a 
         option_and_then (option_and_then (slice_get seen.now.containers))
         (slice_get kept.now slot) }
 {
-    row_at(seen, *item_at(kept, slot)?)
+    match item_at(kept, slot) {
+        Some(place) => row_at(seen, *place),
+        None => None,
+    }
 }
 
-/// A list of these places.
-fn listed(alloc: Global, places: &[Option<u64>]) -> Result<List<Option<u64>>, Memory>
-    ensures { IfOk result (λ list. list ≡ places.now) }
+/// A list of these items.
+pub(crate) fn copied<T: Copy + Drop>(alloc: Global, items: &[T]) -> Result<List<T>, Memory>
+    ensures { IfOk result (λ list. list ≡ items.now) }
 {
     let mut list = List::new(alloc);
-    for place in places {
-        list.push(*place)?;
-    }
+    list.extend_from_slice(items)?;
     Ok(list)
 }

@@ -18,8 +18,8 @@ const ACTIONS_LIMIT: usize = 65_536;
 
 /// The plan that brings a project up: the volumes and networks that weren't seen are made; the project's containers
 /// that no slot keeps are stopped and removed, orphans where these are asked for; then a container is created for
-/// each slot that keeps none, and connected to its other networks; live ones that are kept are stopped where a need asks
-/// to start them anew; and those that aren't live then are started. It tells which container each slot keeps.
+/// each slot that keeps none, and connected to its other networks; live ones that are kept are stopped where a need
+/// asks to start them anew; and those that aren't live then are started. It tells which container each slot keeps.
 pub fn plan_up(
     alloc: Global,
     declared: &Declared,
@@ -107,7 +107,10 @@ impl Planner<'_> {
     /// Each of a plan's actions with its needs.
     fn actions_of(&self, alloc: Global, kinds: &[ActionKind]) -> Result<List<Action>, Memory>
         ensures { IfOk result (λ actions. actions
-            ≡ map (λ kind. record { kind = kind; needs = needed_by self.now kinds.now kind }) kinds.now) }
+            ≡ map (λ kind. record {
+              kind = kind;
+              needs = needed_by self.now kinds.now kind;
+            }) kinds.now) }
     {
         let index = self.actions_under(alloc, kinds)?;
         let removals = removals_in(alloc, kinds)?;
@@ -125,7 +128,10 @@ impl Planner<'_> {
         requires indexed { index.now ≡ actions_under self.now kinds.now }
         requires listed { removals.now ≡ removals_in kinds.now }
         ensures { IfOk result (λ actions. actions
-            ≡ map (λ kind. record { kind = kind; needs = needed_by self.now kinds.now kind }) kinds.now) }
+            ≡ map (λ kind. record {
+              kind = kind;
+              needs = needed_by self.now kinds.now kind;
+            }) kinds.now) }
     {
         let mut actions = List::new(alloc);
         for kind in kinds {

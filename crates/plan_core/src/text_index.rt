@@ -1,7 +1,7 @@
-ghost use Rattle.std.specs.Prelude.{◌≡◌, ◌++◌, List, ℕ, IfOk, OnOk, map, filter, flat_map, bytes_eq, []};
+ghost use Rattle.std.specs.Prelude.{◌≡◌, ◌++◌, ◌∷◌, List, ℕ, IfOk, OnOk, map, filter, flat_map, bytes_eq, []};
 ghost use Rattle.std.specs.HashMap.{get_by};
 ghost use Rattle.std.specs.Option.{option_map_or};
-ghost use Rattle.plan_core.specs.Index.{is_under, numbers_under, seen_entries, seen_texts};
+ghost use Rattle.plan_core.specs.Index.{is_under, numbers_under, seen_entries, seen_texts, under_each};
 ghost use Rattle.run_model.specs.EngineRules.{Among};
 ghost use Rattle.std.specs.List.Sorted.{IsStrictlyIncreasing};
 
@@ -28,8 +28,10 @@ impl<'a> Model for TextIndex<'a> {
     ghost view = { λ index. seen_entries index.entries.items };
 
     ghost invariant = { λ index. (text : List ℕ) →
-        option_map_or (λ numbers. numbers.items) (get_by (λ key. bytes_eq text key.now) index.numbers) []
-        ≡ map (λ entry. entry.1) (filter (λ entry. bytes_eq text entry.0.now) index.entries.items) };
+        option_map_or (λ numbers. numbers.items)
+        (get_by (λ key. bytes_eq text key.now) index.numbers) []
+        ≡ map (λ entry. entry.1)
+        (filter (λ entry. bytes_eq text entry.0.now) index.entries.items) };
 }
 
 impl<'a> TextIndex<'a> {
@@ -60,6 +62,19 @@ impl<'a> TextIndex<'a> {
             [_, ..] => true,
         }
     }
+}
+
+/// Puts a number last, under a text.
+pub(crate) fn push_under<'a>(
+    entries: &mut Vec<(&'a str, u64)>,
+    text: &'a str,
+    number: u64,
+) -> Result<(), Memory>
+    ensures { OnOk result (seen_entries entries.new.items ≡
+        seen_entries entries.old.items ++ under_each (text.now ∷ []) number) }
+{
+    entries.push((text, number))?;
+    Ok(())
 }
 
 /// The numbers of entries under each text.

@@ -1,9 +1,8 @@
 //! Which actions a plan has.
 
-ghost use Rattle.std.specs.Prelude.{◌≡◌, false, slice_get};
+ghost use Rattle.std.specs.Prelude.{◌≡◌, false, slice_get, unwrap_or};
 ghost use Rattle.std.specs.Option.{option_copied, option_map_or};
 ghost use Rattle.std.specs.List.{list_any};
-ghost use Rattle.std.specs.Str.{bytes_eq};
 ghost use Rattle.engine_types.specs.declared.ActionKind.TheVariants.{MakeVolume, MakeNetwork, CreateSlot, ConnectSlot, StopKept, StartSlot, RemoveNetwork, RemoveVolume};
 ghost use Rattle.run_model.specs.EngineRules.{is_live as is_live_state};
 ghost use Rattle.run_model.specs.Observation.{is_up as is_up_purpose};
@@ -51,7 +50,8 @@ impl Planner<'_> {
         self.kept_ids.has(row.id.as_str())
     }
 
-    /// Whether a container is to go: one of the project that `up` doesn't keep, or an orphan where these are asked for.
+    /// Whether a container is to go: one of the project that `up` doesn't keep, or an orphan where these are asked
+    /// for.
     fn is_removed(&self, row: &Listed) -> bool
         ensures { result ≡ is_removed self.now row.now }
     {
@@ -170,10 +170,7 @@ impl Planner<'_> {
         ensures { result ≡ option_map_or (is_updated self.now.declared self.now.seen)
             (slot_at self.now.declared slot) false }
     {
-        match item_at(self.updated.as_slice(), slot as usize) {
-            Some(updated) => *updated,
-            None => false,
-        }
+        flag_at(self.found.updated.as_slice(), slot as usize)
     }
 
     fn starts(&self, slot: u32) -> bool
@@ -231,19 +228,25 @@ fn is_network_seen(seen: &Seen, name: &Text) -> bool
 fn is_volume_seen(seen: &Seen, name: &Text) -> bool
     ensures { result ≡ is_volume_seen seen.now name.now }
 {
-    contains(seen.volumes.as_slice(), name.as_str())
+    seen.volumes.as_slice().iter().any(|other| *name == *other)
 }
 
-/// Whether a text is one of these.
-fn contains(texts: &[Text], text: &str) -> bool
-    ensures { result ≡ list_any (bytes_eq text.now) texts.now }
+/// The flag at a place, and false past the last. No memory.
+fn flag_at(flags: &[bool], at: usize) -> bool
+    ensures { result ≡ unwrap_or (slice_get flags.now at) false }
 {
-    texts.iter().any(|other| text == other.as_str())
+    match item_at(flags, at) {
+        Some(flag) => *flag,
+        None => false,
+    }
 }
 
 /// Whether a container is there and live.
 fn is_live_row(row: Option<&Listed>) -> bool
     ensures { result ≡ option_map_or (λ listed. is_live_state listed.now.state) row.entry false }
 {
-    row.is_some_and(|row| is_live(row.state))
+    match row {
+        Some(row) => is_live(row.state),
+        None => false,
+    }
 }

@@ -1,5 +1,5 @@
 -- A key more.
-use Rattle.std.proofs.Common.{◌∙◌, ◌++◌, ◌+◌, List, ℕ, sym, ap, take, map}
+use Rattle.std.proofs.Common.{◌∙◌, ◌++◌, ◌+◌, List, ℕ, sym, ap, take}
 use Rattle.plan_core.specs.Index.{seen_entries, under_each}
 use Rattle.plan_core.proofs.Index.{entries_turn}
 use Rattle.plan_core.proofs.Loops.{mapped_itself}

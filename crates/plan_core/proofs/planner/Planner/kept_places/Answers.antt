@@ -7,6 +7,6 @@ use Rattle.plan_core.proofs.planner.Planner.kept_places.Goals as goal
 pub returns : goal.returns
 returns c =
     let fields = c.self.inside in
-    subst (λ (b : Basis). IfOk c.listed.result (λ kept. AreKeptPlaces b.declared b.seen kept)) c.self.view_is
-    (places_kept fields.declared.now fields.seen.now c.listed.result fields.kept.items c.self.invariant.0
-    (subst (λ (places : List (Option ℕ)). IfOk c.listed.result (λ list. list ≡ places)) c.as_slice.ensures.value c.listed.ensures))
+    subst (λ (b : Basis). IfOk c.copied.result (λ kept. AreKeptPlaces b.declared b.seen kept)) c.self.view_is
+    (places_kept fields.declared.now fields.seen.now c.copied.result fields.found.kept.items c.self.invariant.0
+    (subst (λ (places : List (Option ℕ)). IfOk c.copied.result (λ list. list ≡ places)) c.as_slice.ensures.value c.copied.ensures))

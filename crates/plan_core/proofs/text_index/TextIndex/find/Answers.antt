@@ -1,9 +1,8 @@
 -- What the groups hold under the text.
-use Rattle.std.proofs.Common.{◌≡◌, ◌∙◌, ℕ, List, [], Option, Vec, Global, ap}
+use Rattle.std.proofs.Common.{◌∙◌, ℕ, List, [], Option, Vec, Global, ap}
 use Rattle.std.specs.Option.{option_map_or}
 use Rattle.plan_core.specs.Index.{numbers_under}
 use Rattle.plan_core.proofs.Index.{held_under}
-use Rattle.plan_core.proofs.Rising.{all_that_pass}
 use Rattle.plan_core.proofs.text_index.TextIndex.find.Goals as goal
 
 pub returns-in-Some : goal.returns-in-Some
