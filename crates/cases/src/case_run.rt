@@ -1,58 +1,73 @@
 use crate::calls::{answer, inputs_of};
 use crate::case_file::cases_of;
-use crate::counts::Counts;
+use crate::run::Run;
 use crate::stop::Stop;
-use case_files::{Answers, Case, CaseFault};
+use case_files::{Answers, Case, CaseFault, Line};
 use std::alloc::Global;
 use tree_base::{Text, Tree};
 
 /// Runs the cases of a file, and counts them.
-pub fn run_file(rt: &HostRuntime, file: &Text, counts: &mut Counts) -> Result<(), Stop> {
-    counts.files = counts.files.saturating_add(1);
+pub fn run_file(rt: &HostRuntime, file: &Text, run: &mut Run) {
+    run.counts.files = run.counts.files.saturating_add(1);
     match cases_of(rt, file) {
-        Ok(cases) => run_cases(rt, file, cases.as_slice(), counts),
-        Err(CaseFault::Memory) => Err(Stop::Memory),
+        Ok(cases) => run_cases(rt, file, cases.as_slice(), run),
+        Err(CaseFault::Memory) => run.break_off(Stop::Memory),
         Err(CaseFault::NoCase(words)) => {
-            counts.unread = counts.unread.saturating_add(1);
-            Ok(println!(rt; "{file}: {words}")?)
+            run.counts.unread = run.counts.unread.saturating_add(1);
+            run.tell(rt, unread_line(rt.alloc(), file, &words));
         }
     }
 }
 
-fn run_cases(
-    rt: &HostRuntime,
-    file: &Text,
-    cases: &[Tree],
-    counts: &mut Counts,
-) -> Result<(), Stop> {
+/// That a file isn't read, and why.
+fn unread_line(alloc: Global, file: &Text, words: &Text) -> Line {
+    let mut line = Line::new(alloc);
+    line.put(file.as_str());
+    line.put(": ");
+    line.put(words.as_str());
+    line.put("\n");
+    line
+}
+
+fn run_cases(rt: &HostRuntime, file: &Text, cases: &[Tree], run: &mut Run) {
     for (at, tree) in cases.iter().enumerate() {
-        counts.cases = counts.cases.saturating_add(1);
-        run_case(rt, file, at, tree, counts)?;
+        if run.goes_on() {
+            run.counts.cases = run.counts.cases.saturating_add(1);
+            run_case(rt, file, at, tree, run);
+        }
     }
-    Ok(())
 }
 
 /// Runs a case, and says how it differs or why it is none.
-fn run_case(
-    rt: &HostRuntime,
-    file: &Text,
-    at: usize,
-    tree: &Tree,
-    counts: &mut Counts,
-) -> Result<(), Stop> {
-    let number = (at as u64).saturating_add(1);
+fn run_case(rt: &HostRuntime, file: &Text, at: usize, tree: &Tree, run: &mut Run) {
     match differences(rt.alloc(), tree) {
-        Ok(None) => Ok(()),
+        Ok(None) => {}
         Ok(Some(words)) => {
-            counts.differ = counts.differ.saturating_add(1);
-            Ok(print!(rt; "{file}, case {number}: {words}")?)
+            run.counts.differ = run.counts.differ.saturating_add(1);
+            let mut line = case_line(rt.alloc(), file, at);
+            line.put(words.as_str());
+            run.tell(rt, line);
         }
         Err(CaseFault::NoCase(words)) => {
-            counts.no_cases = counts.no_cases.saturating_add(1);
-            Ok(println!(rt; "{file}, case {number}: no case: {words}")?)
+            run.counts.no_cases = run.counts.no_cases.saturating_add(1);
+            let mut line = case_line(rt.alloc(), file, at);
+            line.put("no case: ");
+            line.put(words.as_str());
+            line.put("\n");
+            run.tell(rt, line);
         }
-        Err(CaseFault::Memory) => Err(Stop::Memory),
+        Err(CaseFault::Memory) => run.break_off(Stop::Memory),
     }
+}
+
+/// The beginning of what is told of a case, which count from 1.
+fn case_line(alloc: Global, file: &Text, at: usize) -> Line {
+    let mut line = Line::new(alloc);
+    line.put(file.as_str());
+    line.put(", case ");
+    line.put_number((at as u64).saturating_add(1));
+    line.put(": ");
+    line
 }
 
 /// The title of a case and the lines of its differences; None where its answers are as wanted.

@@ -1,6 +1,6 @@
 ghost use Rattle.std.specs.Prelude.{◌≡◌, ◌<◌, ℕ};
 
-use std::fmt;
+use case_files::Line;
 
 /// How many cases ran, and how they came out.
 #[derive(Clone, Copy)]
@@ -42,35 +42,38 @@ impl Counts {
             0
         }
     }
-}
 
-impl fmt::Display for Counts {
-    /// As `1043 cases in 31 files: all as wanted`, or `1043 cases in 31 files: 2 differ, 1 is no case, 1 file isn't read`.
-    fn fmt<W: fmt::Write>(&self, f: &mut fmt::Formatter<W>) -> fmt::Result {
-        let cases = self.cases;
-        let files = self.files;
-        write!(f, "{cases} cases in {files} files: ")?;
+    /// Says them, as `1043 cases in 31 files: all as wanted`, or
+    /// `1043 cases in 31 files: 2 differ, 1 is no case, 1 file isn't read`.
+    pub fn say(&self, line: &mut Line) {
+        line.put_number(self.cases);
+        line.put(" cases in ");
+        line.put_number(self.files);
+        line.put(" files: ");
         if self.status() == 0 {
-            return f.write_str("all as wanted");
+            line.put("all as wanted");
+        } else {
+            self.say_faults(line);
         }
-        let differ = self.differ;
-        write!(f, "{differ} ")?;
-        f.write_str(if differ == 1 { "differs" } else { "differ" })?;
-        write_faults(self.no_cases, " is no case", " are no cases", f)?;
-        write_faults(self.unread, " file isn't read", " files aren't read", f)
+    }
+
+    fn say_faults(&self, line: &mut Line) {
+        line.put_number(self.differ);
+        line.put(if self.differ == 1 {
+            " differs"
+        } else {
+            " differ"
+        });
+        say_fault(line, self.no_cases, " is no case", " are no cases");
+        say_fault(line, self.unread, " file isn't read", " files aren't read");
     }
 }
 
-/// Writes how many there are, where there are any.
-fn write_faults<W: fmt::Write>(
-    count: u64,
-    one: &str,
-    many: &str,
-    f: &mut fmt::Formatter<W>,
-) -> fmt::Result {
-    match count {
-        0 => Ok(()),
-        1 => write!(f, ", 1{one}"),
-        _ => write!(f, ", {count}{many}"),
+/// Says how many there are, where there are any.
+fn say_fault(line: &mut Line, count: u64, one: &str, many: &str) {
+    if count > 0 {
+        line.put(", ");
+        line.put_number(count);
+        line.put(if count == 1 { one } else { many });
     }
 }

@@ -9,31 +9,40 @@ mod calls;
 mod case_file;
 mod case_run;
 mod counts;
+mod run;
 mod stop;
 
 use crate::case_run::run_file;
-use crate::counts::Counts;
+use crate::run::Run;
 use crate::stop::Stop;
+use case_files::Line;
 use std::env;
 use std::process::ExitCode;
 use tree_base::Text;
 
 fn main(rt: HostRuntime) -> ExitCode {
-    match run(&rt) {
-        Ok(counts) => ExitCode::from(counts.status()),
-        Err(stop) => ExitCode::from(stop.status()),
-    }
+    let mut run = Run::new();
+    run_words(&rt, &mut run);
+    ExitCode::from(run.status())
 }
 
 /// Runs the files that the words name, and says the counts.
-fn run(rt: &HostRuntime) -> Result<Counts, Stop> {
-    let mut counts = Counts::new();
-    let Ok(words) = env::args(rt) else {
-        return Err(Stop::Memory);
-    };
-    for word in words.skip(1) {
-        run_file(rt, &Text::from_string(word), &mut counts)?;
+fn run_words(rt: &HostRuntime, run: &mut Run) {
+    match env::args(rt) {
+        Ok(words) => {
+            for word in words.skip(1) {
+                let file = Text::from_string(word);
+                run_file(rt, &file, run);
+            }
+            say_counts(rt, run);
+        }
+        Err(_) => run.break_off(Stop::Memory),
     }
-    println!(rt; "{counts}")?;
-    Ok(counts)
+}
+
+fn say_counts(rt: &HostRuntime, run: &mut Run) {
+    let mut line = Line::new(rt.alloc());
+    run.counts.say(&mut line);
+    line.put("\n");
+    run.tell(rt, line);
 }

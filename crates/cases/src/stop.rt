@@ -1,7 +1,3 @@
-use case_files::CaseFault;
-use std::io;
-use tree_base::Memory;
-
 /// Why a run of cases is broken off.
 #[derive(Clone, Copy)]
 pub enum Stop {
@@ -16,17 +12,5 @@ impl Stop {
             Stop::Memory => 9,
             Stop::Output => 7,
         }
-    }
-}
-
-impl From<Memory> for Stop {
-    fn from(_: Memory) -> Stop {
-        Stop::Memory
-    }
-}
-
-impl From<io::Error> for Stop {
-    fn from(_: io::Error) -> Stop {
-        Stop::Output
     }
 }
