@@ -13,7 +13,7 @@ use Rattle.run_model.specs.Plans.{IsWhole, is_running, is_slot_before}
 use Rattle.tree_base.specs.ByteOrder.{IsAscending, is_before}
 use Rattle.serial_run.proofs.Lists.{all_each}
 use Rattle.serial_run.specs.Serial.{WaitsForNone}
-use Rattle.cases_runs.specs.Whole.{are_attached, are_owned, is_alone, is_ascending, is_attached, is_nil, is_owned, is_serial, need_nothing, stand_alone}
+use Rattle.cases_runs.specs.Whole.{are_served, is_alone, is_ascending, is_attached, is_nil, is_owned, is_serial, is_served, stand_alone}
 
 module _ {X : Type 0} where
   each_at : (p : X → Bool) (xs : List X) (j : ℕ) (y : X) → list_all p xs ≡ true → slice_get xs j ≡ Some y → p y ≡ true
@@ -35,45 +35,49 @@ module _ {X : Type 0} where
   nil_of [] e = refl
   nil_of (x ∷ xs) e = let clash : false ≡ true = e in absurd (cc clash)
 
--- eight tests that all pass
-record Eight (a b c d e f g h : Bool) : Type 0 where
+-- six tests that all pass
+record Six (a b c d e f : Bool) : Type 0 where
   one : a ≡ true
   two : b ≡ true
   three : c ≡ true
   four : d ≡ true
   five : e ≡ true
   six : f ≡ true
-  seven : g ≡ true
-  eight : h ≡ true
 
-all_eight : (a b c d e f g h : Bool) → (a && b && c && d && e && f && g && h) ≡ true → Eight a b c d e f g h
-all_eight a b c d e f g h p =
-    let p8 = and_parts (a && b && c && d && e && f && g) h p in
-    let p7 = and_parts (a && b && c && d && e && f) g p8.0 in
-    let p6 = and_parts (a && b && c && d && e) f p7.0 in
+all_six : (a b c d e f : Bool) → (a && b && c && d && e && f) ≡ true → Six a b c d e f
+all_six a b c d e f p =
+    let p6 = and_parts (a && b && c && d && e) f p in
     let p5 = and_parts (a && b && c && d) e p6.0 in
     let p4 = and_parts (a && b && c) d p5.0 in
     let p3 = and_parts (a && b) c p4.0 in
     let p2 = and_parts a b p3.0 in
-    record { one = p2.0; two = p2.1; three = p3.1; four = p4.1; five = p5.1; six = p6.1; seven = p7.1; eight = p8.1 }
+    record { one = p2.0; two = p2.1; three = p3.1; four = p4.1; five = p5.1; six = p6.1 }
 
 none_of : (o : Option ℕ) → is_none o ≡ true → o ≡ None
 none_of None e = refl
 none_of (Some n) e = let clash : false ≡ true = e in absurd (cc clash)
 
 module _ (declared : Declared) (serial : is_serial declared ≡ true) where
-  tests : Eight (is_ascending is_slot_before declared.slots) (is_ascending (λ service other. is_before service.key other.key) declared.services)
+  tests : Six (is_ascending is_slot_before declared.slots) (is_ascending (λ service other. is_before service.key other.key) declared.services)
       (is_ascending (λ network other. is_before network.name other.name) declared.networks) (is_ascending (λ volume other. is_before volume.name other.name) declared.volumes)
-      (are_owned declared.services declared.slots) (are_attached declared.networks declared.slots) (need_nothing declared.slots) (stand_alone declared.services)
-  tests = all_eight (is_ascending is_slot_before declared.slots) (is_ascending (λ service other. is_before service.key other.key) declared.services)
+      (are_served declared.services declared.networks declared.slots) (stand_alone declared.services)
+  tests = all_six (is_ascending is_slot_before declared.slots) (is_ascending (λ service other. is_before service.key other.key) declared.services)
       (is_ascending (λ network other. is_before network.name other.name) declared.networks) (is_ascending (λ volume other. is_before volume.name other.name) declared.volumes)
-      (are_owned declared.services declared.slots) (are_attached declared.networks declared.slots) (need_nothing declared.slots) (stand_alone declared.services) serial
+      (are_served declared.services declared.networks declared.slots) (stand_alone declared.services) serial
+
+  -- a slot's own tests
+  served : (slot : Slot) → Among declared.slots slot → is_served declared.services declared.networks slot ≡ true
+  served slot among = all_each (is_served declared.services declared.networks) declared.slots slot tests.five among
+
+  attached : (slot : Slot) → Among declared.slots slot → (is_owned declared.services slot.service && is_attached declared.networks slot) ≡ true
+  attached slot among = (and_parts (is_owned declared.services slot.service && is_attached declared.networks slot) (is_nil slot.needs) (served slot among)).0
 
   no_needs : (slot : Slot) → Among declared.slots slot → slot.needs ≡ []
-  no_needs slot among = nil_of slot.needs (all_each (λ slot. is_nil slot.needs) declared.slots slot tests.seven among)
+  no_needs slot among = nil_of slot.needs
+      (and_parts (is_owned declared.services slot.service && is_attached declared.networks slot) (is_nil slot.needs) (served slot among)).1
 
   alone : (service : DeclaredService) → Among declared.services service → (is_nil service.depends_on ≡ true) × (is_none service.roll ≡ true)
-  alone service among = and_parts (is_nil service.depends_on) (is_none service.roll) (all_each is_alone declared.services service tests.eight among)
+  alone service among = and_parts (is_nil service.depends_on) (is_none service.roll) (all_each is_alone declared.services service tests.six among)
 
   -- nothing in it waits for anything else
   pub needs_none : WaitsForNone declared
@@ -91,7 +95,7 @@ module _ (declared : Declared) (serial : is_serial declared ≡ true) where
   attached_within slot attach among joined =
       ltb-true attach.network (length declared.networks)
       (all_each (λ attach. nat_lt attach.network (length declared.networks)) slot.attach attach
-      (all_each (is_attached declared.networks) declared.slots slot tests.six among) joined)
+      (and_parts (is_owned declared.services slot.service) (is_attached declared.networks slot) (attached slot among)).1 joined)
 
   none_rolls : (service : DeclaredService) → Among declared.services service → service.roll ≡ Some 0 → ⊥
   none_rolls service among e = let bad : None ≡ Some 0 = sym (none_of service.roll (alone service among).1) ∙ e in cc bad
@@ -101,7 +105,7 @@ module _ (declared : Declared) (serial : is_serial declared ≡ true) where
   whole = record {
     slots = ascends is_slot_before declared.slots tests.one;
     services = ascends (λ service other. is_before service.key other.key) declared.services tests.two;
-    owners = λ slot among. all_each (λ (s : Slot). is_owned declared.services s.service) declared.slots slot tests.five among;
+    owners = λ slot among. (and_parts (is_owned declared.services slot.service) (is_attached declared.networks slot) (attached slot among)).0;
     networks = ascends (λ network other. is_before network.name other.name) declared.networks tests.three;
     volumes = ascends (λ volume other. is_before volume.name other.name) declared.volumes tests.four;
     attaches = attached_within;

@@ -18,26 +18,23 @@ is_ascending before (x ∷ xs) = list_all (before x) xs && is_ascending before x
 abbrev pub is_attached : List NetworkSpec → Slot → Bool
 is_attached networks slot = list_all (λ attach. nat_lt attach.network (length networks)) slot.attach
 
--- whether slots attach to networks that are there
-abbrev pub are_attached : List NetworkSpec → List Slot → Bool
-are_attached networks slots = list_all (is_attached networks) slots
-
 -- whether a service with this key is there
 abbrev pub is_owned : List DeclaredService → List ℕ → Bool
 is_owned services key = list_any (λ service. bytes_eq service.key key) services
-
--- whether slots are of services that are there
-abbrev pub are_owned : List DeclaredService → List Slot → Bool
-are_owned services slots = list_all (λ slot. is_owned services slot.service) slots
 
 -- whether a list has no element
 abbrev pub is_nil : {X : Type 0} → List X → Bool
 is_nil [] = true
 is_nil (x ∷ xs) = false
 
--- whether no slot needs another one
-abbrev pub need_nothing : List Slot → Bool
-need_nothing slots = list_all (λ slot. is_nil slot.needs) slots
+-- whether a slot is of a service that is there, attaches to networks that are there, and needs no other slot
+abbrev pub is_served : List DeclaredService → List NetworkSpec → Slot → Bool
+is_served services networks slot =
+    is_owned services slot.service && is_attached networks slot && is_nil slot.needs
+
+-- whether slots do
+abbrev pub are_served : List DeclaredService → List NetworkSpec → List Slot → Bool
+are_served services networks slots = list_all (is_served services networks) slots
 
 -- whether a service depends on no other one, and isn't replaced a few slots at a time
 abbrev pub is_alone : DeclaredService → Bool
@@ -54,7 +51,5 @@ is_serial declared =
     && is_ascending (λ service other. is_before service.key other.key) declared.services
     && is_ascending (λ network other. is_before network.name other.name) declared.networks
     && is_ascending (λ volume other. is_before volume.name other.name) declared.volumes
-    && are_owned declared.services declared.slots
-    && are_attached declared.networks declared.slots
-    && need_nothing declared.slots
+    && are_served declared.services declared.networks declared.slots
     && stand_alone declared.services

@@ -10,8 +10,10 @@ use tree_base::{Env, List};
 pub(crate) fn declare(fields: &Fields, answers: &mut Answers) {
     let project = project_at(&mut answers.reading, fields);
     let declared = declare_project(answers.reading.alloc, &project);
+    drop(project);
     if let Some(declared) = answers.reading.made(declared) {
         answers.put_lines("slots", slot_lines(answers.reading.alloc, &declared));
+        drop(declared);
     }
 }
 

@@ -21,6 +21,9 @@ pub(crate) fn ending(fields: &Fields, answers: &mut Answers) {
     let journal = journal_of(reading, fields, "ending");
     let run = Run::of_one_worker(&declared, &seen, &plan);
     put_end(&run, journal.as_slice(), answers);
+    drop(declared);
+    drop(seen);
+    drop(plan);
 }
 
 fn put_end(run: &Run<'_>, journal: &[Entry], answers: &mut Answers) {

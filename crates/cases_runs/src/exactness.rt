@@ -9,6 +9,7 @@ pub(crate) fn exact(fields: &Fields, answers: &mut Answers) {
     if let Some(of) = answers.reading.fields_at(fields, "exact") {
         let declared = declared_of(&mut answers.reading, &of);
         exact_of(fields, &declared, answers);
+        drop(declared);
     }
 }
 
@@ -17,6 +18,7 @@ fn exact_of(fields: &Fields, declared: &Declared, answers: &mut Answers) {
         let engine = engine_of(&mut answers.reading, &of, &declared.project);
         put_exact("with_orphans", declared, &engine, false, answers);
         put_exact("without_orphans", declared, &engine, true, answers);
+        drop(engine);
     }
 }
 

@@ -11,6 +11,7 @@ pub(crate) fn membership(fields: &Fields, answers: &mut Answers) {
     if let Some(of) = answers.reading.fields_at(fields, "container") {
         let row = listed_of(&mut answers.reading, &of, &project);
         membership_of(fields, &project, &row, answers);
+        drop(row);
     }
 }
 
@@ -51,6 +52,7 @@ fn put_agreeing(project: &Text, slot: &Slot, image: &Text, row: &Listed, answers
 fn put_declared_service(slot: Slot, row: &Listed, answers: &mut Answers) {
     let declared = declared_alone(&mut answers.reading, slot);
     let has = has_declared_service(&declared, &row.labels);
+    drop(declared);
     answers.put_flag("has_declared_service", has);
 }
 

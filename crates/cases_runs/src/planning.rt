@@ -9,13 +9,16 @@ use std::alloc::Global;
 use tree_base::{List, Memory, Text};
 
 /// The plan of `up` or `down` for what is declared and what was seen: its `actions`, and the ids of the containers that
-/// slots keep, `kept` (`none` of a slot that keeps none).
+/// slots keep, `kept` (`none` of a slot that keeps none). Records of several lists are dropped by calls, here and below: a drop
+/// in place is proved member by member.
 pub(crate) fn plan(fields: &Fields, answers: &mut Answers) {
     let aim = aim_of(&mut answers.reading, fields, "plan");
     let declared = declared_at(&mut answers.reading, fields);
     let seen = seen_at(&mut answers.reading, fields, &declared.project);
     answers.put_lines("kept", kept_ids(answers.reading.alloc, &declared, &seen));
     put_plan(&declared, &seen, aim, answers);
+    drop(declared);
+    drop(seen);
 }
 
 /// What is declared, the empty project where the case doesn't say.

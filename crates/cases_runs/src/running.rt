@@ -20,7 +20,9 @@ pub(crate) fn run(fields: &Fields, answers: &mut Answers) {
     if let Some(memory) = memory_at(&mut answers.reading, fields, &declared.project) {
         let mut hand = MemoryHand::new(answers.reading.alloc, memory);
         run_on(&mut hand, &declared, aim, answers);
+        drop(hand);
     }
+    drop(declared);
 }
 
 fn run_on(hand: &mut MemoryHand, declared: &Declared, aim: Aim, answers: &mut Answers) {

@@ -12,6 +12,7 @@ pub(crate) fn serve(fields: &Fields, answers: &mut Answers) {
     let project = Text::new(answers.reading.alloc);
     if let Some(mut memory) = memory_at(&mut answers.reading, fields, &project) {
         serve_on(fields, &mut memory, answers);
+        drop(memory);
     }
 }
 

@@ -3,7 +3,7 @@ ghost use Rattle.std.specs.List.{list_all};
 ghost use Rattle.run_model.specs.Plans.{IsWhole, is_slot_before};
 ghost use Rattle.serial_run.specs.Serial.{WaitsForNone};
 ghost use Rattle.tree_base.specs.ByteOrder.{is_before};
-ghost use Rattle.cases_runs.specs.Whole.{are_attached, are_owned, is_alone, is_ascending, is_attached, is_nil, is_owned, is_serial, need_nothing, stand_alone};
+ghost use Rattle.cases_runs.specs.Whole.{are_served, is_alone, is_ascending, is_attached, is_nil, is_owned, is_served, is_serial, stand_alone};
 
 use engine_types::{Declared, DeclaredService, NetworkSpec, Slot, VolumeSpec};
 use tree_base::Text;
@@ -27,9 +27,7 @@ fn passes(declared: &Declared) -> bool
         && services_ascend(services)
         && networks_ascend(networks)
         && volumes_ascend(declared.volumes.as_slice())
-        && are_owned(services, slots)
-        && are_attached(networks, slots)
-        && need_nothing(slots)
+        && are_served(services, networks, slots)
         && stand_alone(services)
 }
 
@@ -48,11 +46,17 @@ fn are_later_services(service: &DeclaredService, later: &[DeclaredService]) -> b
     later.iter().all(|other| service.key < other.key)
 }
 
-/// Whether slots are of services that are there.
-fn are_owned(services: &[DeclaredService], slots: &[Slot]) -> bool
-    ensures { result ≡ are_owned services.now slots.now }
+/// Whether slots are of services that are there, attach to networks that are there, and need no other slot.
+fn are_served(services: &[DeclaredService], networks: &[NetworkSpec], slots: &[Slot]) -> bool
+    ensures { result ≡ are_served services.now networks.now slots.now }
 {
-    slots.iter().all(|slot| is_owned(services, &slot.service))
+    slots.iter().all(|slot| is_served(services, networks, slot))
+}
+
+fn is_served(services: &[DeclaredService], networks: &[NetworkSpec], slot: &Slot) -> bool
+    ensures { result ≡ is_served services.now networks.now slot.now }
+{
+    is_owned(services, &slot.service) && is_attached(networks, slot) && needs_nothing(slot)
 }
 
 fn is_owned(services: &[DeclaredService], key: &Text) -> bool
@@ -129,13 +133,6 @@ fn are_later_volumes(volume: &VolumeSpec, later: &[VolumeSpec]) -> bool
     later.iter().all(|other| volume.name < other.name)
 }
 
-/// Whether slots attach to networks that are there.
-fn are_attached(networks: &[NetworkSpec], slots: &[Slot]) -> bool
-    ensures { result ≡ are_attached networks.now slots.now }
-{
-    slots.iter().all(|slot| is_attached(networks, slot))
-}
-
 fn is_attached(networks: &[NetworkSpec], slot: &Slot) -> bool
     ensures { result ≡ is_attached networks.now slot.now }
 {
@@ -143,13 +140,6 @@ fn is_attached(networks: &[NetworkSpec], slot: &Slot) -> bool
         .as_slice()
         .iter()
         .all(|attach| (attach.network as usize) < networks.len())
-}
-
-/// Whether no slot needs another one.
-fn need_nothing(slots: &[Slot]) -> bool
-    ensures { result ≡ need_nothing slots.now }
-{
-    slots.iter().all(needs_nothing)
 }
 
 fn needs_nothing(slot: &Slot) -> bool
