@@ -68,7 +68,12 @@ fn services_of_slots(reading: &mut Reading, slots: &[Slot]) -> List<DeclaredServ
 }
 
 fn has_key(services: &[DeclaredService], key: &Text) -> bool {
-    services.iter().any(|service| service.key == *key)
+    for service in services {
+        if service.key == *key {
+            return true;
+        }
+    }
+    false
 }
 
 /// The service of a slot, which depends on the services of the slots that it needs.
@@ -283,16 +288,15 @@ fn alias(reading: &mut Reading, service: &str) -> List<Text> {
 
 /// The place of the network with a name.
 fn place_of(reading: &mut Reading, name: &str, networks: &[NetworkSpec]) -> u32 {
-    let place = networks
-        .iter()
-        .position(|network| network.name.as_str() == name);
-    match place.map(u32::try_from) {
-        Some(Ok(place)) => place,
-        _ => {
-            reading.refuse_word("a declared network", name);
-            0
+    let mut place = 0u32;
+    for network in networks {
+        if network.name.as_str() == name {
+            return place;
         }
+        place = place.saturating_add(1);
     }
+    reading.refuse_word("a declared network", name);
+    0
 }
 
 /// The network that a slot's container is made on: the first that it attaches to.
