@@ -132,3 +132,8 @@ differs a b h = grind arith
 pub opened : (cs : List ℕ) (q : ℕ) → 1 ≤ length cs → q ≡ get_or cs 0 q → quoted_of cs ≡ after [] 1 (behind_quote q (drop 1 cs))
 opened [] q h e = absurd (omega arith)
 opened (c ∷ cs) q h e = ap (λ x. after [] 1 (behind_quote x cs)) (sym e)
+
+-- the longest escape is its digits where they are a character's number
+pub long_escape : (cs : List ℕ) (c : ℕ) → 1 ≤ length cs → c ≡ get_or cs 0 c → c ≡ 85 → option_map (λ d. (d, 9)) (hex_of 8 0 (drop 1 cs)) ≡ escape_of cs
+long_escape [] c h e s = absurd (omega arith)
+long_escape (d ∷ cs) c h e s = ap (λ x. escape_of (x ∷ cs)) (sym s ∙ e)

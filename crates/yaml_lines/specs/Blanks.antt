@@ -18,7 +18,8 @@ blanks (c ∷ cs) = if is_white c then blanks cs + 1 else 0
 -- only white space and a comment stand before the line's end; a comment begins after white space or the line's start, which stands here where `white`
 abbrev pub is_rest_blank : Bool → List ℕ → Bool
 is_rest_blank white [] = true
-is_rest_blank white (c ∷ cs) = if is_white c then is_rest_blank true cs else ((c == 10) || ((c == 35) && white))
+is_rest_blank white (c ∷ cs) =
+    if is_white c then is_rest_blank true cs else ((c == 10) || ((c == 35) && white))
 
 -- a line of white space and a comment alone
 abbrev pub is_blank : List ℕ → Bool

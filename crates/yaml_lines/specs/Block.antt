@@ -22,7 +22,8 @@ content_indent parent (line ∷ lines) =
 -- how many lines stand before the first that has another character than spaces and isn't so deep
 abbrev pub content_len : ℕ → List (List ℕ) → ℕ
 content_len indent [] = 0
-content_len indent (line ∷ lines) = if is_all_spaces line || nat_le indent (spaces line) then content_len indent lines + 1 else 0
+content_len indent (line ∷ lines) =
+    if is_all_spaces line || nat_le indent (spaces line) then content_len indent lines + 1 else 0
 
 -- how many lines of spaces alone stand at the front
 abbrev pub empty_len : List (List ℕ) → ℕ
@@ -43,7 +44,8 @@ begins_white (c ∷ cs) = is_white c
 abbrev pub gap : Bool → Option Bool → ℕ → List ℕ → List ℕ
 gap folded None empties line = line_ends empties
 gap folded (Some white) empties line =
-    if folded && not (white || begins_white line) then (if empties == 0 then 32 ∷ [] else line_ends empties)
+    if folded && not (white || begins_white line)
+    then (if empties == 0 then 32 ∷ [] else line_ends empties)
     else line_ends (empties + 1)
 
 -- the lines of the content joined, without the line ends behind the last that isn't empty
@@ -51,7 +53,8 @@ abbrev pub joined : Bool → Option Bool → ℕ → List (List ℕ) → List �
 joined folded before empties [] = []
 joined folded before empties (line ∷ lines) =
     if length line == 0 then joined folded before (empties + 1) lines
-    else (gap folded before empties line ++ line ++ joined folded (Some (begins_white line)) 0 lines)
+    else (gap folded before empties line
+    ++ line ++ joined folded (Some (begins_white line)) 0 lines)
 
 -- how many empty lines stand at the end, with so many before
 abbrev pub trailing : ℕ → List (List ℕ) → ℕ
@@ -72,12 +75,17 @@ ending_alone Keep empties = line_ends empties
 
 -- the text of content of an indentation, whose lines lose so many spaces
 abbrev pub content_text : Bool → Chomp → ℕ → List (List ℕ) → List ℕ
-content_text folded chomp indent lines = joined folded None 0 (map (drop indent) lines) ++ ending chomp (trailing 0 (map (drop indent) lines))
+content_text folded chomp indent lines =
+    joined folded None 0 (map (drop indent) lines)
+    ++ ending chomp (trailing 0 (map (drop indent) lines))
 
 -- the characters of a block scalar, and how many lines it takes, by its content's indentation
 abbrev pub block_with : Bool → Chomp → Option ℕ → List (List ℕ) → List ℕ × ℕ
 block_with folded chomp None lines = (ending_alone chomp (empty_len lines), empty_len lines)
-block_with folded chomp (Some indent) lines = (content_text folded chomp indent (take (content_len indent lines) lines), content_len indent lines)
+block_with folded chomp (Some indent) lines = (
+  content_text folded chomp indent (take (content_len indent lines) lines),
+  content_len indent lines,
+)
 
 -- the characters of a block scalar whose parent has an indentation, and how many lines it takes
 abbrev pub block_of : Bool → Chomp → ℕ → List (List ℕ) → List ℕ × ℕ

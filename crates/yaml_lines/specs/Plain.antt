@@ -21,7 +21,8 @@ is_flow_mark c = (c == 44) || ((c == 91) || ((c == 93) || ((c == 123) || (c == 1
 -- one of `# & * ! | > ' " % @` or a backquote
 abbrev pub is_indicator : ℕ → Bool
 is_indicator c =
-    (c == 35) || ((c == 38) || ((c == 42) || ((c == 33) || ((c == 124) || ((c == 62) || ((c == 39) || ((c == 34) || ((c == 37) || ((c == 64) || (c == 96))))))))))
+    (c == 35) || ((c == 38) || ((c == 42) || ((c == 33) || ((c == 124) || ((c == 62)
+    || ((c == 39) || ((c == 34) || ((c == 37) || ((c == 64) || (c == 96))))))))))
 
 -- one of `- ? :`
 abbrev pub is_mark_before_space : ℕ → Bool
@@ -42,12 +43,14 @@ ends_item Flow c = is_flow_mark c
 -- a plain scalar ends before these characters; `white` says whether white space stands before them, after which `#` begins a comment
 abbrev pub ends_plain : Context → Bool → List ℕ → Bool
 ends_plain context white [] = true
-ends_plain context white (c ∷ cs) = is_colon (c ∷ cs) || (((c == 35) && white) || ((c == 10) || ends_item context c))
+ends_plain context white (c ∷ cs) =
+    is_colon (c ∷ cs) || (((c == 35) && white) || ((c == 10) || ends_item context c))
 
 -- how many characters stand before the end of a plain scalar, with the white space before it
 abbrev pub plain_run : Context → Bool → List ℕ → ℕ
 plain_run context white [] = 0
-plain_run context white (c ∷ cs) = if ends_plain context white (c ∷ cs) then 0 else plain_run context (is_white c) cs + 1
+plain_run context white (c ∷ cs) =
+    if ends_plain context white (c ∷ cs) then 0 else plain_run context (is_white c) cs + 1
 
 -- how long characters are without the white space at their end
 abbrev pub trimmed_len : List ℕ → ℕ
@@ -60,4 +63,5 @@ plain_len context cs = trimmed_len (take (plain_run context false cs) cs)
 
 -- the characters of the plain scalar that begins here, and how many they are; none where none may begin
 abbrev pub plain_of : Context → List ℕ → Option (List ℕ × ℕ)
-plain_of context cs = if begins_plain cs then Some (take (plain_len context cs) cs, plain_len context cs) else None
+plain_of context cs =
+    if begins_plain cs then Some (take (plain_len context cs) cs, plain_len context cs) else None

@@ -39,7 +39,8 @@ refusal_name Memory = codes "memory"
 -- a name behind its place, where it has one: the line, a colon, the column, a colon, a space and the name
 abbrev pub placed : Option Place → List ℕ → List ℕ
 placed None name = name
-placed (Some place) name = decimal place.line ++ codes ":" ++ decimal place.column ++ codes ": " ++ name
+placed (Some place) name =
+    decimal place.line ++ codes ":" ++ decimal place.column ++ codes ": " ++ name
 
 -- a refusal as it is printed
 abbrev pub refusal_text : YamlRefusal → List ℕ

@@ -21,8 +21,10 @@ single_of (c ∷ d ∷ cs) =
 -- the escapes of one character: `0 a b t n v f r e`, space, `" / \`, `N _ L P`, and what they stand for
 abbrev pub short_escapes : List (ℕ × ℕ)
 short_escapes =
-    (48, 0x00) ∷ (97, 0x07) ∷ (98, 0x08) ∷ (116, 0x09) ∷ (110, 0x0A) ∷ (118, 0x0B) ∷ (102, 0x0C) ∷ (114, 0x0D) ∷ (101, 0x1B)
-    ∷ (32, 0x20) ∷ (34, 0x22) ∷ (47, 0x2F) ∷ (92, 0x5C) ∷ (78, 0x85) ∷ (95, 0xA0) ∷ (76, 0x2028) ∷ (80, 0x2029) ∷ []
+    (48, 0x00) ∷ (97, 0x07) ∷ (98, 0x08) ∷ (116, 0x09) ∷ (110, 0x0A) ∷ (118, 0x0B) ∷ (102, 0x0C)
+    ∷ (114, 0x0D) ∷ (101, 0x1B)
+    ∷ (32, 0x20) ∷ (34, 0x22) ∷ (47, 0x2F) ∷ (92, 0x5C) ∷ (78, 0x85) ∷ (95, 0xA0) ∷ (76, 0x2028)
+    ∷ (80, 0x2029) ∷ []
 
 -- what such an escape stands for
 abbrev pub short_escape : ℕ → Option ℕ
@@ -36,7 +38,8 @@ scalar_value n = if nat_lt n 0xD800 || (nat_lt 0xDFFF n && nat_lt n 0x11_0000) t
 abbrev pub hex_of : ℕ → ℕ → List ℕ → Option ℕ
 hex_of zero n cs = scalar_value n
 hex_of (suc digits) n [] = None
-hex_of (suc digits) n (c ∷ cs) = if nat_lt (digit_value c) 16 then hex_of digits (n * 16 + digit_value c) cs else None
+hex_of (suc digits) n (c ∷ cs) =
+    if nat_lt (digit_value c) 16 then hex_of digits (n * 16 + digit_value c) cs else None
 
 -- the character of an escape, and how many characters stand for it behind the backslash
 abbrev pub escape_of : List ℕ → Option (ℕ × ℕ)
@@ -54,7 +57,8 @@ double_of (suc skip) (c ∷ cs) = after [] 1 (double_of skip cs)
 double_of zero (c ∷ cs) =
     if c == 34 then Some ([], 1)
     else (if c == 10 then None
-    else (if c == 92 then option_and_then (λ e. after (e.0 ∷ []) 1 (double_of e.1 cs)) (escape_of cs)
+    else (if c == 92
+    then option_and_then (λ e. after (e.0 ∷ []) 1 (double_of e.1 cs)) (escape_of cs)
     else after (c ∷ []) 1 (double_of zero cs)))
 
 -- what the characters behind an opening quote spell, by the quote

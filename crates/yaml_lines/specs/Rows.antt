@@ -12,12 +12,15 @@ one_more n = min (n + 1) 4294967295
 
 -- a line by its characters
 abbrev pub row_of : Line → Row
-row_of line = record { number = line.number; indent = spaces (chars line.text); chars = chars line.text }
+row_of line =
+    record { number = line.number; indent = spaces (chars line.text); chars = chars line.text }
 
 -- the place after characters that begin at a place: a line feed ends a line, every other character is a column
 abbrev pub place_after : ℕ → ℕ → ℕ → List ℕ → Place
 place_after file line column [] = record { file = file; line = line; column = column }
-place_after file line column (c ∷ cs) = if c == 10 then place_after file (one_more line) 1 cs else place_after file line (one_more column) cs
+place_after file line column (c ∷ cs) =
+    if c == 10 then place_after file (one_more line) 1 cs
+    else place_after file line (one_more column) cs
 
 -- the place of a character of a row
 abbrev pub place_in : ℕ → Row → ℕ → Place

@@ -18,7 +18,8 @@ starts_with_byte b (c ∷ cs) = c == b
 
 -- a character below U+0020 that is no tab, no line feed and no carriage return before one
 abbrev pub is_control : ℕ → List ℕ → Bool
-is_control c after = nat_lt c 32 && not ((c == 9) || ((c == 10) || ((c == 13) && starts_with_byte 10 after)))
+is_control c after =
+    nat_lt c 32 && not ((c == 9) || ((c == 10) || ((c == 13) && starts_with_byte 10 after)))
 
 -- how many bytes stand before the first such character
 abbrev pub clean_len : List ℕ → ℕ
@@ -34,7 +35,8 @@ abbrev pub place_after_bytes : ℕ → ℕ → ℕ → List ℕ → Place
 place_after_bytes file line column [] = record { file = file; line = line; column = column }
 place_after_bytes file line column (c ∷ cs) =
     if c == 10 then place_after_bytes file (one_more line) 1 cs
-    else (if is_continuation c then place_after_bytes file line column cs else place_after_bytes file line (one_more column) cs)
+    else (if is_continuation c then place_after_bytes file line column cs
+    else place_after_bytes file line (one_more column) cs)
 
 -- the place of a byte of a file
 abbrev pub place_of_byte : ℕ → List ℕ → ℕ → Place
@@ -42,7 +44,8 @@ place_of_byte file bytes at = place_after_bytes file 1 1 (take at bytes)
 
 -- a leading byte order mark is skipped
 abbrev pub without_mark : List ℕ → List ℕ
-without_mark (a ∷ b ∷ c ∷ bytes) = if (a == 0xEF) && ((b == 0xBB) && (c == 0xBF)) then bytes else (a ∷ b ∷ c ∷ bytes)
+without_mark (a ∷ b ∷ c ∷ bytes) =
+    if (a == 0xEF) && ((b == 0xBB) && (c == 0xBF)) then bytes else (a ∷ b ∷ c ∷ bytes)
 without_mark bytes = bytes
 
 -- a line with its number and its indentation

@@ -11,7 +11,7 @@ use std::alloc::Global;
 use tree_base::{List, Memory, Text};
 
 /// What is kept of the line ends behind a block scalar's content: the header's `-`, nothing, and `+`.
-#[derive(Clone, Copy, Debug, PartialEq, Eq)]
+#[derive(Clone, Copy)]
 pub enum Chomp {
     Strip,
     Clip,
@@ -102,7 +102,8 @@ fn push_gap(
     line: &[char],
 ) -> Result<(), Memory>
     requires { empties < 2 ^ 63 }
-    ensures { OnOk result (text.new ≡ text.old ++ encode_utf8_all (gap folded before empties line.now)) }
+    ensures { OnOk result
+        (text.new ≡ text.old ++ encode_utf8_all (gap folded before empties line.now)) }
 {
     match before {
         None => push_line_ends(text, empties),
@@ -131,8 +132,10 @@ fn room_of(rows: &[Row], indent: usize) -> usize {
 
 /// The lines of the content joined, and how many empty ones stand at the end.
 fn joined(alloc: Global, folded: bool, indent: usize, rows: &[Row]) -> Result<(Text, usize), Memory>
-    ensures text { IfOk result (λ r. r.0 ≡ encode_utf8_all (joined folded None 0 (map (drop indent) (lines_of_rows rows.now)))) }
-    ensures empties { IfOk result (λ r. r.1 ≡ trailing 0 (map (drop indent) (lines_of_rows rows.now))) }
+    ensures text { IfOk result (λ r. r.0
+        ≡ encode_utf8_all (joined folded None 0 (map (drop indent) (lines_of_rows rows.now)))) }
+    ensures empties { IfOk result (λ r. r.1
+        ≡ trailing 0 (map (drop indent) (lines_of_rows rows.now))) }
     ensures few { IfOk result (λ r. r.1 ≤ length rows.now) }
 {
     let mut text = with_room(alloc, room_of(rows, indent))?;
@@ -173,7 +176,8 @@ fn content(
     indent: usize,
     rows: &[Row],
 ) -> Result<Text, Memory>
-    ensures { IfOk result (λ text. text ≡ encode_utf8_all (content_text folded chomp indent (lines_of_rows rows.now))) }
+    ensures { IfOk result (λ text. text
+        ≡ encode_utf8_all (content_text folded chomp indent (lines_of_rows rows.now))) }
 {
     let (mut text, empties) = joined(alloc, folded, indent, rows)?;
     push_ending(&mut text, chomp, empties)?;
@@ -195,7 +199,8 @@ fn no_content(alloc: Global, chomp: Chomp, empties: usize) -> Result<Text, Memor
 /// How many rows a block scalar takes whose lines begin with the first row and are deeper than `parent` spaces. Its
 /// header tells nothing of that.
 pub fn block_len(rows: &[Row], parent: usize) -> usize
-    ensures is { (folded : Bool) (chomp : Chomp) → result ≡ (block_of folded chomp parent (lines_of_rows rows.now)).1 }
+    ensures is { (folded : Bool) (chomp : Chomp) →
+        result ≡ (block_of folded chomp parent (lines_of_rows rows.now)).1 }
     ensures within { result ≤ length rows.now }
 {
     match content_indent(rows, parent) {
@@ -214,7 +219,8 @@ pub fn block_of_rows(
     folded: bool,
     chomp: Chomp,
 ) -> Result<(Text, usize), Memory>
-    ensures is { IfOk result (λ read. read ≡ with_text (block_of folded chomp parent (lines_of_rows rows.now))) }
+    ensures is { IfOk result (λ read. read
+        ≡ with_text (block_of folded chomp parent (lines_of_rows rows.now))) }
     ensures within { IfOk result (λ read. read.1 ≤ length rows.now) }
 {
     match content_indent(rows, parent) {

@@ -1,4 +1,5 @@
 ghost use Rattle.std.specs.Prelude.{◌≡◌, ◌≤◌, ◌<◌, ◌+◌, length, OnSome, IfSome};
+ghost use Rattle.std.specs.Option.{option_map};
 ghost use Rattle.yaml_lines.specs.Quoted.{short_escape, hex_of, escape_of};
 
 /// The character of an escape of one character.
@@ -42,18 +43,34 @@ fn hex(chars: &[char], digits: usize) -> Option<char>
     char::from_u32(value)
 }
 
-/// The character of the escape that stands here behind a backslash, and how many characters it takes.
-pub fn escape(chars: &[char]) -> Option<(char, usize)>
+/// The character of so many hexadecimal digits, and how many characters it takes with the letter before them.
+fn of_digits(chars: &[char], digits: usize) -> Option<(char, usize)>
+    requires { digits < 9 }
+    ensures is { result ≡ option_map (λ d. (d, digits + 1)) (hex_of digits 0 chars.now) }
+    ensures within { IfSome result (λ p. p.1 ≤ length chars.now + 1) }
+{
+    match hex(chars, digits) {
+        None => None,
+        Some(d) => Some((d, digits + 1)),
+    }
+}
+
+/// The character of the escape that stands here behind a backslash, and how many characters it takes; None exactly where
+/// no escape stands here that is known (YAML 1.2, chapter 5.7). No memory.
+pub fn escaped_char(chars: &[char]) -> Option<(char, usize)>
     ensures is { result ≡ escape_of chars.now }
     ensures within { IfSome result (λ p. p.1 ≤ length chars.now) }
 {
     match chars {
         [] => None,
         [c, rest @ ..] => match *c {
-            'x' => hex(rest, 2).map(|d| (d, 3)),
-            'u' => hex(rest, 4).map(|d| (d, 5)),
-            'U' => hex(rest, 8).map(|d| (d, 9)),
-            c => short_escape(c).map(|d| (d, 1)),
+            'x' => of_digits(rest, 2),
+            'u' => of_digits(rest, 4),
+            'U' => of_digits(rest, 8),
+            c => match short_escape(c) {
+                None => None,
+                Some(d) => Some((d, 1)),
+            },
         },
     }
 }

@@ -18,6 +18,7 @@ mod row;
 
 pub use blank::{blanks, is_blank, is_rest_blank, is_white, spaces, tab_indent};
 pub use block_style::{Chomp, block, block_len, block_of_rows};
+pub use escape::escaped_char;
 pub use laws::{double_quotes_read_back, lines_are_the_text, places_count_characters};
 pub use lines::{Line, Lines, scan};
 pub use plain::{

@@ -8,7 +8,7 @@ use std::alloc::Global;
 use tree_base::{Memory, Text};
 
 /// Where a plain scalar stands.
-#[derive(Clone, Copy, Debug, PartialEq, Eq)]
+#[derive(Clone, Copy, PartialEq, Eq)]
 pub enum Context {
     /// Outside flow collections.
     Block,

@@ -4,7 +4,7 @@ ghost use Rattle.yaml_lines.specs.Quoted.{single_of, double_of, behind_quote, qu
 ghost use Rattle.yaml_lines.specs.Rows.{row_of};
 ghost use Rattle.yaml_lines.specs.Spelling.{spelled};
 
-use crate::escape::escape;
+use crate::escape::escaped_char;
 use crate::lines::Line;
 use crate::refusal::{YamlFault, YamlRefusal};
 use crate::row::{place_in, row_of, text_at};
@@ -54,7 +54,7 @@ fn double(alloc: Global, chars: &[char]) -> Result<Option<(Text, usize)>, Memory
             return Ok(None);
         }
         if c == '\\' {
-            match escape(&chars[at + 1..]) {
+            match escaped_char(&chars[at + 1..]) {
                 None => return Ok(None),
                 Some((d, len)) => {
                     text.push(d)?;

@@ -7,7 +7,7 @@ use std::fmt;
 use tree_base::{Memory, Place};
 
 /// What is wrong with a text.
-#[derive(Clone, Copy, Debug, PartialEq, Eq)]
+#[derive(Clone, Copy, Debug)]
 pub enum YamlFault {
     /// Bytes that are no UTF-8.
     BadUtf8,
@@ -52,7 +52,7 @@ impl YamlFault {
 }
 
 /// Why a text isn't read, with the place of it.
-#[derive(Clone, Copy, Debug, PartialEq, Eq)]
+#[derive(Clone, Copy, Debug)]
 pub enum YamlRefusal {
     Bad { which: YamlFault, place: Place },
     /// A node that stands deeper than a tree may be.
