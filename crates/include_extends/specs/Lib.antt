@@ -1,0 +1,4 @@
+pub mod Laws
+pub mod Loading
+pub mod Paths
+pub mod Reads
