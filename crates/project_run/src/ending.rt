@@ -1,4 +1,4 @@
-ghost use Rattle.std.specs.Prelude.{◌≡◌, false, reverse, IfErr, IfOk};
+ghost use Rattle.std.specs.Prelude.{◌≡◌, false, reverse, IfOk};
 ghost use Rattle.std.specs.List.{list_any};
 ghost use Rattle.project_run.specs.Whole.{IsFault, IsReport};
 ghost use Rattle.run_model.specs.Ending.{first_fault};

@@ -1,5 +1,5 @@
 -- The set that declares one service is whole, and its slot's spec is made for it.
-use Rattle.std.proofs.Common.{◌≡◌, ℕ, zero, suc, ◌<◌, Bool, [], ◌∷◌, Option, None, Some, refl, subst, arith, lit<, sym, inl, inr, length}
+use Rattle.std.proofs.Common.{◌≡◌, zero, suc, ◌<◌, Bool, [], ◌∷◌, None, Some, refl, subst, arith, lit<, sym, inl, inr, length}
 use Rattle.std.specs.Fmt.{digits}
 use Rattle.std.specs.Prelude.{codes}
 use Rattle.engine_types.specs.declared.Attach.{Attach}

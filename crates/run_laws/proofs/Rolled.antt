@@ -1,27 +1,22 @@
 -- What is known of slots that are rolled: the one that is waited for has a lesser number, and a container of a rolled slot has no
 -- other slot's name.
-use Rattle.std.proofs.Common.{◌≡◌, ℕ, suc, ◌+◌, ◌-◌, ◌*◌, ◌<◌, ◌≤◌, ◌^◌, Bool, true, false, cond, not, ◌&&◌, ◌||◌, ◌==◌, List, [], ◌∷◌, length, Option, Some, None, slice_get, nat_lt, refl, sym, ap, ◌∙◌, subst, inl, inr, arith, ⊎_elim}
-use Rattle.std.specs.Prelude.{decimal, filter, find, option_and_then, is_some}
+use Rattle.std.proofs.Common.{◌≡◌, ℕ, ◌+◌, ◌-◌, ◌<◌, ◌≤◌, ◌^◌, Bool, true, false, cond, not, ◌&&◌, ◌||◌, ◌==◌, List, [], ◌∷◌, length, Some, nat_lt, refl, sym, ap, ◌∙◌, subst, inl, inr, arith}
+use Rattle.std.specs.Prelude.{decimal, filter, is_some}
 use Rattle.std.specs.List.{list_any}
-use Rattle.std.specs.Option.{option_map_or}
 use Rattle.std.specs.Str.{bytes_eq}
-use Rattle.std.proofs.lemmas.Bool.{and_parts, eqb-true, le-ltb, lt-ltb, ltb-false, ltb-true}
+use Rattle.std.proofs.lemmas.Bool.{and_parts, eqb-true, lt-ltb, ltb-false, ltb-true}
 use Rattle.std.proofs.lemmas.Fmt.{decimal_injective}
 use Rattle.std.proofs.lemmas.Slice.Eq.{bytes_eq-Decides}
-use Rattle.engine_types.specs.Labels.{number_label}
 use Rattle.engine_types.specs.declared.Declared.{Declared}
-use Rattle.engine_types.specs.declared.DeclaredService.{DeclaredService}
 use Rattle.engine_types.specs.declared.Listed.{Listed}
-use Rattle.engine_types.specs.declared.Seen.{Seen}
 use Rattle.engine_types.specs.declared.Slot.{Slot}
 use Rattle.tree_base.specs.declared.place.Var.{Var}
-use Rattle.run_model.specs.EngineRules.{Among, has_label, is_live, is_of_project}
+use Rattle.run_model.specs.EngineRules.{Among, is_live, is_of_project}
 use Rattle.run_model.specs.Labels.{is_of_slot, names_service, names_slot}
-use Rattle.run_model.specs.Plans.{Basis, IsWhole, is_in_way, is_unstarted, up_basis}
-use Rattle.run_model.specs.Rolling.{has_name_of_another, has_seen, is_crossed, is_held_back, is_rolled, is_same_slot, roll_of, rolled_before, waits_for}
+use Rattle.run_model.specs.Plans.{Basis, is_in_way, is_unstarted}
+use Rattle.run_model.specs.Rolling.{has_name_of_another, has_seen, is_crossed, is_rolled, is_same_slot, roll_of, rolled_before, waits_for}
 use Rattle.run_model.proofs.PlanLaws.{some_from}
-use Rattle.plan_core.proofs.OrderlyPlans.{any_among, service_is}
-use Rattle.plan_core.proofs.Orders.{among_find}
+use Rattle.plan_core.proofs.OrderlyPlans.{service_is}
 use Rattle.plan_core.proofs.SlotTexts.{number_is}
 use Rattle.plan_core.proofs.Splits.{by_cases}
 use Rattle.run_laws.specs.Orders.{HasSmallNumbers}

@@ -1,13 +1,11 @@
 -- The actions of a run are orderly: by service along the dependencies, within a service by number, and for each slot in the order of
 -- its actions.
-use Rattle.std.proofs.Common.{◌≡◌, ℕ, zero, suc, ◌+◌, ◌-◌, ◌*◌, ◌<◌, ◌≤◌, ◌⊎◌, Bool, true, false, cond, ◌&&◌, ◌||◌, ◌==◌, List, [], ◌∷◌, length, Option, Some, None, slice_get, nat_lt, refl, sym, ap, ◌∙◌, subst, inl, inr, arith, ⊎_elim}
+use Rattle.std.proofs.Common.{◌≡◌, ℕ, zero, suc, ◌+◌, ◌-◌, ◌*◌, ◌<◌, ◌⊎◌, Bool, true, false, cond, ◌&&◌, ◌||◌, ◌==◌, List, [], ◌∷◌, length, Option, Some, None, slice_get, refl, sym, ap, ◌∙◌, inl, inr, arith, ⊎_elim}
 use Rattle.std.specs.Prelude.{find, option_and_then}
-use Rattle.std.specs.List.{list_any}
 use Rattle.std.specs.Option.{option_map_or}
 use Rattle.std.specs.Str.{bytes_eq}
 use Rattle.std.proofs.lemmas.Bool.{and_parts, eqb-true}
 use Rattle.std.proofs.lemmas.Nat.{mul-le}
-use Rattle.std.proofs.lemmas.Slice.Eq.{bytes_eq-Decides}
 use Rattle.engine_types.specs.declared.ActionKind.{ActionKind}
 use Rattle.engine_types.specs.declared.ActionKind.TheVariants.{MakeVolume, MakeNetwork, StopContainer, RemoveContainer, CreateSlot, ConnectSlot, StopKept, StartSlot, RemoveNetwork, RemoveVolume}
 use Rattle.engine_types.specs.declared.Declared.{Declared}
@@ -26,9 +24,8 @@ use Rattle.run_model.proofs.PlanLaws.{some_from}
 use Rattle.plan_core.specs.Order.{HasNoCycle}
 use Rattle.plan_core.proofs.OrderlyPlans.{any_among, down_needs, rank_down, total, within_total}
 use Rattle.plan_core.proofs.Orders.{among_find, orderly}
-use Rattle.plan_core.proofs.Splits.{by_cases}
 use Rattle.run_laws.specs.Orders.{HasSmallNumbers, NeedsDependencies, RunsAreOrderly}
-use Rattle.run_laws.proofs.Rolled.{AreOne, Waits, any_of, both_parts, in_own_way, of_one, waits}
+use Rattle.run_laws.proofs.Rolled.{AreOne, both_parts, in_own_way, of_one, waits}
 
 -- a place that is there
 there : {X : Type 0} (xs : List X) (i : ℕ) → i < length xs → (x : X) × (slice_get xs i ≡ Some x)

@@ -1,13 +1,10 @@
 -- Runs of `up`, whole or cut off anywhere, spare what their slots keep.
-use Rattle.std.proofs.Common.{◌≡◌, ◌⊎◌, ℕ, zero, suc, Bool, true, false, List, [], ◌∷◌, ◌++◌, map, Option, Some, None, is_some, slice_get, refl, sym, ap, ◌∙◌, subst, inl, inr, reverse}
+use Rattle.std.proofs.Common.{◌≡◌, ◌⊎◌, ℕ, zero, suc, Bool, true, false, List, [], ◌∷◌, ◌++◌, Option, Some, None, is_some, slice_get, refl, sym, ap, ◌∙◌, subst, inl, inr, reverse}
 use Rattle.std.proofs.lemmas.Bool.{both_ways}
 use Rattle.std.proofs.lemmas.List.{append_assoc}
-use Rattle.std.specs.List.{IsDistinct}
 use Rattle.std.specs.Prelude.{option_map}
-use Rattle.std.specs.Str.{bytes_eq}
 use Rattle.engine_types.specs.declared.ActionKind.{ActionKind}
 use Rattle.engine_types.specs.declared.ActionKind.TheVariants.{CreateSlot, RemoveContainer, StopContainer, StopKept}
-use Rattle.engine_types.specs.declared.Declared.{Declared}
 use Rattle.engine_types.specs.declared.Engine.{Engine}
 use Rattle.engine_types.specs.declared.Entry.{Entry}
 use Rattle.engine_types.specs.declared.Exchange.{Exchange}
@@ -16,17 +13,15 @@ use Rattle.engine_types.specs.declared.Listed.{Listed}
 use Rattle.engine_types.specs.declared.Observed.{Observed}
 use Rattle.engine_types.specs.declared.Outcome.{Outcome}
 use Rattle.engine_types.specs.declared.Purpose.{Purpose}
-use Rattle.engine_types.specs.declared.Reply.{Reply}
 use Rattle.engine_types.specs.declared.Request.{Request}
 use Rattle.engine_types.specs.declared.Slot.{Slot}
-use Rattle.run_model.specs.Cuts.{IsCutSeeing, IsRan, Ran, Runs}
+use Rattle.run_model.specs.Cuts.{IsCutSeeing, Ran, Runs}
 use Rattle.run_model.specs.EngineRules.{Among}
-use Rattle.run_model.specs.Journals.{Setup, holding, is_open, seen_in}
+use Rattle.run_model.specs.Journals.{Setup, seen_in}
 use Rattle.run_model.specs.Legal.{IsLegal, IsObserved, MayStand, seen_end}
 use Rattle.run_model.specs.Observation.{Asks, Ends, Onward, Strays, is_asked, is_request, is_up, observed}
 use Rattle.run_model.specs.Plans.{Aim, Basis, HasPlan, HasServices, LeavesKept, is_kept, is_restarted, is_wanted, kept, kept_of, kind_of, slot_at}
 use Rattle.run_model.specs.Requests.{OfAction, OfPoll, OfSeen, Source, asked, request_of}
-use Rattle.run_model.specs.Rolling.{run_actions}
 use Rattle.run_model.specs.Worlds.{Changed, Did, Effect, Fits, FitsLast, FitsSeen, MayAct, Move, Took, World, entries_of, is_unsure, outcome_of, seen_effects}
 use Rattle.run_model.proofs.KeptLaws.{leaves_kept}
 use Rattle.run_model.proofs.PlanLaws.{both, some_from}
@@ -39,7 +34,7 @@ use Rattle.world_laws.proofs.Finished.{basis_of}
 use Rattle.world_laws.proofs.Looks.{from_reverse}
 use Rattle.world_laws.proofs.Observing.{ids_differ, seen_by}
 use Rattle.run_laws.proofs.ObservationLaws.{each_is_asked}
-use Rattle.run_laws.specs.Sparing.{CutRunSparesKept, CutRunsSpareKept, SparesAlong, SparesKeptBy, StopsToRestart}
+use Rattle.run_laws.specs.Sparing.{CutRunSparesKept, CutRunsSpareKept, SparesAlong, SparesKeptBy}
 
 -- whoever makes it, a request spares what the slots keep
 abbrev IsHarmless : Aim → Setup → Request → Type 0

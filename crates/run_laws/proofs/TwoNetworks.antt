@@ -1,5 +1,5 @@
 -- The set that declares one service on two networks is whole, and its slot's spec is made for it.
-use Rattle.std.proofs.Common.{◌≡◌, ℕ, zero, suc, ◌<◌, [], ◌∷◌, Option, None, Some, refl, sym, subst, inl, inr, arith, lit<}
+use Rattle.std.proofs.Common.{◌≡◌, zero, suc, ◌<◌, [], ◌∷◌, None, Some, refl, sym, subst, inl, inr, arith, lit<}
 use Rattle.std.specs.Fmt.{digits}
 use Rattle.std.specs.Prelude.{codes}
 use Rattle.engine_types.specs.declared.Attach.{Attach}

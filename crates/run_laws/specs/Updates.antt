@@ -1,6 +1,6 @@
 -- Projects whose containers have to be replaced: a service that starts anew where the one that it depends on is updated, a
 -- service of three slots that is replaced slot by slot, and services that go down one after the other.
-use Rattle.std.specs.Prelude.{ℕ, true, false, List, [], ◌∷◌, ◌++◌, Option, Some, None, codes, decimal}
+use Rattle.std.specs.Prelude.{ℕ, true, false, List, [], ◌∷◌, ◌++◌, Option, None, codes, decimal}
 use Rattle.tree_base.specs.declared.Var.{Var}
 use Rattle.engine_types.specs.Labels as the
 use Rattle.engine_types.specs.declared.Action.{Action}
@@ -8,7 +8,6 @@ use Rattle.engine_types.specs.declared.ActionKind.TheVariants.{CreateSlot, Remov
 use Rattle.engine_types.specs.declared.Condition.{Condition}
 use Rattle.engine_types.specs.declared.ContainerState.{ContainerState}
 use Rattle.engine_types.specs.declared.Declared.{Declared}
-use Rattle.engine_types.specs.declared.DeclaredService.{DeclaredService}
 use Rattle.engine_types.specs.declared.Entry.{Entry}
 use Rattle.engine_types.specs.declared.Listed.{Listed}
 use Rattle.engine_types.specs.declared.Observed.{Observed}
@@ -17,7 +16,7 @@ use Rattle.engine_types.specs.declared.Request.{Request}
 use Rattle.engine_types.specs.declared.Seen.{Seen}
 use Rattle.engine_types.specs.declared.SeenEnd.{SeenEnd}
 use Rattle.engine_types.specs.declared.Slot.{Slot}
-use Rattle.run_laws.specs.OneService.{labels_of, plain_spec, service_of}
+use Rattle.run_laws.specs.OneService.{labels_of, service_of}
 use Rattle.run_model.specs.Plans.{Basis, down_basis, up_basis}
 use Rattle.run_laws.specs.ThreeServices as three
 use Rattle.run_model.specs.Told.{answered}

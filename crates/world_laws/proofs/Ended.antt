@@ -5,7 +5,6 @@ use Rattle.std.specs.List.{list_all, list_any}
 use Rattle.std.specs.Option.{option_or}
 use Rattle.std.specs.Prelude.{find, flat_map, if◌then◌else◌, option_map, ◌==◌}
 use Rattle.engine_types.specs.declared.Action.{Action}
-use Rattle.engine_types.specs.declared.ActionKind.{ActionKind}
 use Rattle.engine_types.specs.declared.Condition.{Condition}
 use Rattle.engine_types.specs.declared.Entry.{Entry}
 use Rattle.engine_types.specs.declared.Need.{Need}
@@ -17,7 +16,7 @@ use Rattle.engine_types.specs.declared.SeenFault.{SeenFault}
 use Rattle.run_model.specs.Conditions.{blocked_within, fails, has_failed, is_blocked, is_lost, is_need_lost, is_pending, is_start_lost, is_started, poll_counts, report_of}
 use Rattle.run_model.specs.EngineRules.{Among}
 use Rattle.run_model.specs.Ending.{Failing, IsFinal, exchange_fault, fails_now, fault_of, first_fault, is_goal_over, is_over, is_seen_bad, report_fault, seen_fault, wanted_conditions}
-use Rattle.run_model.specs.Journals.{Badly, Free, Holding, Nothing, Out, Setup, Standing, Watch, Well, Work, ended_as, holding, is_badly, is_ending, is_free, is_good, is_watch_of, is_well, is_work_on, standing}
+use Rattle.run_model.specs.Journals.{Badly, Free, Holding, Nothing, Out, Setup, Standing, Watch, Well, Work, ended_as, holding, is_badly, is_ending, is_free, is_watch_of, is_well, is_work_on, standing}
 use Rattle.run_model.specs.Plans.{kind_of, needs_of, slot_needs, start_of}
 use Rattle.run_model.specs.Requests.{request_out}
 use Rattle.run_model.specs.Numbers.{places}
