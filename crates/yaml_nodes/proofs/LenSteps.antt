@@ -1,10 +1,9 @@
 -- Steps of the loops that measure scalars in quotes.
 use Rattle.std.proofs.Common.{◌≡◌, ◌∙◌, ℕ, ◌+◌, ◌-◌, ◌<◌, ◌≤◌, List, [], ◌∷◌, true, false, eqb, Option, Some, None, get_or, drop, length, refl, sym, ap, arith}
 use Rattle.std.proofs.lemmas.List.{at_drop_more, drop-drop, length-drop}
-use Rattle.std.specs.Bool.{then_some}
-use Rattle.std.specs.Option.{option_map, is_some}
+use Rattle.std.specs.Option.{option_map}
 use Rattle.yaml_lines.proofs.QuoteSteps.{double_escape, opened}
-use Rattle.yaml_lines.specs.Quoted.{single_of, double_of, hex_of, escape_of, behind_quote, quoted_of}
+use Rattle.yaml_lines.specs.Quoted.{single_of, double_of, escape_of, behind_quote, quoted_of}
 use Rattle.yaml_lines.specs.Spelling.{after}
 use Rattle.yaml_nodes.specs.Marks.{starts, read_len, counted}
 
@@ -51,36 +50,15 @@ single_two cs i c h e p q =
 pub single_end : (cs : List ℕ) (i c : ℕ) → i < length cs → c ≡ get_or cs i c → eqb c 39 ≡ true → starts 39 (drop (i + 1) cs) ≡ false → single_of (drop i cs) ≡ Some ([], 1)
 single_end cs i c h e p q = here single_of cs i c h e ∙ one c (drop (i + 1) cs) p q
 
--- a measured escape stands for some character
-known : (escape : Option (ℕ × ℕ)) (n : ℕ) → Some n ≡ option_map (λ e. e.1) escape → (d : ℕ) × (escape ≡ Some (d, n))
-known None n h = cc
-known (Some p) n h = let e : p.1 ≡ n = cc in (p.0, λ i. Some (p.0, e i))
-
-unknown : (escape : Option (ℕ × ℕ)) → None ≡ option_map (λ e. e.1) escape → escape ≡ None
-unknown None h = refl
-unknown (Some p) h = cc
-
 -- an escape that is known is passed over
-pub double_measured : (cs : List ℕ) (i c n : ℕ) (total : Option ℕ) → i < length cs → c ≡ get_or cs i c → c ≡ 92 → Some n ≡ option_map (λ e. e.1) (escape_of (drop (i + 1) cs)) → n ≤ length (drop (i + 1) cs)
+pub double_measured : (cs : List ℕ) (i c d n : ℕ) (total : Option ℕ) → i < length cs → c ≡ get_or cs i c → c ≡ 92 → Some (d, n) ≡ escape_of (drop (i + 1) cs) → n ≤ length (drop (i + 1) cs)
     → farther i (double_of 0 (drop i cs)) ≡ total → farther (i + (n + 1)) (double_of 0 (drop (i + (n + 1)) cs)) ≡ total
-double_measured cs i c n total h e s m w so_far =
-    let found = known (escape_of (drop (i + 1) cs)) n m in
-    moves (double_of 0) cs (found.0 ∷ []) i (n + 1) total (double_escape cs i 92 found.0 n h (rw s at e) refl refl refl found.1 w) so_far
+double_measured cs i c d n total h e s m w so_far =
+    moves (double_of 0) cs (d ∷ []) i (n + 1) total (double_escape cs i 92 d n h (rw s at e) refl refl refl (sym m) w) so_far
 
 -- an escape that isn't known leaves all unread
-pub double_unknown : (cs : List ℕ) (i c : ℕ) → i < length cs → c ≡ get_or cs i c → c ≡ 92 → None ≡ option_map (λ e. e.1) (escape_of (drop (i + 1) cs)) → double_of 0 (drop i cs) ≡ None
-double_unknown cs i c h e s m =
-    let none = unknown (escape_of (drop (i + 1) cs)) m in
-    here (double_of 0) cs i c h e ∙ rw (s, none) refl
-
-measured : (d : Option ℕ) (n : ℕ) → then_some (is_some d) n ≡ option_map (λ (e : ℕ × ℕ). e.1) (option_map (λ c. (c, n)) d)
-measured None n = refl
-measured (Some c) n = refl
-
--- the longest escape is as long as its digits where they are a character's number
-pub long_escape : (cs : List ℕ) (c : ℕ) → 1 ≤ length cs → c ≡ get_or cs 0 c → c ≡ 85 → then_some (is_some (hex_of 8 0 (drop 1 cs))) 9 ≡ option_map (λ e. e.1) (escape_of cs)
-long_escape [] c h e s = absurd (omega arith)
-long_escape (d ∷ cs) c h e s = measured (hex_of 8 0 cs) 9 ∙ ap (λ x. option_map (λ (e : ℕ × ℕ). e.1) (escape_of (x ∷ cs))) (sym s ∙ e)
+pub double_unknown : (cs : List ℕ) (i c : ℕ) → i < length cs → c ≡ get_or cs i c → c ≡ 92 → None ≡ escape_of (drop (i + 1) cs) → double_of 0 (drop i cs) ≡ None
+double_unknown cs i c h e s m = here (double_of 0) cs i c h e ∙ rw (s, sym m) refl
 
 -- the opening quote is one character more
 abbrev pub with_quote : Option ℕ → ℕ

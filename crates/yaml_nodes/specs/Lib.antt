@@ -3,3 +3,4 @@ pub mod Marks
 pub mod Progress
 pub mod Properties
 pub mod Scalars
+pub mod Unfinished

@@ -80,13 +80,17 @@ before_colon context cs = key_len context cs + blanks (drop (key_len context cs)
 
 -- a key with its colon stands here, on one line; an alias may stand in its place
 abbrev pub is_key : Context → List ℕ → Bool
-is_key context cs = nat_lt 0 (key_len context cs) && is_colon_of context cs (drop (before_colon context cs) cs)
+is_key context cs =
+    nat_lt 0 (key_len context cs) && is_colon_of context cs (drop (before_colon context cs) cs)
 
 -- a key stands here behind properties, or a colon alone, which has an empty key
 abbrev pub is_key_behind : Context → List ℕ → Bool
-is_key_behind context cs = let rest = drop (properties_len 0 cs) cs in is_key context rest || is_colon rest
+is_key_behind context cs =
+    let rest = drop (properties_len 0 cs) cs in is_key context rest || is_colon rest
 
 -- a line that YAML knows and this profile leaves out: one with `---`, `...` or `%` at its first column, or `? ` behind its indentation
 abbrev pub is_left_out : List ℕ → Bool
 is_left_out cs =
-    starts_with (codes "---") cs || (starts_with (codes "...") cs || (starts 37 cs || starts_with (codes "? ") (drop (spaces cs) cs)))
+    starts_with (codes "---") cs
+    || (starts_with (codes "...") cs
+    || (starts 37 cs || starts_with (codes "? ") (drop (spaces cs) cs)))

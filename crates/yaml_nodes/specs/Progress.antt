@@ -14,7 +14,8 @@ use Rattle.yaml_nodes.specs.declared.spot.Spot.TheVariants.{Here, Before}
 
 infixl 10 ◌>>=◌
 -- what was read goes on into the next part; a refusal ends the reading
-abbrev pub ◌>>=◌ : {A B : Type 0} → Result A YamlRefusal → (A → Result B YamlRefusal) → Result B YamlRefusal
+abbrev pub ◌>>=◌ : {A B : Type 0} → Result A YamlRefusal → (A → Result B YamlRefusal) →
+    Result B YamlRefusal
 (Ok x) >>= f = f x
 (Err refusal) >>= f = Err refusal
 
@@ -56,7 +57,8 @@ more_nodes p row spot nodes bytes =
 -- a node that takes so many levels of those that are left, with its nodes and bytes: the levels are asked first
 abbrev pub taken : ℕ → Progress → Row → ℕ → ℕ → ℕ → ℕ → Result Progress YamlRefusal
 taken levels p row at deep nodes bytes =
-    if nat_lt levels deep then Err (TooDeep (place_in p.file row at)) else more_nodes p row (Here at) nodes bytes
+    if nat_lt levels deep then Err (TooDeep (place_in p.file row at))
+    else more_nodes p row (Here at) nodes bytes
 
 -- one node, with so many bytes of its own
 abbrev pub one_node : ℕ → Progress → Row → ℕ → ℕ → Result Progress YamlRefusal
@@ -64,4 +66,5 @@ one_node levels p row at bytes = taken levels p row at 1 1 bytes
 
 -- a copy of a tree, of which everything counts again
 abbrev pub copied : ℕ → Progress → Row → ℕ → Tree → Result (Tree × Progress) YamlRefusal
-copied levels p row at tree = taken levels p row at (depth tree) (node_count tree) (text_size tree) >>= λ p. Ok (tree, p)
+copied levels p row at tree =
+    taken levels p row at (depth tree) (node_count tree) (text_size tree) >>= λ p. Ok (tree, p)

@@ -36,29 +36,36 @@ tag_of may_be_marked name =
     else (if bytes_eq name (codes "override") && may_be_marked then Some tags.Override else None))
 
 -- a name beside the properties before it: not the empty one, and no second one
-abbrev pub with_name : Progress → Row → ℕ → Properties → List ℕ → Option (List ℕ) → Result Properties YamlRefusal
+abbrev pub with_name : Progress → Row → ℕ → Properties → List ℕ → Option (List ℕ) →
+    Result Properties YamlRefusal
 with_name p row at found name (Some other) = bad BadScalar p row at
-with_name p row at found name None = if length name == 0 then bad BadScalar p row at else Ok (record found { name = Some name })
+with_name p row at found name None =
+    if length name == 0 then bad BadScalar p row at else Ok (record found { name = Some name })
 
 -- a tag beside the properties before it: one that is known, and no second one
-abbrev pub with_tag : Progress → Row → ℕ → Properties → Option Tag → Option (Tag × Spot) → Result Properties YamlRefusal
+abbrev pub with_tag : Progress → Row → ℕ → Properties → Option Tag → Option (Tag × Spot) →
+    Result Properties YamlRefusal
 with_tag p row at found (Some tag) None = Ok (record found { tag = Some (tag, Here at) })
 with_tag p row at found tag other = bad BadTag p row at
 
 -- the property that begins here, beside those before it
-abbrev pub with_property : Bool → Progress → Row → ℕ → Properties → List ℕ → Result Properties YamlRefusal
+abbrev pub with_property : Bool → Progress → Row → ℕ → Properties → List ℕ →
+    Result Properties YamlRefusal
 with_property may_be_marked p row at found cs =
     if starts 38 cs then with_name p row at found (name_of cs) found.name
     else with_tag p row at found (tag_of may_be_marked (name_of cs)) found.tag
 
 -- the properties that stand from a place on, beside those before them; so many characters belong to one that began before
-abbrev pub properties_from : Bool → Progress → Row → ℕ → Properties → ℕ → List ℕ → Result Properties YamlRefusal
+abbrev pub properties_from : Bool → Progress → Row → ℕ → Properties → ℕ → List ℕ →
+    Result Properties YamlRefusal
 properties_from may_be_marked p row at found skip [] = Ok found
-properties_from may_be_marked p row at found (suc skip) (c ∷ cs) = properties_from may_be_marked p row (at + 1) found skip cs
+properties_from may_be_marked p row at found (suc skip) (c ∷ cs) =
+    properties_from may_be_marked p row (at + 1) found skip cs
 properties_from may_be_marked p row at found zero (c ∷ cs) =
     if is_white c then properties_from may_be_marked p row (at + 1) found 0 cs
     else (if is_property (c ∷ cs)
-    then (with_property may_be_marked p row at found (c ∷ cs) >>= λ more. properties_from may_be_marked p row (at + 1) more (name_len cs) cs)
+    then (with_property may_be_marked p row at found (c ∷ cs) >>=
+    λ more. properties_from may_be_marked p row (at + 1) more (name_len cs) cs)
     else Ok found)
 
 -- a property before a key is the key's, which has none: an anchor isn't supported there, and a tag is bad
@@ -67,10 +74,12 @@ fault_of_key cs = if starts 38 cs then Unsupported else BadTag
 
 -- the properties of a row, for a node in the lines behind it
 abbrev pub carried : Progress → Row → Properties → Properties
-carried p row found = record found { tag = option_map (λ t. (t.0, Before (place_of p row t.1))) found.tag }
+carried p row found =
+    record found { tag = option_map (λ t. (t.0, Before (place_of p row t.1))) found.tag }
 
 -- properties where `!!str` may not stand: it stands on a scalar or nothing alone
-abbrev pub unspelled_by : Option (Tag × Spot) → Progress → Row → Properties → Result Properties YamlRefusal
+abbrev pub unspelled_by : Option (Tag × Spot) → Progress → Row → Properties →
+    Result Properties YamlRefusal
 unspelled_by (Some (tags.Str, spot)) p row found = Err (Bad BadTag (place_of p row spot))
 unspelled_by tag p row found = Ok found
 

@@ -1,106 +1,113 @@
-ghost use Rattle.std.specs.Prelude.{◌≡◌, ◌≤◌, ◌+◌, ◌++◌, [], map, is_none, OnOk, IfOk, SomeIff};
-ghost use Rattle.std.specs.Map.Iter.{deref_pair};
+ghost use Rattle.std.specs.Prelude.{◌≡◌, ◌≤◌, ◌+◌, ◌-◌, ◌++◌, drop, is_none, length, sum_by, OnOk, SomeIff};
+ghost use Rattle.std.specs.Map.{keys_of, values_of};
 ghost use Rattle.tree_base.specs.Entries.{value_at};
+ghost use Rattle.tree_base.specs.Trees.{node_count, text_size};
 ghost use Rattle.yaml_lines.specs.Answers.{Gives};
 ghost use Rattle.yaml_nodes.specs.Progress.{result_left, more_nodes};
-ghost use Rattle.yaml_nodes.specs.Mappings.{new_pairs, with_new, AreNew, added, nodes_of, bytes_of};
+ghost use Rattle.yaml_nodes.specs.Mappings.{new_pairs, with_new, added};
 
 use crate::progress::Progress;
 use crate::spot::Spot;
-use indexmap::IndexMap;
 use std::alloc::Global;
 use tree_base::{Map, Memory, Shared, Text, Tree};
 use yaml_lines::{Row, YamlRefusal};
 
-/// The pairs that a merge key adds, as they stand in its mappings.
-pub type Added<'m> = IndexMap<&'m Text, &'m Tree>;
-
-/// The pairs that mappings add to one: each key that isn't there yet, earlier mappings first.
-pub fn added<'m>(alloc: Global, own: &Map, maps: &'m [Shared<Map>]) -> Result<Added<'m>, Memory>
-    ensures is { IfOk result (λ found. map deref_pair found.entries ≡ added own.now maps.now) }
-    ensures new { IfOk result (λ found. AreNew own.now (map deref_pair found.entries)) }
+/// Puts the pairs of mappings behind one, each key that isn't there yet, earlier mappings first: copies of their keys,
+/// and their trees with one more owner.
+pub fn put_added(alloc: Global, own: &mut Map, maps: &[Shared<Map>]) -> Result<(), Memory>
+    ensures { OnOk result (own.new ≡ own.old ++ added own.old maps.now) }
 {
-    let mut found = IndexMap::new(alloc);
     for map in maps {
-        add(&mut found, own, map.get())?;
+        put_new(alloc, own, map.get())?;
     }
-    Ok(found)
+    Ok(())
 }
 
 /// Puts the pairs of one more mapping whose keys aren't there yet.
-fn add<'m>(found: &mut Added<'m>, own: &Map, more: &'m Map) -> Result<(), Memory>
-    requires { AreNew own.now (map deref_pair found.old.entries) }
-    ensures is { OnOk result (map deref_pair found.new.entries ≡ map deref_pair found.old.entries ++ new_pairs (own.now ++ map deref_pair found.old.entries) more.now) }
-    ensures new { OnOk result (AreNew own.now (map deref_pair found.new.entries)) }
+fn put_new(alloc: Global, own: &mut Map, more: &Map) -> Result<(), Memory>
+    ensures { OnOk result (own.new ≡ own.old ++ new_pairs own.old more.now) }
 {
     for at in 0..more.len() {
         if let Some((key, tree)) = more.pair(at) {
-            add_pair(found, own, key, tree)?;
+            put_pair(alloc, own, key, tree)?;
         }
     }
     Ok(())
 }
 
 /// Puts a pair whose key isn't there yet.
-fn add_pair<'m>(
-    found: &mut Added<'m>,
-    own: &Map,
-    key: &'m Text,
-    tree: &'m Tree,
-) -> Result<(), Memory>
-    ensures { OnOk result (map deref_pair found.new.entries ≡ with_new own.now (map deref_pair found.old.entries) key.now tree.now) }
+fn put_pair(alloc: Global, own: &mut Map, key: &Text, tree: &Tree) -> Result<(), Memory>
+    ensures { OnOk result (own.new ≡ with_new own.old key.now tree.now) }
 {
-    if is_new(found, own, key) {
-        found.insert(key, tree)?;
+    if is_new(own, key) {
+        drop(own.put(key.copy(alloc)?, tree.copy(alloc)?)?);
     }
     Ok(())
 }
 
-/// Whether a key is neither in a mapping nor among the pairs that were found.
-fn is_new<'m>(found: &Added<'m>, own: &Map, key: &'m Text) -> bool
-    ensures { result ≡ is_none (value_at (own.now ++ map deref_pair found.now.entries) key.now) }
+/// Whether a mapping doesn't have a key.
+fn is_new(own: &Map, key: &Text) -> bool
+    ensures { result ≡ is_none (value_at own.now key.now) }
 {
-    own.get(key).is_none() && !found.contains_key(&key)
+    own.get(key).is_none()
 }
 
-/// How many nodes the trees have, where they are at most a limit; else None, which comes at the first node past it.
-fn nodes_within(found: &Added<'_>, limit: u64) -> Option<u64>
-    ensures { SomeIff result (nodes_of (map deref_pair found.now.entries) ≤ limit) (nodes_of (map deref_pair found.now.entries)) }
+/// What is left of a budget after one for each node of trees; None where they have more, which comes at the first node
+/// past it.
+fn nodes_left(trees: &[Tree], budget: u64) -> Option<u64>
+    ensures { SomeIff result (sum_by node_count trees.now ≤ budget)
+        (budget - sum_by node_count trees.now) }
 {
-    let mut left = limit;
-    for (_, tree) in found.iter() {
+    let mut left = budget;
+    for tree in trees {
         left -= tree.nodes_within(left)?;
     }
-    Some(limit - left)
+    Some(left)
 }
 
-/// How many bytes the keys and the trees' keys and scalars have together, where they are at most a limit; else None,
-/// which comes at the first past it.
-fn text_within(found: &Added<'_>, limit: u64) -> Option<u64>
-    ensures { SomeIff result (bytes_of (map deref_pair found.now.entries) ≤ limit) (bytes_of (map deref_pair found.now.entries)) }
+/// What is left of a budget after the bytes of keys; None where they have more.
+fn keys_left(keys: &[Text], budget: u64) -> Option<u64>
+    ensures { SomeIff result (sum_by length keys.now ≤ budget) (budget - sum_by length keys.now) }
 {
-    let mut left = limit;
-    for (key, tree) in found.iter() {
+    let mut left = budget;
+    for key in keys {
         left = left.checked_sub(key.len() as u64)?;
+    }
+    Some(left)
+}
+
+/// What is left of a budget after the bytes of the keys and the scalars of trees; None where they have more, which
+/// comes at the first past it.
+fn text_left(trees: &[Tree], budget: u64) -> Option<u64>
+    ensures { SomeIff result (sum_by text_size trees.now ≤ budget)
+        (budget - sum_by text_size trees.now) }
+{
+    let mut left = budget;
+    for tree in trees {
         left -= tree.text_within(left)?;
     }
-    Some(limit - left)
+    Some(left)
 }
 
-/// How many nodes there are with those of pairs; None past the limit, which the walk doesn't pass.
-fn nodes_with(progress: &Progress, found: &Added<'_>) -> Option<u64>
-    ensures { SomeIff result (progress.now.nodes + nodes_of (map deref_pair found.now.entries) ≤ 200000) (progress.now.nodes + nodes_of (map deref_pair found.now.entries)) }
+/// How many nodes there are with those of trees; None past the limit, which the walk doesn't pass.
+fn nodes_with(progress: &Progress, trees: &[Tree]) -> Option<u64>
+    ensures { SomeIff result (progress.now.nodes + sum_by node_count trees.now ≤ 200000)
+        (progress.now.nodes + sum_by node_count trees.now) }
 {
-    let more = nodes_within(found, progress.nodes_left()?)?;
-    Some(progress.nodes + more)
+    let budget = progress.nodes_left()?;
+    let left = nodes_left(trees, budget)?;
+    Some(progress.nodes + (budget - left))
 }
 
 /// How many bytes of keys and scalars there are with those of pairs; None past the limit, which the walk doesn't pass.
-fn text_with(progress: &Progress, found: &Added<'_>) -> Option<u64>
-    ensures { SomeIff result (progress.now.text + bytes_of (map deref_pair found.now.entries) ≤ 16777216) (progress.now.text + bytes_of (map deref_pair found.now.entries)) }
+fn text_with(progress: &Progress, keys: &[Text], trees: &[Tree]) -> Option<u64>
+    ensures { SomeIff result
+        (progress.now.text + (sum_by length keys.now + sum_by text_size trees.now) ≤ 16777216)
+        (progress.now.text + (sum_by length keys.now + sum_by text_size trees.now)) }
 {
-    let more = text_within(found, progress.text_left()?)?;
-    Some(progress.text + more)
+    let budget = progress.text_left()?;
+    let left = text_left(trees, keys_left(keys, budget)?)?;
+    Some(progress.text + (budget - left))
 }
 
 /// Counts pairs once more: `TooManyNodes` past 200,000 nodes, and `TooMuchText`, each at a spot.
@@ -108,16 +115,18 @@ pub fn count(
     progress: &mut Progress,
     row: &Row,
     spot: Spot,
-    found: &Added<'_>,
+    keys: &[Text],
+    trees: &[Tree],
 ) -> Result<(), YamlRefusal>
-    ensures { Gives (result_left result progress.new) (more_nodes progress.old row.now spot (nodes_of (map deref_pair found.now.entries)) (bytes_of (map deref_pair found.now.entries))) }
+    ensures { Gives (result_left result progress.new) (more_nodes progress.old row.now spot
+        (sum_by node_count trees.now) (sum_by length keys.now + sum_by text_size trees.now)) }
 {
-    let Some(nodes) = nodes_with(progress, found) else {
+    let Some(nodes) = nodes_with(progress, trees) else {
         return Err(YamlRefusal::TooManyNodes {
             place: progress.place_of(row, spot),
         });
     };
-    let Some(text) = text_with(progress, found) else {
+    let Some(text) = text_with(progress, keys, trees) else {
         return Err(YamlRefusal::TooMuchText {
             place: progress.place_of(row, spot),
         });
@@ -127,13 +136,26 @@ pub fn count(
     Ok(())
 }
 
-/// Puts pairs that are new: copies of their keys, and their trees with one more owner.
-pub fn put_all(alloc: Global, own: &mut Map, found: &Added<'_>) -> Result<(), Memory>
-    requires { AreNew own.old (map deref_pair found.now.entries) }
-    ensures { OnOk result (own.new ≡ own.old ++ map deref_pair found.now.entries) }
+/// The keys of a mapping from a place on.
+pub fn keys_from(map: &Map, first: usize) -> &[Text]
+    ensures { result.now ≡ drop first (keys_of map.now) }
 {
-    for (key, tree) in found.iter() {
-        drop(own.put(key.copy(alloc)?, tree.copy(alloc)?)?);
+    let keys = map.keys();
+    if first <= keys.len() {
+        &keys[first..]
+    } else {
+        &[]
     }
-    Ok(())
+}
+
+/// The trees of a mapping from a place on.
+pub fn trees_from(map: &Map, first: usize) -> &[Tree]
+    ensures { result.now ≡ drop first (values_of map.now) }
+{
+    let trees = map.values();
+    if first <= trees.len() {
+        &trees[first..]
+    } else {
+        &[]
+    }
 }

@@ -2,10 +2,12 @@ ghost use Rattle.std.specs.Prelude.{◌≡◌, ◌≤◌, ◌<◌, ◌^◌, leng
 ghost use Rattle.yaml_lines.specs.Answers.{Gives};
 ghost use Rattle.yaml_nodes.specs.Progress.{result_beside};
 ghost use Rattle.yaml_nodes.specs.Scalars.{line_end, chomp_of, is_digit, header, block_scalar};
+ghost use Rattle.yaml_nodes.specs.Unfinished.{ended};
+ghost use Rattle.yaml_nodes.specs.declared.properties.Properties.{Properties};
 
 use crate::marks::starts;
 use crate::progress::Progress;
-use crate::properties::{Properties, finished};
+use crate::properties::{Properties, finish};
 use crate::spot::Spot;
 use std::alloc::Global;
 use tree_base::Tree;
@@ -65,6 +67,30 @@ fn header(progress: &Progress, row: &Row, at: usize) -> Result<(Chomp, usize), Y
     Ok((chomp, behind))
 }
 
+/// The block scalar whose `|` or `>` stands at a character of a row, before its properties finish it.
+fn unfinished(
+    alloc: Global,
+    progress: &mut Progress,
+    levels: u32,
+    row: &Row,
+    at: usize,
+    column: usize,
+    content: &[Row],
+) -> Result<(Tree, usize), YamlRefusal>
+    requires { at < length row.now.chars }
+    ensures is { (found : Properties) →
+        Gives (ended found (result_beside result progress.new))
+        (block_scalar levels found progress.old row.now at column content.now) }
+    ensures within { IfOk result (λ got. got.1 ≤ length row.now.chars) }
+{
+    progress.one_node(levels, row, at, 0)?;
+    let folded = starts(text_at(row, at), '>');
+    let (chomp, behind) = header(progress, row, at)?;
+    let (text, _) = block_of_rows(alloc, content, column, folded, chomp)?;
+    progress.more_text(row, Spot::Here(at), text.len() as u64)?;
+    Ok((Tree::Scalar(text), behind))
+}
+
 /// The block scalar whose `|` or `>` stands at a character of a row, by its content's lines, and the place behind its
 /// header. The content is deeper than a column. Refuses the levels or nodes that this node passes, then a digit in the
 /// header (`Unsupported`) or something else behind it (`BadScalar`), then the bytes that its text passes.
@@ -79,14 +105,11 @@ pub fn block_scalar(
     content: &[Row],
 ) -> Result<(Tree, usize), YamlRefusal>
     requires { at < length row.now.chars }
-    ensures is { Gives (result_beside result progress.new) (block_scalar levels found progress.old row.now at column content.now) }
+    ensures is { Gives (result_beside result progress.new)
+        (block_scalar levels found progress.old row.now at column content.now) }
     ensures within { IfOk result (λ got. got.1 ≤ length row.now.chars) }
 {
-    progress.one_node(levels, row, at, 0)?;
-    let folded = starts(text_at(row, at), '>');
-    let (chomp, behind) = header(progress, row, at)?;
-    let (text, _) = block_of_rows(alloc, content, column, folded, chomp)?;
-    progress.more_text(row, Spot::Here(at), text.len() as u64)?;
-    let tree = finished(alloc, progress, found, Tree::Scalar(text))?;
+    let (tree, behind) = unfinished(alloc, progress, levels, row, at, column, content)?;
+    let tree = finish(alloc, progress, found, tree)?;
     Ok((tree, behind))
 }

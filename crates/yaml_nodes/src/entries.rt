@@ -1,11 +1,13 @@
-ghost use Rattle.std.specs.Prelude.{◌≡◌, Some, IfOk, is_some};
+ghost use Rattle.std.specs.Prelude.{◌≡◌, IfOk, is_some};
+ghost use Rattle.std.specs.Option.{option_copied};
 ghost use Rattle.tree_base.specs.Entries.{value_at};
 ghost use Rattle.tree_base.specs.declared.tree.Tree.{out-Tree};
+ghost use Rattle.tree_base.specs.declared.tree.Tree.TheVariants as trees;
 ghost use Rattle.yaml_lines.specs.Answers.{Gives};
 ghost use Rattle.yaml_nodes.specs.Progress.{result_beside, result_left};
-ghost use Rattle.yaml_nodes.specs.Mappings.{no_entries, is_there, key_size, new_key, all_pairs, added_maps, with_merge, with_pair, merged_with, merged};
+ghost use Rattle.yaml_nodes.specs.Mappings.{no_entries, is_there, key_size, new_key, pairs_of, all_pairs, added_maps, with_merge, with_pair, merged_with, merged};
 
-use crate::added::{added, count, put_all};
+use crate::added::{count, keys_from, put_added, trees_from};
 use crate::key::Key;
 use crate::progress::Progress;
 use crate::spot::Spot;
@@ -51,7 +53,8 @@ pub fn new_key(
     at: usize,
     key: &Key,
 ) -> Result<(), YamlRefusal>
-    ensures { Gives (result_left result progress.new) (new_key entries.now progress.old row.now at key.now) }
+    ensures { Gives (result_left result progress.new)
+        (new_key entries.now progress.old row.now at key.now) }
 {
     if is_there(entries, key) {
         return Err(progress.bad(YamlFault::RepeatedKey, row, at));
@@ -103,30 +106,47 @@ pub fn with_pair(
     key: Key,
     tree: Tree,
 ) -> Result<(), YamlRefusal>
-    ensures { Gives (result_left result entries.new) (with_pair entries.old progress.now row.now spot key tree) }
+    ensures { Gives (result_left result entries.new)
+        (with_pair entries.old progress.now row.now spot key tree) }
 {
     if key.is_merge {
-        let Some(maps) = added_maps(alloc, tree)? else {
-            return Err(YamlRefusal::Bad {
-                which: YamlFault::BadMerge,
-                place: progress.place_of(row, spot),
-            });
-        };
-        entries.merge = Some(Merge { maps, spot });
+        put_merge(alloc, progress, entries, row, spot, &tree)
     } else {
         drop(entries.own.put(key.text, tree)?);
+        Ok(())
     }
+}
+
+/// Puts a merge key that stands at a spot, by its value.
+fn put_merge(
+    alloc: Global,
+    progress: &Progress,
+    entries: &mut Entries,
+    row: &Row,
+    spot: Spot,
+    tree: &Tree,
+) -> Result<(), YamlRefusal>
+    ensures { Gives (result_left result entries.new)
+        (with_merge entries.old progress.now row.now spot (added_maps (out-Tree tree.now))) }
+{
+    let Some(maps) = added_maps(alloc, tree)? else {
+        return Err(YamlRefusal::Bad {
+            which: YamlFault::BadMerge,
+            place: progress.place_of(row, spot),
+        });
+    };
+    entries.merge = Some(Merge { maps, spot });
     Ok(())
 }
 
 /// The mappings that the value of a merge key adds: it is one, or a sequence of some; else None.
-fn added_maps(alloc: Global, tree: Tree) -> Result<Option<List<Shared<Map>>>, Memory>
-    ensures { IfOk result (λ maps. maps ≡ added_maps (out-Tree tree)) }
+fn added_maps(alloc: Global, tree: &Tree) -> Result<Option<List<Shared<Map>>>, Memory>
+    ensures { IfOk result (λ maps. maps ≡ added_maps (out-Tree tree.now)) }
 {
     match tree {
         Tree::Map(map) => {
             let mut maps = List::new(alloc);
-            maps.push(map)?;
+            maps.push(map.share()?)?;
             Ok(Some(maps))
         }
         Tree::Seq(trees) => all_maps(alloc, trees.as_slice()),
@@ -140,12 +160,22 @@ fn all_maps(alloc: Global, trees: &[Tree]) -> Result<Option<List<Shared<Map>>>, 
 {
     let mut maps = List::new(alloc);
     for tree in trees {
-        let Tree::Map(map) = tree else {
-            return Ok(None);
-        };
-        maps.push(map.share()?)?;
+        match map_of(tree) {
+            None => return Ok(None),
+            Some(map) => maps.push(map.share()?)?,
+        }
     }
     Ok(Some(maps))
+}
+
+/// The mapping that a tree is; None where it is none.
+fn map_of(tree: &Tree) -> Option<&Shared<Map>>
+    ensures { option_copied result ≡ pairs_of (out-Tree tree.now) }
+{
+    match tree {
+        Tree::Map(map) => Some(map),
+        _ => None,
+    }
 }
 
 /// The mapping of entries: its own, then those of its merge key that aren't there yet, which count once more.
@@ -159,25 +189,32 @@ pub fn merged(
     ensures { Gives (result_beside result progress.new) (merged progress.old row.now entries) }
 {
     let Entries { own, merge } = entries;
-    match merge {
-        None => Ok(Tree::mapping(alloc, own)?),
-        Some(merge) => merged_with(alloc, progress, row, own, &merge),
-    }
+    let mut own = own;
+    add_merged(alloc, progress, row, &mut own, &merge)?;
+    Ok(Tree::mapping(alloc, own)?)
 }
 
-/// The mapping of its own entries and of those that its merge key adds.
-fn merged_with(
+/// Puts the entries that a merge key adds, if there is one, behind a mapping's own.
+fn add_merged(
     alloc: Global,
     progress: &mut Progress,
     row: &Row,
-    own: Map,
-    merge: &Merge,
-) -> Result<Tree, YamlRefusal>
-    ensures { Gives (result_beside result progress.new) (merged_with progress.old row.now own (Some merge.now)) }
+    own: &mut Map,
+    merge: &Option<Merge>,
+) -> Result<(), YamlRefusal>
+    ensures { Gives (result_left result (trees.Map own.new, progress.new))
+        (merged_with progress.old row.now own.old merge.now) }
 {
-    let mut own = own;
-    let found = added(alloc, &own, merge.maps.as_slice())?;
-    count(progress, row, merge.spot, &found)?;
-    put_all(alloc, &mut own, &found)?;
-    Ok(Tree::mapping(alloc, own)?)
+    let Some(merge) = merge else {
+        return Ok(());
+    };
+    let first = own.len();
+    put_added(alloc, own, merge.maps.as_slice())?;
+    count(
+        progress,
+        row,
+        merge.spot,
+        keys_from(own, first),
+        trees_from(own, first),
+    )
 }

@@ -61,7 +61,8 @@ fn key_with(
     is_plain: bool,
 ) -> Result<Key, YamlRefusal>
     requires { ForSome read (λ p. at + p.1 ≤ length row.now.chars) }
-    ensures is { (chars : Option (List ℕ × ℕ)) → read ≡ spelled chars → Gives result (key_with is_plain progress.now row.now at chars) }
+    ensures is { (chars : Option (List ℕ × ℕ)) → read ≡ spelled chars →
+        Gives result (key_with is_plain progress.now row.now at chars) }
     ensures within { IfOk result (λ key. at + key.len ≤ length row.now.chars) }
 {
     match read {

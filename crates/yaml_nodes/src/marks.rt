@@ -128,7 +128,8 @@ pub fn before_colon(chars: &[char], context: Context) -> usize
 /// How many characters stand before the colon of the key that stands here on one line, or of the alias in its place;
 /// None exactly where no key with its colon does.
 pub fn colon_of_key(chars: &[char], context: Context) -> Option<usize>
-    ensures is { result ≡ (if is_key context chars.now then Some (before_colon context chars.now) else None) }
+    ensures is { result
+        ≡ (if is_key context chars.now then Some (before_colon context chars.now) else None) }
     ensures within { IfSome result (λ at. at < length chars.now) }
 {
     let len = key_len(chars, context);
@@ -167,7 +168,8 @@ pub fn is_left_out(line: &[char]) -> bool
 
 /// Whether a marker of a document stands here (YAML 1.2, chapter 9.1.2).
 fn is_marker(chars: &[char]) -> bool
-    ensures { result ≡ (starts_with (codes "---") chars.now || starts_with (codes "...") chars.now) }
+    ensures { result
+        ≡ (starts_with (codes "---") chars.now || starts_with (codes "...") chars.now) }
 {
     matches!(chars, ['-', '-', '-', ..] | ['.', '.', '.', ..])
 }

@@ -3,7 +3,7 @@ ghost use Rattle.tree_base.specs.Trees.{node_count, depth, text_size};
 ghost use Rattle.yaml_lines.specs.Answers.{Fails, Gives};
 ghost use Rattle.yaml_lines.specs.declared.refusal.YamlRefusal.TheVariants.{Bad};
 ghost use Rattle.yaml_lines.specs.Rows.{place_in};
-ghost use Rattle.yaml_nodes.specs.Progress.{result_beside, result_left, at_start, place_of, more_text, more_nodes, taken, one_node};
+ghost use Rattle.yaml_nodes.specs.Progress.{result_left, at_start, place_of, more_text, more_nodes, taken, one_node};
 
 use crate::spot::Spot;
 use std::alloc::Global;
@@ -84,7 +84,8 @@ impl Progress {
         nodes: u64,
         bytes: u64,
     ) -> Result<(), YamlRefusal>
-        ensures { Gives (result_left result self.new) (more_nodes self.old row.now spot nodes bytes) }
+        ensures { Gives (result_left result self.new)
+            (more_nodes self.old row.now spot nodes bytes) }
     {
         let nodes = self.nodes.saturating_add(nodes);
         if nodes > MOST_NODES {
@@ -131,7 +132,8 @@ impl Progress {
 
     /// How many nodes there are with those of a tree; None past the limit, which the walk doesn't pass.
     fn nodes_with(&self, tree: &Tree) -> Option<u64>
-        ensures { SomeIff result (self.now.nodes + node_count tree.now ≤ 200000) (self.now.nodes + node_count tree.now) }
+        ensures { SomeIff result (self.now.nodes + node_count tree.now ≤ 200000)
+            (self.now.nodes + node_count tree.now) }
     {
         let more = tree.nodes_within(self.nodes_left()?)?;
         Some(self.nodes + more)
@@ -140,7 +142,8 @@ impl Progress {
     /// How many bytes of keys and scalars there are with those of a tree; None past the limit, which the walk doesn't
     /// pass.
     fn text_with(&self, tree: &Tree) -> Option<u64>
-        ensures { SomeIff result (self.now.text + text_size tree.now ≤ 16777216) (self.now.text + text_size tree.now) }
+        ensures { SomeIff result (self.now.text + text_size tree.now ≤ 16777216)
+            (self.now.text + text_size tree.now) }
     {
         let more = tree.text_within(self.text_left()?)?;
         Some(self.text + more)
@@ -155,8 +158,13 @@ impl Progress {
         at: usize,
         tree: &Tree,
     ) -> Result<(u64, u64), YamlRefusal>
-        ensures is { IfOk result (λ counts. taken levels self.now row.now at (depth tree.now) (node_count tree.now) (text_size tree.now) ≡ Ok (record self.now { nodes = counts.0; text = counts.1 })) }
-        ensures refuses { IfErr result (λ refusal. Fails refusal (taken levels self.now row.now at (depth tree.now) (node_count tree.now) (text_size tree.now))) }
+        ensures is { IfOk result (λ counts.
+            taken levels self.now row.now at
+            (depth tree.now) (node_count tree.now) (text_size tree.now)
+            ≡ Ok (record self.now { nodes = counts.0; text = counts.1 })) }
+        ensures refuses { IfErr result (λ refusal. Fails refusal
+            (taken levels self.now row.now at
+            (depth tree.now) (node_count tree.now) (text_size tree.now))) }
     {
         if !tree.is_within_depth(levels) {
             return Err(YamlRefusal::TooDeep {

@@ -1,7 +1,7 @@
 ghost use Rattle.std.specs.Prelude.{◌≡◌, Ok, IfOk, OnOk};
 ghost use Rattle.yaml_lines.specs.Answers.{Gives};
 ghost use Rattle.yaml_lines.specs.Rows.{text_at};
-ghost use Rattle.yaml_nodes.specs.Progress.{result_beside};
+ghost use Rattle.yaml_nodes.specs.Progress.{result_beside, result_left};
 ghost use Rattle.yaml_nodes.specs.Properties.{no_properties, name_of, tag_of, with_name, with_tag, with_property, properties_from, fault_of_key, carried, unspelled, marked, named, finished};
 
 use crate::marks::{is_property, name_len, starts};
@@ -12,7 +12,7 @@ use tree_base::{Boxed, Memory, Text, Tree};
 use yaml_lines::{Row, YamlFault, YamlRefusal, is_white, text_at, text_of};
 
 /// A tag that is known.
-#[derive(Clone, Copy, Debug, PartialEq, Eq)]
+#[derive(Clone, Copy)]
 pub enum Tag {
     /// `!reset`.
     Reset,
@@ -50,7 +50,8 @@ pub fn properties_from(
     found: Properties,
     may_be_marked: bool,
 ) -> Result<Properties, YamlRefusal>
-    ensures { Gives result (properties_from may_be_marked progress.now row.now at found 0 (text_at row.now at)) }
+    ensures { Gives result
+        (properties_from may_be_marked progress.now row.now at found 0 (text_at row.now at)) }
 {
     let mut more = found;
     let mut next = at;
@@ -62,7 +63,7 @@ pub fn properties_from(
         if is_white(*c) {
             next += 1;
         } else if is_property(chars) {
-            more = with_property(alloc, progress, row, next, more, may_be_marked)?;
+            add_property(alloc, progress, row, next, &mut more, may_be_marked)?;
             next += 1 + name_len(rest);
         } else {
             return Ok(more);
@@ -70,23 +71,24 @@ pub fn properties_from(
     }
 }
 
-/// The property that begins at a place, beside those before it.
-fn with_property(
+/// Puts the property that begins at a place beside those before it.
+fn add_property(
     alloc: Global,
     progress: &Progress,
     row: &Row,
     at: usize,
-    found: Properties,
+    found: &mut Properties,
     may_be_marked: bool,
-) -> Result<Properties, YamlRefusal>
-    ensures { Gives result (with_property may_be_marked progress.now row.now at found (text_at row.now at)) }
+) -> Result<(), YamlRefusal>
+    ensures { Gives (result_left result found.new)
+        (with_property may_be_marked progress.now row.now at found.old (text_at row.now at)) }
 {
     let chars = text_at(row, at);
     let name = name_of(alloc, chars)?;
     if starts(chars, '&') {
-        with_name(progress, row, at, found, name)
+        add_name(progress, row, at, found, name)
     } else {
-        with_tag(progress, row, at, found, tag_of(&name, may_be_marked))
+        add_tag(progress, row, at, found, tag_of(&name, may_be_marked))
     }
 }
 
@@ -112,40 +114,40 @@ fn tag_of(name: &Text, may_be_marked: bool) -> Option<Tag>
     }
 }
 
-/// A name beside the properties before it: not the empty one, and no second one.
-fn with_name(
+/// Puts a name beside the properties before it: not the empty one, and no second one.
+fn add_name(
     progress: &Progress,
     row: &Row,
     at: usize,
-    found: Properties,
+    found: &mut Properties,
     name: Text,
-) -> Result<Properties, YamlRefusal>
-    ensures { Gives result (with_name progress.now row.now at found name found.name) }
+) -> Result<(), YamlRefusal>
+    ensures { Gives (result_left result found.new)
+        (with_name progress.now row.now at found.old name found.old.name) }
 {
     if found.name.is_some() || name.is_empty() {
         return Err(progress.bad(YamlFault::BadScalar, row, at));
     }
-    Ok(Properties {
-        name: Some(name),
-        tag: found.tag,
-    })
+    found.name = Some(name);
+    Ok(())
 }
 
-/// A tag beside the properties before it: one that is known, and no second one.
-fn with_tag(
+/// Puts a tag beside the properties before it: one that is known, and no second one.
+fn add_tag(
     progress: &Progress,
     row: &Row,
     at: usize,
-    found: Properties,
+    found: &mut Properties,
     tag: Option<Tag>,
-) -> Result<Properties, YamlRefusal>
-    ensures { Gives result (with_tag progress.now row.now at found tag found.tag) }
+) -> Result<(), YamlRefusal>
+    ensures { Gives (result_left result found.new)
+        (with_tag progress.now row.now at found.old tag found.old.tag) }
 {
     match (tag, found.tag) {
-        (Some(tag), None) => Ok(Properties {
-            name: found.name,
-            tag: Some((tag, Spot::Here(at))),
-        }),
+        (Some(tag), None) => {
+            found.tag = Some((tag, Spot::Here(at)));
+            Ok(())
+        }
         _ => Err(progress.bad(YamlFault::BadTag, row, at)),
     }
 }
@@ -180,12 +182,24 @@ pub fn unspelled(
 ) -> Result<Properties, YamlRefusal>
     ensures { Gives result (unspelled progress.now row.now found) }
 {
+    no_spelling(progress, row, &found)?;
+    Ok(found)
+}
+
+/// Refuses `!!str` where it may not stand.
+pub(crate) fn no_spelling(
+    progress: &Progress,
+    row: &Row,
+    found: &Properties,
+) -> Result<(), YamlRefusal>
+    ensures { Gives (result_left result found.now) (unspelled progress.now row.now found.now) }
+{
     match found.tag {
         Some((Tag::Str, spot)) => Err(YamlRefusal::Bad {
             which: YamlFault::BadTag,
             place: progress.place_of(row, spot),
         }),
-        _ => Ok(found),
+        _ => Ok(()),
     }
 }
 
@@ -198,8 +212,20 @@ pub fn finished(
 ) -> Result<Tree, YamlRefusal>
     ensures { Gives (result_beside result progress.new) (Ok (finished found (tree, progress.old))) }
 {
+    Ok(finish(alloc, progress, found, tree)?)
+}
+
+/// The same, which can only want memory.
+pub(crate) fn finish(
+    alloc: Global,
+    progress: &mut Progress,
+    found: Properties,
+    tree: Tree,
+) -> Result<Tree, Memory>
+    ensures { IfOk result (λ got. (got, progress.new) ≡ finished found (tree, progress.old)) }
+{
     keep_named(alloc, progress, found.name, &tree)?;
-    Ok(marked(alloc, found.tag, tree)?)
+    marked(alloc, found.tag, tree)
 }
 
 /// Puts a tree under its name too, if it has one, by one more owner of it.

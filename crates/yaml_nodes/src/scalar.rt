@@ -8,10 +8,12 @@ ghost use Rattle.yaml_lines.specs.Rows.{text_at};
 ghost use Rattle.yaml_nodes.specs.Progress.{result_beside};
 ghost use Rattle.yaml_nodes.specs.Properties.{is_spelled};
 ghost use Rattle.yaml_nodes.specs.Scalars.{is_null_word, is_plain_null, nothing, scalar, quoted_scalar, plain_scalar, scalar_at, copy_named, alias, word};
+ghost use Rattle.yaml_nodes.specs.Unfinished.{ended};
+ghost use Rattle.yaml_nodes.specs.declared.properties.Properties.{Properties};
 
 use crate::marks::name_len;
 use crate::progress::Progress;
-use crate::properties::{Properties, Tag, finished, unspelled};
+use crate::properties::{Properties, Tag, finish, no_spelling};
 use crate::spot::Spot;
 use std::alloc::Global;
 use tree_base::{Text, Tree};
@@ -29,7 +31,8 @@ pub fn nothing(
     row: &Row,
     at: usize,
 ) -> Result<Tree, YamlRefusal>
-    ensures { Gives (result_beside result progress.new) (nothing levels found progress.old row.now at) }
+    ensures { Gives (result_beside result progress.new)
+        (nothing levels found progress.old row.now at) }
 {
     progress.one_node(levels, row, at, 0)?;
     let tree = if is_spelled(&found) {
@@ -37,7 +40,7 @@ pub fn nothing(
     } else {
         Tree::Null
     };
-    finished(alloc, progress, found, tree)
+    Ok(finish(alloc, progress, found, tree)?)
 }
 
 /// Whether `!!str` stands among the properties.
@@ -63,9 +66,7 @@ fn is_plain_null(found: &Properties, text: &Text) -> bool
 
 /// The scalar of so many characters whose node is counted, and the place behind it. Its text counts now.
 fn scalar(
-    alloc: Global,
     progress: &mut Progress,
-    found: Properties,
     row: &Row,
     at: usize,
     text: Text,
@@ -73,48 +74,49 @@ fn scalar(
 ) -> Result<(Tree, usize), YamlRefusal>
     requires within { at + len ≤ length row.now.chars }
     requires small { length row.now.chars < 2 ^ 63 }
-    ensures is { Gives (result_beside result progress.new) (scalar found progress.old row.now at (Scalar text) text len) }
+    ensures is { (found : Properties) →
+        Gives (ended found (result_beside result progress.new))
+        (scalar found progress.old row.now at (Scalar text) text len) }
     ensures within { IfOk result (λ got. got.1 ≤ length row.now.chars) }
 {
     progress.more_text(row, Spot::Here(at), text.len() as u64)?;
-    let tree = finished(alloc, progress, found, Tree::Scalar(text))?;
-    Ok((tree, at + len))
+    Ok((Tree::Scalar(text), at + len))
 }
 
 /// The plain word for null of so many characters whose node is counted, and the place behind it. It has no text.
 fn null_word(
-    alloc: Global,
     progress: &mut Progress,
-    found: Properties,
     row: &Row,
     at: usize,
     len: usize,
 ) -> Result<(Tree, usize), YamlRefusal>
     requires within { at + len ≤ length row.now.chars }
     requires small { length row.now.chars < 2 ^ 63 }
-    ensures is { Gives (result_beside result progress.new) (scalar found progress.old row.now at Null [] len) }
+    ensures is { (found : Properties) →
+        Gives (ended found (result_beside result progress.new))
+        (scalar found progress.old row.now at Null [] len) }
     ensures within { IfOk result (λ got. got.1 ≤ length row.now.chars) }
 {
     progress.more_text(row, Spot::Here(at), 0)?;
-    let tree = finished(alloc, progress, found, Tree::Null)?;
-    Ok((tree, at + len))
+    Ok((Tree::Null, at + len))
 }
 
 /// The scalar in quotes that begins at a character of a row, and the place behind it.
 fn quoted(
     alloc: Global,
     progress: &mut Progress,
-    found: Properties,
     row: &Row,
     at: usize,
 ) -> Result<(Tree, usize), YamlRefusal>
     requires { at < length row.now.chars }
-    ensures is { Gives (result_beside result progress.new) (quoted_scalar found progress.old row.now at (quoted_of (text_at row.now at))) }
+    ensures is { (found : Properties) →
+        Gives (ended found (result_beside result progress.new))
+        (quoted_scalar found progress.old row.now at (quoted_of (text_at row.now at))) }
     ensures within { IfOk result (λ got. got.1 ≤ length row.now.chars) }
 {
     match quoted_scalar(alloc, text_at(row, at))? {
         None => Err(progress.bad(YamlFault::BadScalar, row, at)),
-        Some((text, len)) => scalar(alloc, progress, found, row, at, text, len),
+        Some((text, len)) => scalar(progress, row, at, text, len),
     }
 }
 
@@ -123,21 +125,22 @@ fn plain(
     alloc: Global,
     progress: &mut Progress,
     context: Context,
-    found: Properties,
+    found: &Properties,
     row: &Row,
     at: usize,
 ) -> Result<(Tree, usize), YamlRefusal>
     requires { at < length row.now.chars }
-    ensures is { Gives (result_beside result progress.new) (plain_scalar found progress.old row.now at (plain_of context (text_at row.now at))) }
+    ensures is { Gives (ended found.now (result_beside result progress.new))
+        (plain_scalar found.now progress.old row.now at (plain_of context (text_at row.now at))) }
     ensures within { IfOk result (λ got. got.1 ≤ length row.now.chars) }
 {
     match plain_scalar(alloc, text_at(row, at), context)? {
         None => Err(progress.bad(YamlFault::BadScalar, row, at)),
         Some((text, len)) => {
-            if is_plain_null(&found, &text) {
-                null_word(alloc, progress, found, row, at, len)
+            if is_plain_null(found, &text) {
+                null_word(progress, row, at, len)
             } else {
-                scalar(alloc, progress, found, row, at, text, len)
+                scalar(progress, row, at, text, len)
             }
         }
     }
@@ -148,7 +151,6 @@ fn copy_named(
     alloc: Global,
     progress: &mut Progress,
     levels: u32,
-    found: Properties,
     row: &Row,
     at: usize,
     name: &Text,
@@ -156,20 +158,20 @@ fn copy_named(
 ) -> Result<(Tree, usize), YamlRefusal>
     requires within { at + len ≤ length row.now.chars }
     requires small { length row.now.chars < 2 ^ 63 }
-    ensures is { Gives (result_beside result progress.new) (copy_named levels found progress.old row.now at (value_at progress.old.names name.now) len) }
+    ensures is { (found : Properties) →
+        Gives (ended found (result_beside result progress.new))
+        (copy_named levels found progress.old row.now at
+        (value_at progress.old.names name.now) len) }
     ensures within { IfOk result (λ got. got.1 ≤ length row.now.chars) }
 {
-    match progress.names.get(name) {
-        None => Err(progress.bad(YamlFault::UnknownAlias, row, at)),
-        Some(tree) => {
-            let (nodes, text) = progress.counts_with(levels, row, at, tree)?;
-            let tree = tree.copy(alloc)?;
-            progress.nodes = nodes;
-            progress.text = text;
-            let tree = finished(alloc, progress, found, tree)?;
-            Ok((tree, at + len))
-        }
-    }
+    let Some(tree) = progress.names.get(name) else {
+        return Err(progress.bad(YamlFault::UnknownAlias, row, at));
+    };
+    let (nodes, text) = progress.counts_with(levels, row, at, tree)?;
+    let tree = tree.copy(alloc)?;
+    progress.nodes = nodes;
+    progress.text = text;
+    Ok((tree, at + len))
 }
 
 /// The alias whose `*` stands at a character of a row, before other characters, and the place behind it.
@@ -177,7 +179,7 @@ fn alias(
     alloc: Global,
     progress: &mut Progress,
     levels: u32,
-    found: Properties,
+    found: &Properties,
     row: &Row,
     at: usize,
     behind: &[char],
@@ -185,13 +187,14 @@ fn alias(
     requires begun { at < length row.now.chars }
     requires small { length row.now.chars < 2 ^ 63 }
     requires behind { behind.now ≡ drop 1 (text_at row.now at) }
-    ensures is { Gives (result_beside result progress.new) (alias levels found progress.old row.now at) }
+    ensures is { Gives (ended found.now (result_beside result progress.new))
+        (alias levels found.now progress.old row.now at) }
     ensures within { IfOk result (λ got. got.1 ≤ length row.now.chars) }
 {
-    let found = unspelled(progress, row, found)?;
+    no_spelling(progress, row, found)?;
     let len = name_len(behind);
     let name = text_of(alloc, &behind[..len])?;
-    copy_named(alloc, progress, levels, found, row, at, &name, 1 + len)
+    copy_named(alloc, progress, levels, row, at, &name, 1 + len)
 }
 
 /// The scalar whose node is counted, by the character of a row at which it begins, and the place behind it. Refuses a
@@ -200,18 +203,40 @@ fn scalar_at(
     alloc: Global,
     progress: &mut Progress,
     context: Context,
-    found: Properties,
+    found: &Properties,
     row: &Row,
     at: usize,
 ) -> Result<(Tree, usize), YamlRefusal>
-    ensures is { Gives (result_beside result progress.new) (scalar_at context found progress.old row.now at) }
+    ensures is { Gives (ended found.now (result_beside result progress.new))
+        (scalar_at context found.now progress.old row.now at) }
     ensures within { IfOk result (λ got. got.1 ≤ length row.now.chars) }
 {
     match text_at(row, at) {
         [] => Err(progress.bad(YamlFault::BadScalar, row, at)),
-        ['\'' | '"', ..] => quoted(alloc, progress, found, row, at),
+        ['\'' | '"', ..] => quoted(alloc, progress, row, at),
         _ => plain(alloc, progress, context, found, row, at),
     }
+}
+
+/// The scalar or the alias that begins at a character of a row, before its properties finish it.
+fn unfinished(
+    alloc: Global,
+    progress: &mut Progress,
+    context: Context,
+    levels: u32,
+    found: &Properties,
+    row: &Row,
+    at: usize,
+) -> Result<(Tree, usize), YamlRefusal>
+    ensures is { Gives (ended found.now (result_beside result progress.new))
+        (word context levels found.now progress.old row.now at) }
+    ensures within { IfOk result (λ got. got.1 ≤ length row.now.chars) }
+{
+    if let ['*', behind @ ..] = text_at(row, at) {
+        return alias(alloc, progress, levels, found, row, at, behind);
+    }
+    progress.one_node(levels, row, at, 0)?;
+    scalar_at(alloc, progress, context, found, row, at)
 }
 
 /// The scalar or the alias that begins at a character of a row, and the place behind it. Refuses the levels or nodes
@@ -227,12 +252,11 @@ pub fn word(
     row: &Row,
     at: usize,
 ) -> Result<(Tree, usize), YamlRefusal>
-    ensures is { Gives (result_beside result progress.new) (word context levels found progress.old row.now at) }
+    ensures is { Gives (result_beside result progress.new)
+        (word context levels found progress.old row.now at) }
     ensures within { IfOk result (λ got. got.1 ≤ length row.now.chars) }
 {
-    if let ['*', behind @ ..] = text_at(row, at) {
-        return alias(alloc, progress, levels, found, row, at, behind);
-    }
-    progress.one_node(levels, row, at, 0)?;
-    scalar_at(alloc, progress, context, found, row, at)
+    let (tree, end) = unfinished(alloc, progress, context, levels, &found, row, at)?;
+    let tree = finish(alloc, progress, found, tree)?;
+    Ok((tree, end))
 }

@@ -1,7 +1,7 @@
 use tree_base::Place;
 
 /// Where something stands, seen from the row that is being read.
-#[derive(Clone, Copy, Debug, PartialEq, Eq, Drop)]
+#[derive(Clone, Copy, Drop)]
 pub enum Spot {
     /// At a character of the row.
     Here(usize),

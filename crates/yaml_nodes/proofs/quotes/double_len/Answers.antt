@@ -5,21 +5,21 @@ use Rattle.yaml_lines.specs.Quoted.{double_of}
 use Rattle.yaml_nodes.proofs.LenSteps.{farther, moves, double_measured, double_unknown}
 use Rattle.yaml_nodes.proofs.quotes.double_len.Goals as goal
 
-pub returns-in_err-at-in-92-clause-is : goal.returns-in_err-at-in-92-clause-is
-returns-in_err-at-in-92-clause-is c =
+pub returns-in-None-clause-is : goal.returns-in-None-clause-is
+returns-in-None-clause-is c =
     let cs = c.args.chars.now in
-    let is = rw (take_rest cs (c.loop-at.at + 1)) at c.in_err-at-in-92.ensures.is in
-    c.from_residual.ensures ∙ sym (ap (farther c.loop-at.at) (double_unknown cs c.loop-at.at c.index-chars-at.result (omega arith) c.index-chars-at.is c.in-92.is is)) ∙ c.loop-at.invariant.is
+    let is = rw (take_rest cs (c.loop-at.at + 1)) at c.in-None.ensures.is in
+    sym (ap (farther c.loop-at.at) (double_unknown cs c.loop-at.at c.index-chars-at.result (omega arith) c.index-chars-at.is c.in-92.is is)) ∙ c.loop-at.invariant.is
 
-pub loop-at-preserved-in-92 : goal.loop-at-preserved-in-92
-loop-at-preserved-in-92 c =
+pub loop-at-preserved-in-Some : goal.loop-at-preserved-in-Some
+loop-at-preserved-in-Some c =
     let cs = c.args.chars.now in
     let rest = take_rest cs (c.loop-at.at + 1) in
-    let is = rw rest at c.in_ok-at-in-92.ensures.is in
-    let within = rw rest at c.in_ok-at-in-92.ensures.within in
+    let is = rw rest at c.in-Some.ensures.is in
+    let within = rw rest at c.in-Some.ensures.within in
     record {
       within = omega (arith, length-drop (c.loop-at.at + 1) cs, within);
-      is = double_measured cs c.loop-at.at c.index-chars-at.result c.in_ok-at-in-92.field-0 _ (omega arith) c.index-chars-at.is c.in-92.is is within c.loop-at.invariant.is;
+      is = double_measured cs c.loop-at.at c.index-chars-at.result _ c.in-Some.len _ (omega arith) c.index-chars-at.is c.in-92.is is within c.loop-at.invariant.is;
     }
 
 pub loop-at-preserved : goal.loop-at-preserved
