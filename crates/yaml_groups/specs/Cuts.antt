@@ -52,7 +52,8 @@ abbrev pub cut_len : ℕ → ℕ → Bool → List ℕ → ℕ
 cut_len n skip white [] = 0
 cut_len n (suc skip) white (c ∷ cs) = cut_len n skip (is_space c) cs + 1
 cut_len n zero white (c ∷ cs) =
-    if is_cut n c then 0 else cut_len (open_behind n c) (token_len white (c ∷ cs) - 1) (is_space c) cs + 1
+    if is_cut n c then 0
+    else cut_len (open_behind n c) (token_len white (c ∷ cs) - 1) (is_space c) cs + 1
 
 -- where a flow collection is cut, from behind its opening bracket on, which stands before a place: at its own commas, and at the bracket that closes it
 abbrev pub cuts : ℕ → ℕ → ℕ → Bool → List ℕ → List ℕ

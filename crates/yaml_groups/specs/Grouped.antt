@@ -55,13 +55,16 @@ begins_block cs = starts 124 cs || starts 62 cs
 -- how many of the lines that follow belong to a line, whose value begins at a place, and the dash or key of which stands at a column
 abbrev pub belonging : ℕ × ℕ → Row → List Row → ℕ
 belonging head row rows =
-    if begins_flow (drop head.1 row.chars) then flow_lines (drop (head.1 + 1) (joined_chars row.chars rows)) (length rows)
-    else (if begins_block (drop head.1 row.chars) then (block_of false Clip head.0 (lines_of_rows rows)).1 else 0)
+    if begins_flow (drop head.1 row.chars)
+    then flow_lines (drop (head.1 + 1) (joined_chars row.chars rows)) (length rows)
+    else (if begins_block (drop head.1 row.chars)
+    then (block_of false Clip head.0 (lines_of_rows rows)).1 else 0)
 
 -- a line with those that belong to it: a flow collection is one row of them, a block scalar keeps them beside it
 abbrev pub with_lines : ℕ → Row → List Row → LogicalLine
 with_lines value row lines =
-    if begins_flow (drop value row.chars) then record { row = record row { chars = joined_chars row.chars lines }; content = [] }
+    if begins_flow (drop value row.chars)
+    then record { row = record row { chars = joined_chars row.chars lines }; content = [] }
     else record { row = row; content = lines }
 
 -- the lines that are read, where so many belong to a line before, and the last dash or key stands at a column

@@ -10,6 +10,7 @@ fn is_opening(c: char) -> bool
     c == '[' || c == '{'
 }
 
+/// Whether a character is a closing bracket, which ends a flow collection (YAML 1.2, chapter 7.4).
 pub fn is_closing(c: char) -> bool
     ensures { result ≡ is_closing c }
 {
@@ -38,6 +39,7 @@ fn is_cut(brackets: usize, c: char) -> bool
     brackets == 0 && (is_closing(c) || c == ',')
 }
 
+/// Whether a character is white space or a line's end.
 pub fn is_space(c: char) -> bool
     ensures { result ≡ is_space c }
 {

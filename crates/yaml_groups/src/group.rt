@@ -1,4 +1,5 @@
 ghost use Rattle.std.specs.Prelude.{◌≡◌, ◌<◌, ◌+◌, ◌++◌, ◌^◌, length, drop, take, IfOk, OnOk};
+ghost use Rattle.yaml_lines.specs.Blanks.{is_blank};
 ghost use Rattle.yaml_groups.specs.Grouped.{grouped, begins_block, belonging, with_lines};
 ghost use Rattle.yaml_groups.specs.Parts.{led};
 
@@ -53,6 +54,13 @@ fn begins_block(chars: &[char]) -> bool
     starts(chars, '|') || starts(chars, '>')
 }
 
+/// Whether a row has white space and a comment alone.
+fn is_blank_row(row: &Row) -> bool
+    ensures { result ≡ is_blank row.now.chars }
+{
+    is_blank(row.chars.as_slice())
+}
+
 /// How many of the rows that follow belong to a row, by its head.
 fn belonging(head: (usize, usize), row: &Row, rows: &[Row]) -> usize
     requires { length row.now.chars + length (led rows.now) < 2 ^ 64 }
@@ -101,7 +109,7 @@ pub fn grouped(alloc: Global, rows: List<Row>) -> Result<List<LogicalLine>, Memo
     let mut lines = List::new(alloc);
     let mut owner = 0;
     while let Some(row) = rest.next(alloc) {
-        if is_blank(row.chars.as_slice()) {
+        if is_blank_row(&row) {
             continue;
         }
         let (column, value) = head_of(row.chars.as_slice(), owner);

@@ -20,8 +20,8 @@ loop-row-preserved c =
     let fewer = led_fewer rest c.belonging-count.result in
     let taken = ap (λ rows. length (led rows)) c.in_ok-following.ensures.rest in
     let fits = c.loop-row.invariant.fits in
-    let full : is_blank row.chars ≡ false = rw c.as_slice-in-Some.ensures at (sym c.is_blank.ensures ∙ c.if-is_blank.false) in
-    let head = rw c.as_slice-in-Some-2.ensures at c.head_of-column.ensures.is in
+    let full : is_blank row.chars ≡ false = sym c.is_blank_row.ensures ∙ c.if-is_blank_row.false in
+    let head = rw c.as_slice-in-Some.ensures at c.head_of-column.ensures.is in
     let count = rw c.rows-in-Some.ensures at c.belonging-count.ensures in
     record {
       fits = omega arith;
