@@ -1,6 +1,5 @@
 pub mod EntryOrder
 pub mod KeptKeys
-pub mod Loads
 pub mod MarkWalks
 pub mod Names
 pub mod NoneLost

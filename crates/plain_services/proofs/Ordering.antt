@@ -15,6 +15,7 @@ use Rattle.std.specs.Cmp.Lexicographic.{slice_cmp}
 use Rattle.std.specs.Str.{bytes_eq}
 use Rattle.tree_base.specs.ByteOrder.{IsAscending, by_key, is_before, placed}
 use Rattle.tree_base.proofs.Sorting.{same_place, sorted_is}
+use Rattle.plain_services.proofs.KeptKeys as kept
 
 other_way : (s t : List ℕ) → bytes_eq s t ≡ false → bytes_eq t s ≡ false
 other_way s t e = at (bytes_eq t s) refl
@@ -25,18 +26,8 @@ other_way s t e = at (bytes_eq t s) refl
 
 module _ {X : Type 0} (key : X → List ℕ) where
   -- to sort elements is to sort their keys
-  map-placed : (x : X) (xs : List X) → map key (placed key x xs) ≡ placed (λ (t : List ℕ). t) (key x) (map key xs)
-  map-placed x [] = refl
-  map-placed x (y ∷ ys) = at (is_before (key y) (key x)) (map-placed x ys)
-    where
-      at : (b : Bool) → map key (placed key x ys) ≡ placed (λ (t : List ℕ). t) (key x) (map key ys)
-          → map key (cond b (y ∷ placed key x ys) (x ∷ y ∷ ys)) ≡ cond b (key y ∷ placed (λ (t : List ℕ). t) (key x) (map key ys)) (key x ∷ key y ∷ map key ys)
-      at true e = ap (λ l. key y ∷ l) e
-      at false e = refl
-
   pub map-by_key : (xs : List X) → map key (by_key key xs) ≡ by_key (λ (t : List ℕ). t) (map key xs)
-  map-by_key [] = refl
-  map-by_key (x ∷ xs) = map-placed x (by_key key xs) ∙ ap (placed (λ (t : List ℕ). t) (key x)) (map-by_key xs)
+  map-by_key xs = kept.map-by_key key (λ (t : List ℕ). t) xs
 
   -- what holds of each element holds of each when they are sorted
   module _ (P : X → Type 0) where

@@ -1,24 +1,18 @@
--- What calls give of a shape, and which refusals a shape has.
-use Rattle.std.proofs.Common.{◌≡◌, ◌∙◌, ℕ, Bool, true, false, cond, List, [], ◌∷◌, ◌++◌, map, None, Some, Ok, Err, refl, ap, sym, subst, append_assoc}
-use Rattle.std.specs.Prelude.{Option, Result, IfOk, IfErr, nat_lt, length, codes, is_some}
+-- What calls give of a shape, and the names of its services.
+use Rattle.std.proofs.Common.{◌≡◌, ◌∙◌, ℕ, Bool, true, false, List, [], ◌∷◌, ◌++◌, map, None, Some, Ok, Err, refl, ap, sym, subst, append_assoc}
+use Rattle.std.specs.Prelude.{Option, Result, IfOk, codes, is_some}
 use Rattle.std.specs.Map.{keys_of}
-use Rattle.std.specs.Option.{option_map}
-use Rattle.std.proofs.lemmas.Result.{IfErr-at_err}
 use Rattle.tree_base.specs.Answers.{◌>>=◌}
 use Rattle.tree_base.specs.declared.Step.{Step}
 use Rattle.tree_base.specs.declared.Tree.{Tree, out-Tree}
 use Rattle.tree_base.specs.declared.Tree.TheOpen.{Tree-F}
 use Rattle.tree_base.specs.Entries.{value_at, HasDistinctKeys}
 use Rattle.plain_services.specs.Answers.{Gives}
-use Rattle.plain_services.specs.Marks.{counted}
 use Rattle.service_attrs.specs.Projects.{IsInOrder}
 use Rattle.plain_services.proofs.EntryOrder.{in_order_by_names}
-use Rattle.plain_services.specs.Shape.{Entries, few, first_entry, image_of, in_byte_order, service_of, services_of, services_of_file, services_under, unbuilt_top, unless_unbuilt, with_both}
+use Rattle.plain_services.specs.Shape.{Entries, image_of, in_byte_order, service_of, services_of, unless_unbuilt, with_both}
 use Rattle.service_attrs.specs.declared.Service.{Service}
 use Rattle.plain_services.specs.declared.refusal.PlainRefusal.{PlainRefusal}
-use Rattle.plain_services.specs.declared.refusal.LoadRefusal.{LoadRefusal}
-use Rattle.plain_services.specs.declared.refusal.ProjectRefusal.{ProjectRefusal}
-use Rattle.plain_services.specs.declared.refusal.Unbuilt.{Unbuilt}
 
 -- a refusal that goes on into another answer
 pub gives_on : {A B : Type 0} (r : PlainRefusal) (x : Result A PlainRefusal) (y : Result B PlainRefusal) → (x ≡ Err r → y ≡ Err r) → Gives (Err r) x → Gives (Err r) y
@@ -27,63 +21,6 @@ gives_on r x y k h = k h
 
 pub gives_same : {A : Type 0} (given : Result A PlainRefusal) (x y : Result A PlainRefusal) → x ≡ y → Gives given x → Gives given y
 gives_same {A} given x y e h = subst (λ (z : Result A PlainRefusal). Gives given z) e h
-
--- the refusals that a shape has: of what isn't built in a tree, or of what it declares
-abbrev pub IsOfShape : PlainRefusal → Type 0
-IsOfShape (PlainRefusal.NotBuilt (Unbuilt.Attribute path)) = Unit {0}
-IsOfShape (PlainRefusal.Project refusal) = Unit {0}
-IsOfShape _ = ⊥
-
-then_of_shape : {A B : Type 0} (r : Result A PlainRefusal) (f : A → Result B PlainRefusal) → IfErr r IsOfShape → ((x : A) → IfErr (f x) IsOfShape) → IfErr (r >>= f) IsOfShape
-then_of_shape (Ok x) f h k = k x
-then_of_shape (Err e) f h k = h
-
-unless_of_shape : {X : Type 0} (o : Option (List Step)) (r : Result X PlainRefusal) → IfErr r IsOfShape → IfErr (unless_unbuilt o r) IsOfShape
-unless_of_shape None r h = h
-unless_of_shape (Some path) r h = tt
-
-both_of_shape : (name : List ℕ) (image : Option (List ℕ)) (mode : Bool) → IfErr (with_both name image mode) IsOfShape
-both_of_shape name None mode = tt
-both_of_shape name (Some image) true = tt
-both_of_shape name (Some image) false = tt
-
-service_of_shape : (name : List ℕ) (tree : Tree-F Tree) → IfErr (service_of name tree) IsOfShape
-service_of_shape name (Tree-F.Map attributes) =
-    unless_of_shape _ (with_both name (image_of attributes) (is_some (value_at attributes (codes "network_mode")))) (both_of_shape name (image_of attributes) (is_some (value_at attributes (codes "network_mode"))))
-service_of_shape name tree = tt
-
-services_of_shape : (entries : Entries) → IfErr (services_of entries) IsOfShape
-services_of_shape [] = tt
-services_of_shape (entry ∷ entries) =
-    then_of_shape (service_of entry.0 (out-Tree entry.1)) (λ service. services_of entries >>= λ services. Ok (service ∷ services)) (service_of_shape entry.0 (out-Tree entry.1))
-    (λ service. then_of_shape (services_of entries) (λ services. Ok (service ∷ services)) (services_of_shape entries) (λ services. tt))
-
-few_of_shape : (entries : Entries) → IfErr (few entries) IsOfShape
-few_of_shape entries = at (nat_lt 1000 (length entries))
-  where
-    at : (b : Bool) → IfErr (cond b (Err (PlainRefusal.Project (ProjectRefusal.TooManyServices (counted (length entries))))) (Ok entries)) IsOfShape
-    at true = tt
-    at false = tt
-
-under_of_shape : (found : Option (Tree-F Tree)) → IfErr (services_under found) IsOfShape
-under_of_shape None = tt
-under_of_shape (Some Tree-F.Null) = tt
-under_of_shape (Some (Tree-F.Map entries)) = tt
-under_of_shape (Some tree) = tt
-
-pub file_of_shape : (entries : Entries) → IfErr (services_of_file entries) IsOfShape
-file_of_shape entries =
-    let found = option_map out-Tree (value_at entries (codes "services")) in
-    unless_of_shape (first_entry unbuilt_top entries) _
-    (then_of_shape (services_under found >>= few) (λ services. services_of (in_byte_order services)) (then_of_shape (services_under found) few (under_of_shape found) few_of_shape)
-    (λ services. services_of_shape (in_byte_order services)))
-
--- what is given of a shape is no refusal of words and no fault of a read
-pub no_words : {X : Type 0} (given answer : Result X PlainRefusal) → Gives given answer → IfErr answer IsOfShape → given ≡ Err (PlainRefusal.NotBuilt Unbuilt.Words) → ⊥
-no_words {X} given answer h k e = IfErr-at_err IsOfShape (subst (λ (g : Result X PlainRefusal). Gives g answer) e h) k
-
-pub no_read : {X : Type 0} (given answer : Result X PlainRefusal) → Gives given answer → IfErr answer IsOfShape → (path : List ℕ) → given ≡ Err (PlainRefusal.Load (LoadRefusal.ReadFault path)) → ⊥
-no_read {X} given answer h k path e = IfErr-at_err IsOfShape (subst (λ (g : Result X PlainRefusal). Gives g answer) e h) k
 
 -- a service has the name that its entry has
 both_named : (name : List ℕ) (image : Option (List ℕ)) (mode : Bool) (service : Service) → with_both name image mode ≡ Ok service → service.key ≡ name

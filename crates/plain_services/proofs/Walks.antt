@@ -5,11 +5,6 @@ use Rattle.std.proofs.lemmas.List.{take-map, take_more, map-append}
 use Rattle.std.proofs.lemmas.List.Sums.{fold-append}
 use Rattle.std.proofs.lemmas.Option.{get_or_from_slice_get, slice_get_within}
 
-pub fold_more_of : {X Y Z : Type 0} (f : Z → Y → Z) (z : Z) (view : X → Y) (xs : List X) (i : ℕ) (d : X) → i < length xs
-    → fold f z (take (i + 1) (map view xs)) ≡ f (fold f z (take i (map view xs))) (view (get_or xs i d))
-fold_more_of f z view xs i d within =
-    rw (take-map view (i + 1) xs, take_more xs i d within, map-append view (take i xs) (get_or xs i d ∷ []), ← take-map view i xs, fold-append f z (take i (map view xs)) (view (get_or xs i d) ∷ [])) refl
-
 next_of : {X Y : Type 0} (f : X → Y) (xs : List X) (i : ℕ) (x : X) → slice_get xs i ≡ Some x → drop i (map f xs) ≡ f x ∷ drop (suc i) (map f xs)
 next_of f [] i x e = absurd cc
 next_of {X} f (y ∷ xs) zero x e = let same : y ≡ x = cc in ap (λ (z : X). f z ∷ map f xs) same

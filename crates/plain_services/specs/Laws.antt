@@ -1,16 +1,24 @@
 -- Laws about the services that trees have.
-use Rattle.std.specs.Prelude.{◌≡◌, ℕ, ◌≤◌, List, [], ◌∷◌, ◌++◌, Ok, length, map, codes}
+use Rattle.std.specs.Prelude.{◌≡◌, ℕ, ◌≤◌, IsTrue, List, [], ◌∷◌, ◌++◌, Ok, length, map, codes}
 use Rattle.std.specs.List.{flat_map, IsDistinct}
 use Rattle.std.specs.Map.{keys_of}
 use Rattle.std.specs.Str.{bytes_eq}
 use Rattle.tree_base.specs.declared.Tree.{Tree, Map, Scalar}
+use Rattle.plain_services.specs.ProjectNames.{is_name}
+use Rattle.plain_services.specs.Projects.{project_of}
 use Rattle.plain_services.specs.Shape.{Entries, services_in}
+use Rattle.service_attrs.specs.Projects.{IsInOrder}
+use Rattle.service_attrs.specs.declared.Project.{Project}
 use Rattle.service_attrs.specs.declared.Service.{Service}
 use Rattle.tree_base.specs.ByteOrder.{by_key}
 
 -- a service as a file has it
 abbrev pub entry_of : Service → List ℕ × Tree
-entry_of service = (service.key, Map ((codes "image", Scalar service.image) ∷ (codes "network_mode", Scalar (codes "none")) ∷ []))
+entry_of service = (
+  service.key,
+  Map (
+      (codes "image", Scalar service.image) ∷ (codes "network_mode", Scalar (codes "none")) ∷ []),
+)
 
 -- a file that has these entries under its services
 abbrev pub file_of : Entries → Tree
@@ -19,7 +27,8 @@ file_of entries = Map ((codes "services", Map entries) ∷ [])
 -- at most 1,000 services of different names, as a file has them, are those services, in byte order of their names
 abbrev pub ServicesReadBack : Type 0
 ServicesReadBack =
-    (services : List Service) → length services ≤ 1000 → IsDistinct bytes_eq (map (λ service. service.key) services)
+    (services : List Service) → length services ≤ 1000
+    → IsDistinct bytes_eq (map (λ service. service.key) services)
     → services_in (file_of (map entry_of services)) ≡ Ok (by_key (λ service. service.key) services)
 
 -- each entry under the services of a file that is loaded is one service of that name, and there is no other
@@ -28,9 +37,25 @@ NoServiceIsLost =
     (entries : Entries) (services : List Service) → services_in (file_of entries) ≡ Ok services
     → map (λ service. service.key) services ≡ by_key (λ name. name) (keys_of entries)
 
+-- a project as a file has it: its name and its services
+abbrev pub tree_of_project : Project → Tree
+tree_of_project project =
+    Map ((codes "name", Scalar project.name)
+    ∷ (codes "services", Map (map entry_of project.services)) ∷ [])
+
+-- a project, as a file has it, is that project in every directory: with a name, and with at most 1,000 services in
+-- order
+abbrev pub ProjectsReadBack : Type 0
+ProjectsReadBack =
+    (base : List ℕ) (project : Project) → IsTrue (is_name project.name)
+    → length project.services ≤ 1000 → IsInOrder project.services
+    → project_of base (tree_of_project project) ≡ Ok project
+
 -- a service as a Compose file has it, line by line
 abbrev pub print_of : Service → List ℕ
-print_of service = codes "  " ++ (service.key ++ (codes ":\n    image: " ++ (service.image ++ codes "\n    network_mode: none\n")))
+print_of service =
+    codes "  " ++ (service.key ++ (codes ":\n    image: "
+    ++ (service.image ++ codes "\n    network_mode: none\n")))
 
 -- services as a Compose file has them, line by line
 abbrev pub prints_of : List Service → List ℕ

@@ -1,11 +1,10 @@
 pub mod Answers
-pub mod Directories
 pub mod Laws
-pub mod Loading
 pub mod Marks
 pub mod Messages
 pub mod Parts
 pub mod Paths
 pub mod ProjectNames
+pub mod Projects
 pub mod Shape
 pub mod Statuses

@@ -22,7 +22,8 @@ counted n = min n 4294967295
 -- the first path in the items of a sequence, from a place on
 abbrev pub first_item : ℕ → List (Option (List Step)) → Option (List Step)
 first_item at [] = None
-first_item at (found ∷ more) = option_or (below (Index (counted at)) found) (first_item (at + 1) more)
+first_item at (found ∷ more) =
+    option_or (below (Index (counted at)) found) (first_item (at + 1) more)
 
 -- the first mark of a tree, where those of its parts are given
 abbrev pub mark_step : Tree-F (Option (List Step)) → Option (List Step)

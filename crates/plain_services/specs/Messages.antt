@@ -1,33 +1,65 @@
--- What each refusal of loading says, behind the program's name.
+-- What each refusal of a file or of a project says, behind the program's name.
 use Rattle.std.specs.Prelude.{ℕ, List, ◌++◌, codes, decimal}
+use Rattle.dotenv.specs.declared.refusal.EnvRefusal.{EnvRefusal}
+use Rattle.include_extends.specs.declared.refusal.LoadRefusal.{LoadRefusal}
+use Rattle.interpolate.specs.declared.refusal.SubstRefusal.{SubstRefusal}
+use Rattle.interpolate.specs.declared.refusal.SubstTreeRefusal.{SubstTreeRefusal}
 use Rattle.plain_services.specs.Paths.{path_words}
-use Rattle.plain_services.specs.declared.refusal.LoadRefusal.{LoadRefusal}
 use Rattle.plain_services.specs.declared.refusal.PlainRefusal.{PlainRefusal}
 use Rattle.plain_services.specs.declared.refusal.ProjectRefusal.{ProjectRefusal}
-use Rattle.plain_services.specs.declared.refusal.Unbuilt.{Unbuilt}
+use Rattle.tree_base.specs.declared.Step.{Step}
 use Rattle.yaml_lines.specs.Printed.{refusal_text}
 
--- what stands at a path is named by it
-abbrev pub unbuilt_words : Unbuilt → List ℕ
-unbuilt_words Unbuilt.Words = codes "not built: words"
-unbuilt_words (Unbuilt.Attribute path) = path_words path ++ codes ": not built"
+-- what isn't built is named by its path
+abbrev pub unbuilt_words : List Step → List ℕ
+unbuilt_words path = path_words path ++ codes ": not built"
+
+-- a line that is refused: its number, and the name of the fault
+abbrev pub line_words : ℕ → List ℕ → List ℕ
+line_words line name = decimal line ++ codes ": " ++ name
+
+-- why an env file isn't read
+abbrev pub env_words : EnvRefusal → List ℕ
+env_words (EnvRefusal.BadLine line) = line_words line (codes "BadLine")
+env_words (EnvRefusal.BadQuote line) = line_words line (codes "BadQuote")
+env_words (EnvRefusal.Subst line cause) = line_words line (codes "Subst")
+env_words EnvRefusal.Memory = codes "memory"
+
+-- why a scalar has no value; a variable that is required is named, with the message of the form that requires it
+abbrev pub value_words : SubstRefusal → List ℕ
+value_words (SubstRefusal.Unclosed at) = codes "Unclosed"
+value_words (SubstRefusal.BadForm at) = codes "BadForm"
+value_words (SubstRefusal.RequiredVariable name message) =
+    codes "required " ++ name ++ codes ": " ++ message
+value_words SubstRefusal.Memory = codes "memory"
+
+-- why the scalars of a tree have no values: the path of the first, and its fault
+abbrev pub tree_words : SubstTreeRefusal → List ℕ
+tree_words (SubstTreeRefusal.At path cause) = path_words path ++ codes ": " ++ value_words cause
+tree_words SubstTreeRefusal.TooMuchText = codes "TooMuchText"
+tree_words SubstTreeRefusal.Memory = codes "memory"
 
 -- a file is named by its path; where its text is refused, the place and the name of the fault follow
 abbrev pub load_words : LoadRefusal → List ℕ
 load_words (LoadRefusal.NotFound path) = path ++ codes ": NotFound"
 load_words (LoadRefusal.ReadFault path) = path ++ codes ": ReadFault"
 load_words (LoadRefusal.FileTooLarge path) = path ++ codes ": FileTooLarge"
-load_words (LoadRefusal.Yaml path refusal) = path ++ codes ":" ++ refusal_text refusal
+load_words (LoadRefusal.TooManyFiles path) = path ++ codes ": TooManyFiles"
+load_words (LoadRefusal.NoHome path) = path ++ codes ": NoHome"
+load_words (LoadRefusal.Yaml path cause) = path ++ codes ":" ++ refusal_text cause
+load_words (LoadRefusal.EnvFile path cause) = path ++ codes ":" ++ env_words cause
+load_words (LoadRefusal.Subst path cause) = path ++ codes ": " ++ tree_words cause
+load_words LoadRefusal.Memory = codes "memory"
 
 -- a name that is none stands as it is, and a number past its limit behind the limit's name
 abbrev pub project_words : ProjectRefusal → List ℕ
+project_words (ProjectRefusal.BadShape path) = path_words path ++ codes ": BadShape"
 project_words (ProjectRefusal.BadName name) = codes "bad project name: " ++ name
 project_words (ProjectRefusal.TooManyServices count) = codes "TooManyServices: " ++ decimal count
 
--- what a refusal of loading says
+-- what a refusal of a tree says
 abbrev pub refusal_words : PlainRefusal → List ℕ
-refusal_words (PlainRefusal.NotBuilt unbuilt) = unbuilt_words unbuilt
-refusal_words (PlainRefusal.Load refusal) = load_words refusal
+refusal_words (PlainRefusal.NotBuilt path) = unbuilt_words path
 refusal_words (PlainRefusal.Name refusal) = project_words refusal
 refusal_words (PlainRefusal.Project refusal) = project_words refusal
 refusal_words PlainRefusal.Memory = codes "memory"

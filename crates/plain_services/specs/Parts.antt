@@ -4,7 +4,7 @@ use Rattle.tree_base.specs.Answers.{◌>>=◌}
 use Rattle.tree_base.specs.declared.Step.{Step}
 use Rattle.tree_base.specs.declared.Tree.{Tree}
 use Rattle.tree_base.specs.declared.Tree.TheOpen.{Tree-F}
-use Rattle.plain_services.specs.Shape.{Entries, few, in_byte_order, services_of, services_under, unbuilt_attribute, unbuilt_top}
+use Rattle.plain_services.specs.Shape.{Entries, few, in_byte_order, services_of, unbuilt_attribute, unbuilt_top}
 use Rattle.service_attrs.specs.declared.Service.{Service}
 use Rattle.plain_services.specs.declared.unbuilt.Level.{Level}
 use Rattle.plain_services.specs.declared.refusal.PlainRefusal.{PlainRefusal}
@@ -17,7 +17,3 @@ unbuilt_at Level.Service = unbuilt_attribute
 -- the services of entries, of which there are at most 1,000
 abbrev pub services_of_few : Entries → Result (List Service) PlainRefusal
 services_of_few entries = few entries >>= λ services. services_of (in_byte_order services)
-
--- the services of what stands under their key
-abbrev pub services_found : Option (Tree-F Tree) → Result (List Service) PlainRefusal
-services_found found = services_under found >>= few >>= λ services. services_of (in_byte_order services)

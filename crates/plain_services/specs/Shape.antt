@@ -12,7 +12,6 @@ use Rattle.plain_services.specs.Marks.{below, counted, first_of, mark_in}
 use Rattle.service_attrs.specs.declared.Service.{Service}
 use Rattle.plain_services.specs.declared.refusal.PlainRefusal.{PlainRefusal}
 use Rattle.plain_services.specs.declared.refusal.ProjectRefusal.{ProjectRefusal}
-use Rattle.plain_services.specs.declared.refusal.Unbuilt.{Unbuilt}
 use Rattle.tree_base.specs.ByteOrder.{by_key}
 
 -- the entries of a mapping
@@ -25,16 +24,18 @@ in_byte_order = by_key (λ entry. entry.0)
 
 -- what stands at a path isn't built
 abbrev pub not_built : {X : Type 0} → List Step → Result X PlainRefusal
-not_built path = Err (PlainRefusal.NotBuilt (Unbuilt.Attribute path))
+not_built path = Err (PlainRefusal.NotBuilt path)
 
 -- what is given, unless something at a path isn't built
-abbrev pub unless_unbuilt : {X : Type 0} → Option (List Step) → Result X PlainRefusal → Result X PlainRefusal
+abbrev pub unless_unbuilt :
+    {X : Type 0} → Option (List Step) → Result X PlainRefusal → Result X PlainRefusal
 unless_unbuilt None given = given
 unless_unbuilt (Some path) given = not_built path
 
 -- the path to what isn't built in the first entry, in byte order, that has such
 abbrev pub first_entry : (List ℕ → Tree → Option (List Step)) → Entries → Option (List Step)
-first_entry unbuilt entries = first_of (map (λ entry. below (Key entry.0) (unbuilt entry.0 entry.1)) (in_byte_order entries))
+first_entry unbuilt entries =
+    first_of (map (λ entry. below (Key entry.0) (unbuilt entry.0 entry.1)) (in_byte_order entries))
 
 -- a key that extends a file, which is passed over (the Compose Specification, extensions)
 abbrev pub is_extension : List ℕ → Bool
@@ -53,17 +54,23 @@ is_none_scalar tree = false
 -- an attribute that is built: an image, and no network
 abbrev pub is_built : List ℕ → Tree → Bool
 is_built key value =
-    (bytes_eq key (codes "image") && is_scalar (out-Tree value)) || (bytes_eq key (codes "network_mode") && is_none_scalar (out-Tree value))
+    (bytes_eq key (codes "image") && is_scalar (out-Tree value))
+    || (bytes_eq key (codes "network_mode") && is_none_scalar (out-Tree value))
 
 -- what isn't built of an attribute: a mark in what is passed over, or the attribute itself
 abbrev pub unbuilt_attribute : List ℕ → Tree → Option (List Step)
-unbuilt_attribute key value = if is_extension key then mark_in value else (if is_built key value then None else Some [])
+unbuilt_attribute key value =
+    if is_extension key then mark_in value else (if is_built key value then None else Some [])
 
--- what isn't built of a top-level key, the services aside
+-- a top-level key that no service is read from: the name, which is read by itself, and what is passed over
+abbrev pub is_beside : List ℕ → Bool
+is_beside key = bytes_eq key (codes "name") || (bytes_eq key (codes "version") || is_extension key)
+
+-- what isn't built of a top-level key, the services aside: a mark beside them, or another key
 abbrev pub unbuilt_top : List ℕ → Tree → Option (List Step)
 unbuilt_top key value =
     if bytes_eq key (codes "services") then None
-    else (if bytes_eq key (codes "version") || is_extension key then mark_in value else Some [])
+    else (if is_beside key then mark_in value else Some [])
 
 -- the path to a service's own tree
 abbrev pub path_of_service : List ℕ → List Step
@@ -76,7 +83,8 @@ scalar_text tree = None
 
 -- the image that is among attributes
 abbrev pub image_of : Entries → Option (List ℕ)
-image_of attributes = option_and_then (λ value. scalar_text (out-Tree value)) (value_at attributes (codes "image"))
+image_of attributes =
+    option_and_then (λ value. scalar_text (out-Tree value)) (value_at attributes (codes "image"))
 
 -- a service with both attributes, or else its own path
 abbrev pub with_both : List ℕ → Option (List ℕ) → Bool → Result Service PlainRefusal
@@ -86,18 +94,25 @@ with_both name image mode = not_built (path_of_service name)
 -- the service of a tree under a name
 abbrev pub service_of : List ℕ → Tree-F Tree → Result Service PlainRefusal
 service_of name (Tree-F.Map attributes) =
-    unless_unbuilt (below (Key (codes "services")) (below (Key name) (first_entry unbuilt_attribute attributes)))
+    unless_unbuilt (below (Key (codes "services"))
+    (below (Key name) (first_entry unbuilt_attribute attributes)))
     (with_both name (image_of attributes) (is_some (value_at attributes (codes "network_mode"))))
 service_of name tree = not_built (path_of_service name)
 
 -- the services of entries in their order, or the first refusal
 abbrev pub services_of : Entries → Result (List Service) PlainRefusal
 services_of [] = Ok []
-services_of (entry ∷ entries) = service_of entry.0 (out-Tree entry.1) >>= λ service. services_of entries >>= λ services. Ok (service ∷ services)
+services_of (entry ∷ entries) =
+    service_of entry.0 (out-Tree entry.1) >>= λ service. services_of entries >>= λ services.
+    Ok (service ∷ services)
+
+-- there are so many services, and these are too many
+abbrev pub too_many : {X : Type 0} → ℕ → Result X PlainRefusal
+too_many count = Err (PlainRefusal.Project (ProjectRefusal.TooManyServices (counted count)))
 
 -- entries, at most 1,000
 abbrev pub few : Entries → Result Entries PlainRefusal
-few entries = if nat_lt 1000 (length entries) then Err (PlainRefusal.Project (ProjectRefusal.TooManyServices (counted (length entries)))) else Ok entries
+few entries = if nat_lt 1000 (length entries) then too_many (length entries) else Ok entries
 
 -- the entries under `services`: none where nothing or null stands there
 abbrev pub services_under : Option (Tree-F Tree) → Result Entries PlainRefusal
@@ -106,11 +121,16 @@ services_under (Some Tree-F.Null) = Ok []
 services_under (Some (Tree-F.Map entries)) = Ok entries
 services_under (Some tree) = not_built (Key (codes "services") ∷ [])
 
--- the services of a mapping's entries: first the other keys are asked, then the form of the services, then their number, then each of them
+-- the services of what stands under their key: first their form is asked, then their number, then each of them
+abbrev pub services_found : Option (Tree-F Tree) → Result (List Service) PlainRefusal
+services_found found =
+    services_under found >>= few >>= λ services. services_of (in_byte_order services)
+
+-- the services of a mapping's entries: first the other keys are asked
 abbrev pub services_of_file : Entries → Result (List Service) PlainRefusal
 services_of_file entries =
     unless_unbuilt (first_entry unbuilt_top entries)
-    (services_under (option_map out-Tree (value_at entries (codes "services"))) >>= few >>= λ services. services_of (in_byte_order services))
+    (services_found (option_map out-Tree (value_at entries (codes "services"))))
 
 -- the services of a tree, in byte order of their names; null has none
 abbrev pub services_from : Tree-F Tree → Result (List Service) PlainRefusal

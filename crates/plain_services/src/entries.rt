@@ -15,7 +15,8 @@ pub(crate) struct Entry<'a> {
 
 /// The entries of a mapping, in byte order of their keys.
 pub(crate) fn in_byte_order<'a>(alloc: Global, entries: &'a Map) -> Result<Vec<Entry<'a>>, Memory>
-    ensures { IfOk result (λ sorted. map (λ entry. (entry.key.now, entry.value.now)) sorted.items ≡ in_byte_order entries.now) }
+    ensures { IfOk result (λ sorted.
+        map (λ entry. (entry.key.now, entry.value.now)) sorted.items ≡ in_byte_order entries.now) }
 {
     let mut sorted = entries_of(alloc, entries)?;
     sorted.sort_by(|one, other| one.key.cmp(other.key))?;
@@ -24,7 +25,8 @@ pub(crate) fn in_byte_order<'a>(alloc: Global, entries: &'a Map) -> Result<Vec<E
 
 /// The entries of a mapping, in the mapping's order; their keys differ.
 fn entries_of<'a>(alloc: Global, entries: &'a Map) -> Result<Vec<Entry<'a>>, Memory>
-    ensures value { IfOk result (λ list. map (λ entry. (entry.key.now, entry.value.now)) list.items ≡ entries.now) }
+    ensures value { IfOk result (λ list.
+        map (λ entry. (entry.key.now, entry.value.now)) list.items ≡ entries.now) }
     ensures distinct { HasDistinctKeys entries.now }
 {
     let keys = entries.keys();

@@ -59,7 +59,9 @@ fn mark_up(tree: &Tree, alloc: Global) -> Result<Option<Path>, Memory>
 #[cycle(mark)]
 fn mark_in_values(values: &[Tree], keys: &[Text], alloc: Global) -> Result<Option<Path>, Memory>
     requires { length keys.now ≡ length values.now }
-    ensures { IfOk result (λ path. option_map reverse path ≡ first_of (map (λ entry. below (Key entry.0) (mark_in entry.1)) (zip keys.now values.now))) }
+    ensures { IfOk result (λ path. option_map reverse path
+        ≡ first_of (map (λ entry. below (Key entry.0) (mark_in entry.1))
+        (zip keys.now values.now))) }
 {
     for (at, value) in values.iter().enumerate() {
         if let Some(path) = mark_up(value, alloc)? {

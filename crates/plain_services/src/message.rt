@@ -1,35 +1,32 @@
 ghost use Rattle.std.specs.Prelude.{◌≡◌, ◌++◌, IfOk};
 ghost use Rattle.plain_services.specs.Messages.{load_words, project_words, refusal_words, unbuilt_words};
-ghost use Rattle.plain_services.specs.declared.refusal.LoadRefusal.{LoadRefusal};
+ghost use Rattle.plain_services.specs.Paths.{path_words};
 ghost use Rattle.plain_services.specs.declared.refusal.ProjectRefusal.{ProjectRefusal};
 
+use crate::load_message;
 use crate::path::path_words;
-use crate::refusal::{LoadRefusal, PlainRefusal, ProjectRefusal, Unbuilt};
+use crate::refusal::{PlainRefusal, ProjectRefusal};
+use include_extends::LoadRefusal;
 use std::alloc::Global;
-use tree_base::{Memory, Text};
-use yaml_lines::YamlRefusal;
+use tree_base::{Memory, Path, Text};
 
-/// What a refusal of loading says. Memory where there is no memory for it.
+/// What a refusal of a tree says. Memory where there is no memory for it.
 pub fn refusal_words(alloc: Global, refusal: &PlainRefusal) -> Result<Text, Memory>
     ensures { IfOk result (λ words. words ≡ refusal_words refusal.now) }
 {
     match refusal {
-        PlainRefusal::NotBuilt(unbuilt) => unbuilt_words(alloc, unbuilt),
-        PlainRefusal::Load(refusal) => load_words(alloc, refusal),
+        PlainRefusal::NotBuilt { path } => unbuilt_words(alloc, path),
         PlainRefusal::Name(refusal) => project_words(alloc, refusal),
         PlainRefusal::Project(refusal) => project_words(alloc, refusal),
         PlainRefusal::Memory => Text::from_str(alloc, "memory"),
     }
 }
 
-/// What is said of something that isn't built. Memory where there is no memory for it.
-pub fn unbuilt_words(alloc: Global, unbuilt: &Unbuilt) -> Result<Text, Memory>
-    ensures { IfOk result (λ words. words ≡ unbuilt_words unbuilt.now) }
+/// What is said of what isn't built at a path. Memory where there is no memory for it.
+pub fn unbuilt_words(alloc: Global, path: &Path) -> Result<Text, Memory>
+    ensures { IfOk result (λ words. words ≡ unbuilt_words path.now) }
 {
-    match unbuilt {
-        Unbuilt::Words => Text::from_str(alloc, "not built: words"),
-        Unbuilt::Attribute { path } => after_text(alloc, &path_words(alloc, path)?, ": not built"),
-    }
+    behind_path(alloc, path, ": not built")
 }
 
 /// What is said of a file that isn't loaded. Memory where there is no memory for it.
@@ -37,25 +34,16 @@ pub fn load_words(alloc: Global, refusal: &LoadRefusal) -> Result<Text, Memory>
     ensures { IfOk result (λ words. words ≡ load_words refusal.now) }
 {
     match refusal {
-        LoadRefusal::NotFound { path } => after_text(alloc, path, ": NotFound"),
-        LoadRefusal::ReadFault { path } => after_text(alloc, path, ": ReadFault"),
-        LoadRefusal::FileTooLarge { path } => after_text(alloc, path, ": FileTooLarge"),
-        LoadRefusal::Yaml { path, refusal } => yaml_words(alloc, path, refusal),
+        LoadRefusal::NotFound { path } => behind(alloc, path, ": NotFound"),
+        LoadRefusal::ReadFault { path } => behind(alloc, path, ": ReadFault"),
+        LoadRefusal::FileTooLarge { path } => behind(alloc, path, ": FileTooLarge"),
+        LoadRefusal::TooManyFiles { path } => behind(alloc, path, ": TooManyFiles"),
+        LoadRefusal::NoHome { path } => behind(alloc, path, ": NoHome"),
+        LoadRefusal::Yaml { path, cause } => load_message::yaml_words(alloc, path, cause),
+        LoadRefusal::EnvFile { path, cause } => load_message::env_words(alloc, path, cause),
+        LoadRefusal::Subst { path, cause } => load_message::tree_words(alloc, path, cause),
+        LoadRefusal::Memory => Text::from_str(alloc, "memory"),
     }
-}
-
-fn yaml_words(alloc: Global, path: &Text, refusal: &YamlRefusal) -> Result<Text, Memory>
-    ensures { IfOk result (λ words. words ≡ load_words (LoadRefusal.Yaml path.now refusal.now)) }
-{
-    let words = format!(in alloc; "{path}:{refusal}")?;
-    Ok(Text::from_string(words))
-}
-
-fn after_text(alloc: Global, text: &Text, words: &str) -> Result<Text, Memory>
-    ensures { IfOk result (λ all. all ≡ text.now ++ words.now) }
-{
-    let all = format!(in alloc; "{text}{words}")?;
-    Ok(Text::from_string(all))
 }
 
 /// What is said of a project that is wrong. Memory where there is no memory for it.
@@ -63,6 +51,7 @@ pub fn project_words(alloc: Global, refusal: &ProjectRefusal) -> Result<Text, Me
     ensures { IfOk result (λ words. words ≡ project_words refusal.now) }
 {
     match refusal {
+        ProjectRefusal::BadShape { path } => behind_path(alloc, path, ": BadShape"),
         ProjectRefusal::BadName { name } => name_words(alloc, name),
         ProjectRefusal::TooManyServices { count } => services_words(alloc, *count),
     }
@@ -80,4 +69,20 @@ fn services_words(alloc: Global, count: u32) -> Result<Text, Memory>
 {
     let words = format!(in alloc; "TooManyServices: {count}")?;
     Ok(Text::from_string(words))
+}
+
+/// Words behind a path of a tree, as it is printed.
+fn behind_path(alloc: Global, path: &Path, words: &str) -> Result<Text, Memory>
+    ensures { IfOk result (λ all. all ≡ path_words path.now ++ words.now) }
+{
+    let path = path_words(alloc, path)?;
+    behind(alloc, &path, words)
+}
+
+/// Words behind a text.
+pub(crate) fn behind(alloc: Global, text: &Text, words: &str) -> Result<Text, Memory>
+    ensures { IfOk result (λ all. all ≡ text.now ++ words.now) }
+{
+    let all = format!(in alloc; "{text}{words}")?;
+    Ok(Text::from_string(all))
 }

@@ -34,7 +34,8 @@ fn service_with(alloc: Global, name: &Text, attributes: &Map) -> Result<Service,
 }
 
 fn with_both(alloc: Global, name: &Text, attributes: &Map) -> Result<Service, PlainRefusal>
-    ensures { Gives result (with_both name.now (image_of attributes.now) (is_some (value_at attributes.now (codes "network_mode")))) }
+    ensures { Gives result (with_both name.now (image_of attributes.now)
+        (is_some (value_at attributes.now (codes "network_mode")))) }
 {
     match image_beside_mode(alloc, attributes) {
         Ok(Some(image)) => plain_service(alloc, name, image),
@@ -45,7 +46,9 @@ fn with_both(alloc: Global, name: &Text, attributes: &Map) -> Result<Service, Pl
 
 /// The image among attributes, where `network_mode` is there too.
 fn image_beside_mode<'a>(alloc: Global, attributes: &'a Map) -> Result<Option<&'a Text>, Memory>
-    ensures { IfOk result (λ image. option_copied image ≡ (if is_some (value_at attributes.now (codes "network_mode")) then image_of attributes.now else None)) }
+    ensures { IfOk result (λ image. option_copied image
+        ≡ (if is_some (value_at attributes.now (codes "network_mode"))
+        then image_of attributes.now else None)) }
 {
     if value_under(alloc, attributes, "network_mode")?.is_none() {
         return Ok(None);

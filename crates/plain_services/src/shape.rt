@@ -1,15 +1,11 @@
-ghost use Rattle.std.specs.Prelude.{◌≡◌, Err, IfOk, map, codes};
+ghost use Rattle.std.specs.Prelude.{◌≡◌, IfOk, map, codes};
 ghost use Rattle.std.specs.Option.{option_map};
 ghost use Rattle.tree_base.specs.Entries.{value_at};
 ghost use Rattle.tree_base.specs.declared.Tree.{out-Tree};
 ghost use Rattle.plain_services.specs.Answers.{Gives};
-ghost use Rattle.plain_services.specs.Loading.{LoadsAs};
 ghost use Rattle.service_attrs.specs.Projects.{IsInOrder};
-ghost use Rattle.plain_services.specs.Parts.{services_found, services_of_few};
-ghost use Rattle.plain_services.specs.Shape.{services_in, services_of, services_of_file};
-ghost use Rattle.plain_services.specs.declared.refusal.PlainRefusal.{PlainRefusal};
-ghost use Rattle.plain_services.specs.declared.refusal.LoadRefusal.{LoadRefusal};
-ghost use Rattle.plain_services.specs.declared.refusal.Unbuilt.{Unbuilt};
+ghost use Rattle.plain_services.specs.Parts.{services_of_few};
+ghost use Rattle.plain_services.specs.Shape.{services_found, services_in, services_of, services_of_file};
 
 use crate::entries::{Entry, in_byte_order, value_under};
 use crate::marks::counted;
@@ -24,13 +20,11 @@ use tree_base::{List, Map, Memory, Tree};
 const MOST_SERVICES: usize = 1_000;
 
 /// The services of a tree, in byte order of their names. Refuses, in this order: a tree that is neither null nor a
-/// mapping, another top-level key than `services`, `version` and those that begin with `x-`, `services` of another form,
-/// more than 1,000 of them, and what is no service with an image and no network.
+/// mapping, another top-level key than `services`, `name`, `version` and those that begin with `x-`, `services` of
+/// another form, more than 1,000 of them, and what is no service with an image and no network.
 pub(crate) fn services_in(alloc: Global, tree: &Tree) -> Result<List<Service>, PlainRefusal>
-    ensures told { LoadsAs (services_in tree.now) result }
+    ensures told { Gives result (services_in tree.now) }
     ensures order { IfOk result IsInOrder }
-    ensures words { result ≡ Err (PlainRefusal.NotBuilt Unbuilt.Words) → ⊥ }
-    ensures read { (path : _) → result ≡ Err (PlainRefusal.Load (LoadRefusal.ReadFault path)) → ⊥ }
 {
     match tree {
         Tree::Null => Ok(List::new(alloc)),
@@ -53,7 +47,8 @@ fn services_of_file(alloc: Global, entries: &Map) -> Result<List<Service>, Plain
 
 /// The services under their key.
 fn services_under(alloc: Global, entries: &Map) -> Result<List<Service>, PlainRefusal>
-    ensures told { Gives result (services_found (option_map out-Tree (value_at entries.now (codes "services")))) }
+    ensures told { Gives result (services_found
+        (option_map out-Tree (value_at entries.now (codes "services")))) }
     ensures order { IfOk result IsInOrder }
 {
     match value_under(alloc, entries, "services") {
@@ -83,7 +78,8 @@ fn few_services(alloc: Global, services: &Map) -> Result<List<Service>, PlainRef
 
 /// The services of entries, in their order.
 fn services_of(alloc: Global, entries: &[Entry]) -> Result<List<Service>, PlainRefusal>
-    ensures { Gives result (services_of (map (λ entry. (entry.key.now, entry.value.now)) entries.now)) }
+    ensures { Gives result (services_of
+        (map (λ entry. (entry.key.now, entry.value.now)) entries.now)) }
 {
     let mut services = List::new(alloc);
     for entry in entries {

@@ -1,44 +1,37 @@
 ghost use Rattle.std.specs.Prelude.{◌≡◌};
-ghost use Rattle.plain_services.specs.Statuses.{load_status, project_status, refusal_status, unbuilt_status, yaml_status};
+ghost use Rattle.plain_services.specs.Statuses.{env_status, load_status, project_status, refusal_status, tree_status, yaml_status};
 
-use crate::refusal::{LoadRefusal, PlainRefusal, ProjectRefusal, Unbuilt};
+use crate::refusal::{PlainRefusal, ProjectRefusal};
+use dotenv::EnvRefusal;
+use include_extends::LoadRefusal;
+use interpolate::SubstTreeRefusal;
 use yaml_lines::YamlRefusal;
 
-/// The exit status of a refusal of loading. No memory.
+/// The exit status of a refusal of a tree: 2 where it isn't built. No memory.
 pub fn refusal_status(refusal: &PlainRefusal) -> u8
     ensures { result ≡ refusal_status refusal.now }
 {
     match refusal {
-        PlainRefusal::NotBuilt(unbuilt) => unbuilt_status(unbuilt),
-        PlainRefusal::Load(refusal) => load_status(refusal),
+        PlainRefusal::NotBuilt { .. } => 2,
         PlainRefusal::Name(refusal) => project_status(refusal),
         PlainRefusal::Project(refusal) => project_status(refusal),
         PlainRefusal::Memory => 9,
     }
 }
 
-/// The exit status where something isn't built: 1 for words, 2 for an attribute. No memory.
-pub fn unbuilt_status(unbuilt: &Unbuilt) -> u8
-    ensures { result ≡ unbuilt_status unbuilt.now }
-{
-    match unbuilt {
-        Unbuilt::Words => 1,
-        Unbuilt::Attribute { .. } => 2,
-    }
-}
-
-/// The exit status where a project is wrong: 2 for its name, 8 for a limit. No memory.
+/// The exit status where a project is wrong: 2 for its shape or its name, 8 for a limit. No memory.
 pub fn project_status(refusal: &ProjectRefusal) -> u8
     ensures { result ≡ project_status refusal.now }
 {
     match refusal {
+        ProjectRefusal::BadShape { .. } => 2,
         ProjectRefusal::BadName { .. } => 2,
         ProjectRefusal::TooManyServices { .. } => 8,
     }
 }
 
-/// The exit status where a file isn't loaded: 2 where it is missing or no YAML, 7 for a fault, 8 for a limit, 9 where its
-/// reader wanted memory. No memory.
+/// The exit status where a file isn't loaded: 2 where it is missing, isn't read, or has a scalar without a value, and
+/// where the home isn't known; 7 for a fault, 8 for a limit, 9 for memory. No memory.
 pub fn load_status(refusal: &LoadRefusal) -> u8
     ensures { result ≡ load_status refusal.now }
 {
@@ -46,7 +39,12 @@ pub fn load_status(refusal: &LoadRefusal) -> u8
         LoadRefusal::NotFound { .. } => 2,
         LoadRefusal::ReadFault { .. } => 7,
         LoadRefusal::FileTooLarge { .. } => 8,
-        LoadRefusal::Yaml { refusal, .. } => yaml_status(refusal),
+        LoadRefusal::TooManyFiles { .. } => 8,
+        LoadRefusal::NoHome { .. } => 2,
+        LoadRefusal::Yaml { cause, .. } => yaml_status(cause),
+        LoadRefusal::EnvFile { cause, .. } => env_status(cause),
+        LoadRefusal::Subst { cause, .. } => tree_status(cause),
+        LoadRefusal::Memory => 9,
     }
 }
 
@@ -59,5 +57,26 @@ fn yaml_status(refusal: &YamlRefusal) -> u8
         YamlRefusal::TooManyNodes { .. } => 8,
         YamlRefusal::TooMuchText { .. } => 8,
         YamlRefusal::Memory => 9,
+    }
+}
+
+fn env_status(refusal: &EnvRefusal) -> u8
+    ensures { result ≡ env_status refusal.now }
+{
+    match refusal {
+        EnvRefusal::BadLine { .. } => 2,
+        EnvRefusal::BadQuote { .. } => 2,
+        EnvRefusal::Subst { .. } => 2,
+        EnvRefusal::Memory => 9,
+    }
+}
+
+fn tree_status(refusal: &SubstTreeRefusal) -> u8
+    ensures { result ≡ tree_status refusal.now }
+{
+    match refusal {
+        SubstTreeRefusal::At { .. } => 2,
+        SubstTreeRefusal::TooMuchText => 8,
+        SubstTreeRefusal::Memory => 9,
     }
 }

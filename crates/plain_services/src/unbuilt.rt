@@ -3,13 +3,12 @@ ghost use Rattle.tree_base.specs.declared.Step.TheVariants.{Key};
 ghost use Rattle.tree_base.specs.declared.Tree.{out-Tree};
 ghost use Rattle.plain_services.specs.Parts.{unbuilt_at};
 ghost use Rattle.plain_services.specs.Marks.{below};
-ghost use Rattle.plain_services.specs.Shape.{first_entry, is_built, is_extension, is_none_scalar, is_scalar, unbuilt_attribute, unbuilt_top};
+ghost use Rattle.plain_services.specs.Shape.{first_entry, is_beside, is_built, is_extension, is_none_scalar, is_scalar, unbuilt_attribute, unbuilt_top};
 ghost use Rattle.plain_services.specs.declared.refusal.PlainRefusal.{PlainRefusal};
-ghost use Rattle.plain_services.specs.declared.refusal.Unbuilt.{Unbuilt};
 
 use crate::entries::{Entry, in_byte_order};
 use crate::marks::mark_in;
-use crate::refusal::{PlainRefusal, Unbuilt};
+use crate::refusal::PlainRefusal;
 use std::alloc::Global;
 use tree_base::{List, Map, Memory, Path, Step, Text, Tree};
 
@@ -38,7 +37,8 @@ pub(crate) fn first_unbuilt(
 }
 
 fn unbuilt_entry(alloc: Global, entry: &Entry, level: Level) -> Result<Option<Path>, Memory>
-    ensures { IfOk result (λ path. path ≡ below (Key entry.now.key.now) (unbuilt_at level entry.now.key.now entry.now.value.now)) }
+    ensures { IfOk result (λ path. path
+        ≡ below (Key entry.now.key.now) (unbuilt_at level entry.now.key.now entry.now.value.now)) }
 {
     match unbuilt_at(alloc, entry.key, entry.value, level)? {
         Some(path) => Ok(Some(below_key(alloc, entry.key.as_str(), path)?)),
@@ -55,17 +55,24 @@ fn unbuilt_at(alloc: Global, key: &Text, value: &Tree, level: Level) -> Result<O
     }
 }
 
-/// What isn't built of a top-level key, the services aside: a mark in what is passed over, or the key itself.
+/// What isn't built of a top-level key, the services aside: a mark beside them, or the key itself.
 fn unbuilt_top(alloc: Global, key: &Text, value: &Tree) -> Result<Option<Path>, Memory>
     ensures { IfOk result (λ path. path ≡ unbuilt_top key.now value.now) }
 {
     if key.as_str() == "services" {
         Ok(None)
-    } else if key.as_str() == "version" || is_extension(key) {
+    } else if is_beside(key) {
         mark_in(alloc, value)
     } else {
         Ok(Some(List::new(alloc)))
     }
+}
+
+/// A top-level key that no service is read from: the name, and what is passed over.
+fn is_beside(key: &Text) -> bool
+    ensures { result ≡ is_beside key.now }
+{
+    key.as_str() == "name" || key.as_str() == "version" || is_extension(key)
 }
 
 /// What isn't built of a service's attribute: a mark in what is passed over, or the attribute itself.
@@ -123,10 +130,11 @@ pub(crate) fn below_key(alloc: Global, key: &str, path: Path) -> Result<Path, Me
 
 /// The refusal of what stands at a path, which memory may be wanted for.
 pub(crate) fn refusal_at(path: Result<Path, Memory>) -> PlainRefusal
-    ensures { MatchResult path (λ path. result ≡ PlainRefusal.NotBuilt (Unbuilt.Attribute path)) (λ memory. result ≡ PlainRefusal.Memory) }
+    ensures { MatchResult path (λ path. result ≡ PlainRefusal.NotBuilt path)
+        (λ memory. result ≡ PlainRefusal.Memory) }
 {
     match path {
-        Ok(path) => PlainRefusal::NotBuilt(Unbuilt::Attribute { path }),
+        Ok(path) => PlainRefusal::NotBuilt { path },
         Err(Memory) => PlainRefusal::Memory,
     }
 }

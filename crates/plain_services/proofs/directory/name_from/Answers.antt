@@ -1,8 +1,8 @@
 use Rattle.std.proofs.Common.{◌≡◌, ◌∙◌, sym, arith, take, refl, ◌+◌}
 use Rattle.plain_services.specs.ProjectNames.{name_from}
 use Rattle.plain_services.proofs.Names.{name_from-more, further, further_yes, further_no}
-use Rattle.plain_services.proofs.project_name.name_from.Goals as goal
-use Rattle.plain_services.proofs.project_name.name_from.Goals.{then-goes_on+in_ok-push_ascii, else-goes_on}
+use Rattle.plain_services.proofs.directory.name_from.Goals as goal
+use Rattle.plain_services.proofs.directory.name_from.Goals.{then-goes_on+in_ok-push_ascii, else-goes_on}
 
 pub loop-byte-preserved : goal.loop-byte-preserved
 loop-byte-preserved c =
