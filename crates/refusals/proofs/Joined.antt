@@ -1,24 +1,25 @@
--- What a call is refused with tells the refusal of loading that it comes from.
+-- What a call is refused with tells the refusal of files that it comes from.
 use Rattle.std.proofs.Common.{◌≡◌, ◌∙◌, refl, sym, ap}
-use Rattle.plain_services.specs.declared.PlainRefusal.{PlainRefusal}
-use Rattle.refusals.specs.Origins.{loading_refusal}
+use Rattle.include_extends.specs.declared.LoadRefusal.{LoadRefusal}
+use Rattle.refusals.specs.Origins.{load_refusal}
 use Rattle.refusals.specs.declared.refusal.Refusal.{Refusal}
 
--- the refusal of loading that a call is refused with, where it is one
-abbrev of_loading : Refusal → PlainRefusal
-of_loading (Refusal.NotBuilt unbuilt) = PlainRefusal.NotBuilt unbuilt
-of_loading (Refusal.Load refusal) = PlainRefusal.Load refusal
-of_loading (Refusal.Name refusal) = PlainRefusal.Name refusal
-of_loading (Refusal.Project refusal) = PlainRefusal.Project refusal
-of_loading _ = PlainRefusal.Memory
+-- the refusal of files that a call is refused with, where it is one
+abbrev of_load : Refusal → LoadRefusal
+of_load (Refusal.Load refusal) = refusal
+of_load _ = LoadRefusal.Memory
 
-comes_back : (refusal : PlainRefusal) → of_loading (loading_refusal refusal) ≡ refusal
-comes_back (PlainRefusal.NotBuilt unbuilt) = refl
-comes_back (PlainRefusal.Load refusal) = refl
-comes_back (PlainRefusal.Name refusal) = refl
-comes_back (PlainRefusal.Project refusal) = refl
-comes_back PlainRefusal.Memory = refl
+comes_back : (refusal : LoadRefusal) → of_load (load_refusal refusal) ≡ refusal
+comes_back (LoadRefusal.NotFound path) = refl
+comes_back (LoadRefusal.ReadFault path) = refl
+comes_back (LoadRefusal.FileTooLarge path) = refl
+comes_back (LoadRefusal.TooManyFiles path) = refl
+comes_back (LoadRefusal.NoHome path) = refl
+comes_back (LoadRefusal.Yaml path cause) = refl
+comes_back (LoadRefusal.EnvFile path cause) = refl
+comes_back (LoadRefusal.Subst path cause) = refl
+comes_back LoadRefusal.Memory = refl
 
--- two refusals of loading that a call is refused with alike are the same
-pub one_loading : (first second : PlainRefusal) → loading_refusal first ≡ loading_refusal second → first ≡ second
-one_loading first second e = sym (comes_back first) ∙ ap of_loading e ∙ comes_back second
+-- two refusals of files that a call is refused with alike are the same
+pub one_load : (first second : LoadRefusal) → load_refusal first ≡ load_refusal second → first ≡ second
+one_load first second e = sym (comes_back first) ∙ ap of_load e ∙ comes_back second

@@ -3,25 +3,33 @@ use Rattle.std.specs.Prelude.{ℕ, List, ◌++◌, codes}
 use Rattle.compose_words.specs.Printed.{refusal_text}
 use Rattle.run_model.specs.Lines.{line, fault_words}
 use Rattle.engine_types.specs.declared.RunFault.{RunFault}
-use Rattle.plain_services.specs.Messages.{load_words, project_words, unbuilt_words}
+use Rattle.plain_services.specs.Messages as projects
 use Rattle.refusals.specs.declared.refusal.Part.{Part}
 use Rattle.refusals.specs.declared.refusal.Refusal.{Refusal}
+use Rattle.refusals.specs.declared.refusal.Unbuilt.{Unbuilt}
 
 -- the part of the outside that failed
 abbrev pub part_words : Part → List ℕ
 part_words Part.Out = codes "Out"
 part_words Part.Plug = codes "Plug"
 
+-- what isn't built: the words, a variable by its name, or what stands at a path
+abbrev pub unbuilt_words : Unbuilt → List ℕ
+unbuilt_words Unbuilt.Words = codes "not built: words"
+unbuilt_words (Unbuilt.Variable name) = codes "not built: " ++ name
+unbuilt_words (Unbuilt.Attribute path) = projects.unbuilt_words path
+
 -- what a refusal says
 abbrev pub refusal_words : Refusal → List ℕ
 refusal_words (Refusal.Words refusal) = refusal_text refusal
 refusal_words (Refusal.NotBuilt unbuilt) = unbuilt_words unbuilt
-refusal_words (Refusal.Load refusal) = load_words refusal
-refusal_words (Refusal.Name refusal) = project_words refusal
-refusal_words (Refusal.Project refusal) = project_words refusal
+refusal_words (Refusal.Load refusal) = projects.load_words refusal
+refusal_words (Refusal.Name refusal) = projects.project_words refusal
+refusal_words (Refusal.Project refusal) = projects.project_words refusal
 refusal_words (Refusal.Seen fault) = fault_words (RunFault.Seen fault)
 refusal_words (Refusal.Request request outcome) = fault_words (RunFault.Request request outcome)
-refusal_words (Refusal.Condition slot condition report) = fault_words (RunFault.Condition slot condition report)
+refusal_words (Refusal.Condition slot condition report) =
+    fault_words (RunFault.Condition slot condition report)
 refusal_words Refusal.Stopped = fault_words RunFault.Stopped
 refusal_words (Refusal.Late why) = fault_words (RunFault.Late why)
 refusal_words (Refusal.Outside part) = codes "fault: " ++ part_words part

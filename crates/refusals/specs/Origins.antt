@@ -2,10 +2,11 @@
 use Rattle.std.specs.Prelude.{Bool, true, false, Option, Some}
 use Rattle.compose_words.specs.declared.WordsRefusal.{WordsRefusal}
 use Rattle.engine_types.specs.declared.RunFault.{RunFault}
+use Rattle.include_extends.specs.declared.LoadRefusal.{LoadRefusal}
 use Rattle.plain_services.specs.declared.PlainRefusal.{PlainRefusal}
-use Rattle.plain_services.specs.declared.Unbuilt.{Unbuilt}
-use Rattle.refusals.specs.declared.refusal.Refusal.{Refusal}
 use Rattle.refusals.specs.declared.refusal.Part.{Part}
+use Rattle.refusals.specs.declared.refusal.Refusal.{Refusal}
+use Rattle.refusals.specs.declared.refusal.Unbuilt.{Unbuilt}
 
 -- a refusal of the words, of loading, of the project's name, or of what it declares
 abbrev pub IsOfLoading : Option Refusal → Type 0
@@ -47,13 +48,17 @@ abbrev pub words_refusal : WordsRefusal → Refusal
 words_refusal WordsRefusal.Memory = Refusal.Memory
 words_refusal refusal = Refusal.Words refusal
 
--- what a call is refused with where loading refuses so
-abbrev pub loading_refusal : PlainRefusal → Refusal
-loading_refusal (PlainRefusal.NotBuilt unbuilt) = Refusal.NotBuilt unbuilt
-loading_refusal (PlainRefusal.Load refusal) = Refusal.Load refusal
-loading_refusal (PlainRefusal.Name refusal) = Refusal.Name refusal
-loading_refusal (PlainRefusal.Project refusal) = Refusal.Project refusal
-loading_refusal PlainRefusal.Memory = Refusal.Memory
+-- what a call is refused with whose files aren't loaded
+abbrev pub load_refusal : LoadRefusal → Refusal
+load_refusal LoadRefusal.Memory = Refusal.Memory
+load_refusal refusal = Refusal.Load refusal
+
+-- what a call is refused with whose tree gives no project
+abbrev pub project_refusal : PlainRefusal → Refusal
+project_refusal (PlainRefusal.NotBuilt path) = Refusal.NotBuilt (Unbuilt.Attribute path)
+project_refusal (PlainRefusal.Name refusal) = Refusal.Name refusal
+project_refusal (PlainRefusal.Project refusal) = Refusal.Project refusal
+project_refusal PlainRefusal.Memory = Refusal.Memory
 
 -- what a call is refused with where its run is refused so
 abbrev pub run_refusal : RunFault → Refusal

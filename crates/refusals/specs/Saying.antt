@@ -12,7 +12,8 @@ IsSaid refusal found = found ≡ Some refusal
 -- the line of the refusal was said, and nothing where there is none
 abbrev pub SaysRefusal : Option Refusal → Option (List ℕ) → Option (List ℕ) → ℕ → ℕ → Type 0
 SaysRefusal None old new faults_old faults_new = new ≡ old
-SaysRefusal (Some refusal) old new faults_old faults_new = Says (refusal_line refusal) old new faults_old faults_new
+SaysRefusal (Some refusal) old new faults_old faults_new =
+    Says (refusal_line refusal) old new faults_old faults_new
 
 -- the same of a refusal, if any
 abbrev pub IsSaidIfAny : Option Refusal → Option Refusal → Type 0

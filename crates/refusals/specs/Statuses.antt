@@ -2,16 +2,23 @@
 use Rattle.std.specs.Prelude.{ℕ, Option, Some, None}
 use Rattle.compose_words.specs.declared.WordsRefusal.{WordsRefusal}
 use Rattle.run_model.specs.Ending.{seen_status, outcome_status}
-use Rattle.plain_services.specs.Statuses.{load_status, project_status, unbuilt_status}
+use Rattle.plain_services.specs.Statuses.{load_status, project_status}
 use Rattle.refusals.specs.declared.refusal.Refusal.{Refusal}
+use Rattle.refusals.specs.declared.refusal.Unbuilt.{Unbuilt}
 
 -- words that are none have status 1, and a want of memory while they are read has 9
 abbrev pub words_status : WordsRefusal → ℕ
 words_status WordsRefusal.Memory = 9
 words_status _ = 1
 
--- 1 for words, 2 for a project that isn't one, 3 where the Engine refused, 4 where a condition failed, 5 where the run was
--- stopped, 6 where it was late, 7 for a fault outside, 8 for a limit, 9 for memory
+-- words that aren't built have status 1, and what a file says has 2
+abbrev pub unbuilt_status : Unbuilt → ℕ
+unbuilt_status Unbuilt.Words = 1
+unbuilt_status (Unbuilt.Variable name) = 2
+unbuilt_status (Unbuilt.Attribute path) = 2
+
+-- 1 for words, 2 for a project that isn't one, 3 where the Engine refused, 4 where a condition failed, 5 where the
+-- run was stopped, 6 where it was late, 7 for a fault outside, 8 for a limit, 9 for memory
 abbrev pub refusal_status : Refusal → ℕ
 refusal_status (Refusal.Words refusal) = words_status refusal
 refusal_status (Refusal.NotBuilt unbuilt) = unbuilt_status unbuilt

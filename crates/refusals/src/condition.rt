@@ -14,7 +14,8 @@ pub(crate) fn failed_words(
     condition: Condition,
     report: &Report,
 ) -> Result<Text, Memory>
-    ensures { IfOk result (λ words. words ≡ fault_words (RunFault.Condition slot.now condition report.now)) }
+    ensures { IfOk result (λ words.
+        words ≡ fault_words (RunFault.Condition slot.now condition report.now)) }
 {
     let words = shown_words(alloc, slot, condition, report)?;
     before_text(alloc, "condition failed: ", &words)
@@ -26,7 +27,9 @@ fn shown_words(
     condition: Condition,
     report: &Report,
 ) -> Result<Text, Memory>
-    ensures { IfOk result (λ words. words ≡ slot.now ++ codes " " ++ condition_words condition ++ codes " " ++ report_words report.now) }
+    ensures { IfOk result (λ words. words
+        ≡ slot.now ++ codes " " ++ condition_words condition
+        ++ codes " " ++ report_words report.now) }
 {
     let condition = condition_words(condition);
     let report = report_words(alloc, report)?;

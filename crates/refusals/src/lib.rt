@@ -1,14 +1,14 @@
-//! Why a call of `compose` ended otherwise than well, with the exit status and the line of each reason: how words are refused,
-//! what loading refuses, what a run is refused with, and the faults of the outside.
+//! Why a call of `compose` ended otherwise than well, with the exit status and the line of each reason: how words are
+//! refused, what loading refuses, what a run is refused with, and the faults of the outside.
 //!
-//! Contracts say the status and the line of every refusal exactly, and what a sink grew by that a line was said to: the
-//! whole line, or a prefix of it where the sink's count of faults rose. A refusal whose line finds no memory is said as a
-//! want of memory.
+//! Contracts say the status and the line of every refusal exactly, and what a sink grew by that a line was said to:
+//! the whole line, or a prefix of it where the sink's count of faults rose. A refusal whose line finds no memory is
+//! said as a want of memory.
 #![tactic(auto)]
 
 mod condition;
 mod line;
-mod load_refusal;
+mod loading_refusals;
 mod refusal;
 mod run_refusal;
 mod saying;
@@ -16,9 +16,10 @@ mod status;
 mod words_refusal;
 
 pub use compose_words::WordsRefusal;
+pub use include_extends::LoadRefusal;
 pub use line::refusal_line;
-pub use plain_services::{LoadRefusal, ProjectRefusal, Unbuilt};
-pub use refusal::{Part, Refusal};
+pub use plain_services::ProjectRefusal;
+pub use refusal::{Part, Refusal, Unbuilt};
 pub use run_refusal::refusal_of;
 pub use saying::{say, say_if_any};
 pub use status::{refusal_status, status_of};

@@ -3,13 +3,13 @@ ghost use Rattle.run_model.specs.Lines.{request_words, cause_words, kind_words, 
 ghost use Rattle.engine_types.specs.declared.Outcome.{Outcome};
 ghost use Rattle.engine_types.specs.declared.SeenFault.{SeenFault};
 ghost use Rattle.refusals.specs.declared.refusal.Refusal.{Refusal};
-ghost use Rattle.refusals.specs.Lines.{refusal_line, refusal_words};
+ghost use Rattle.refusals.specs.Lines.{refusal_line, refusal_words, unbuilt_words};
 
 use crate::condition::failed_words;
-use crate::refusal::{Part, Refusal};
+use crate::refusal::{Part, Refusal, Unbuilt};
 use compose_words::WordsRefusal;
 use engine_types::{Kind, Outcome, Reply, Request, SeenFault, WireEnd};
-use plain_services::{load_words, project_words, unbuilt_words};
+use plain_services::{load_words, project_words};
 use std::alloc::Global;
 use tree_base::{Memory, Text};
 
@@ -50,6 +50,16 @@ fn words_words(alloc: Global, refusal: &WordsRefusal) -> Result<Text, Memory>
 {
     let words = format!(in alloc; "{refusal}")?;
     Ok(Text::from_string(words))
+}
+
+fn unbuilt_words(alloc: Global, unbuilt: &Unbuilt) -> Result<Text, Memory>
+    ensures { IfOk result (λ words. words ≡ unbuilt_words unbuilt.now) }
+{
+    match unbuilt {
+        Unbuilt::Words => Text::from_str(alloc, "not built: words"),
+        Unbuilt::Variable { name } => before_text(alloc, "not built: ", name),
+        Unbuilt::Attribute { path } => plain_services::unbuilt_words(alloc, path),
+    }
 }
 
 pub(crate) fn before_text(alloc: Global, words: &str, text: &Text) -> Result<Text, Memory>
@@ -94,14 +104,16 @@ fn seen_words(alloc: Global, fault: &SeenFault) -> Result<Text, Memory>
 }
 
 fn pull_words(alloc: Global, image: &Text, message: &Text) -> Result<Text, Memory>
-    ensures { IfOk result (λ words. words ≡ seen_words (SeenFault.PullFailed image.now message.now)) }
+    ensures { IfOk result (λ words.
+        words ≡ seen_words (SeenFault.PullFailed image.now message.now)) }
 {
     let words = format!(in alloc; "pull {image}: {message}")?;
     Ok(Text::from_string(words))
 }
 
 fn twice_words(alloc: Global, name: &Text, first: &Text, second: &Text) -> Result<Text, Memory>
-    ensures { IfOk result (λ words. words ≡ seen_words (SeenFault.NetworkTwice name.now first.now second.now)) }
+    ensures { IfOk result (λ words.
+        words ≡ seen_words (SeenFault.NetworkTwice name.now first.now second.now)) }
 {
     let words = format!(in alloc; "network {name} is there twice: {first} {second}")?;
     Ok(Text::from_string(words))
@@ -173,7 +185,8 @@ fn outcome_words(alloc: Global, request: &Request, outcome: &Outcome) -> Result<
 }
 
 fn reply_words(alloc: Global, request: &Request, reply: &Reply) -> Result<Text, Memory>
-    ensures { IfOk result (λ words. words ≡ outcome_words request.now (Outcome.Answered reply.now)) }
+    ensures { IfOk result (λ words.
+        words ≡ outcome_words request.now (Outcome.Answered reply.now)) }
 {
     match reply {
         Reply::Refused { status, message } => {

@@ -1,7 +1,8 @@
 use compose_words::WordsRefusal;
 use engine_types::{Condition, LateWhy, Outcome, Report, Request, SeenFault};
-use plain_services::{LoadRefusal, ProjectRefusal, Unbuilt};
-use tree_base::Text;
+use include_extends::LoadRefusal;
+use plain_services::ProjectRefusal;
+use tree_base::{Path, Text};
 
 /// Why a call ended otherwise than well. Each has its exit status and the line that it prints.
 #[derive(Drop)]
@@ -37,6 +38,17 @@ pub enum Refusal {
     Outside(Part),
     /// Memory was wanted.
     Memory,
+}
+
+/// What is not built yet.
+#[derive(Drop)]
+pub enum Unbuilt {
+    /// The words of the command line, or a variable of the caller's that speaks for words.
+    Words,
+    /// Such a variable, where an env file sets it.
+    Variable { name: Text },
+    /// What stands at a path of the project's tree.
+    Attribute { path: Path },
 }
 
 /// The parts of the outside whose faults end a call.

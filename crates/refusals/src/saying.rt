@@ -11,7 +11,8 @@ use std::alloc::Global;
 /// Writes the line of a refusal. Where there is no memory for the line, the refusal is Memory.
 pub fn say<G: Sink>(alloc: Global, refusal: Refusal, err: &mut G) -> Refusal
     ensures refusal { IsSaid refusal (Some result) }
-    ensures line { Says (refusal_line result) (G.written err.old) (G.written err.new) (G.faults err.old) (G.faults err.new) }
+    ensures line { Says (refusal_line result) (G.written err.old) (G.written err.new)
+        (G.faults err.old) (G.faults err.new) }
 {
     match refusal_line(alloc, &refusal) {
         Ok(line) => {
@@ -30,7 +31,8 @@ pub fn say<G: Sink>(alloc: Global, refusal: Refusal, err: &mut G) -> Refusal
 /// Writes the line of a refusal, where there is one.
 pub fn say_if_any<G: Sink>(alloc: Global, refusal: Option<Refusal>, err: &mut G) -> Option<Refusal>
     ensures refusal { IsSaidIfAny refusal result }
-    ensures line { SaysRefusal result (G.written err.old) (G.written err.new) (G.faults err.old) (G.faults err.new) }
+    ensures line { SaysRefusal result (G.written err.old) (G.written err.new)
+        (G.faults err.old) (G.faults err.new) }
 {
     match refusal {
         Some(refusal) => Some(say(alloc, refusal, err)),

@@ -1,11 +1,11 @@
 ghost use Rattle.std.specs.Prelude.{◌≡◌};
 ghost use Rattle.run_model.specs.Ending.{lost_status, seen_status, outcome_status};
-ghost use Rattle.refusals.specs.Statuses.{refusal_status, status_of, words_status};
+ghost use Rattle.refusals.specs.Statuses.{refusal_status, status_of, unbuilt_status, words_status};
 
-use crate::refusal::Refusal;
+use crate::refusal::{Refusal, Unbuilt};
 use compose_words::WordsRefusal;
 use engine_types::{Outcome, SeenFault, WireEnd};
-use plain_services::{load_status, project_status, unbuilt_status};
+use plain_services::{load_status, project_status};
 
 /// The exit status of a call: 0 where nothing is refused.
 pub fn status_of(refusal: &Option<Refusal>) -> u8
@@ -43,6 +43,16 @@ fn words_status(refusal: WordsRefusal) -> u8
     match refusal {
         WordsRefusal::Memory => 9,
         _ => 1,
+    }
+}
+
+fn unbuilt_status(unbuilt: &Unbuilt) -> u8
+    ensures { result ≡ unbuilt_status unbuilt.now }
+{
+    match unbuilt {
+        Unbuilt::Words => 1,
+        Unbuilt::Variable { .. } => 2,
+        Unbuilt::Attribute { .. } => 2,
     }
 }
 
