@@ -1,21 +1,25 @@
--- What a call is asked, by its words and by what loading gave.
-use Rattle.std.proofs.Common.{◌≡◌, ◌≢◌, ◌∙◌, ℕ, Bool, true, false, ◌||◌, List, Ok, Err, Some, None, refl, sym, ap, subst}
+-- What a call is asked, by its words and by what was loaded.
+use Rattle.std.proofs.Common.{◌≡◌, ◌∙◌, ◌⊎◌, ℕ, Bool, true, false, ◌||◌, List, Ok, Err, Some, None, inl, inr, refl, sym, ap, subst}
 use Rattle.std.specs.Prelude.{Option, Result, IfErr, IfOk, IfSome, IsTrue}
 use Rattle.asked_project.specs.Asking.{Variables, command_in, command_of, options_asked}
-use Rattle.asked_project.specs.Meaning.{IsFailedRead, MeansAs, loaded_or_refused, meaning}
-use Rattle.asked_project.specs.Parts.{LoadsFor}
+use Rattle.asked_project.specs.Meaning.{IsFailedLoad, IsLoaded, IsSpelled, MeansAs, load_for, loaded_or_refused, meaning, project_for, project_loaded}
+use Rattle.asked_project.specs.Parts.{IsOfProject, MeansFor, asked_with}
 use Rattle.asked_project.specs.declared.asking.Asked.{Asked}
 use Rattle.asked_project.proofs.Refusing.{words_no_memory}
 use Rattle.compose_words.specs.declared.Options.{Options}
+use Rattle.include_extends.proofs.Runs.{ran_told}
+use Rattle.include_extends.specs.Reads.{Load, Ran, loaded_from}
+use Rattle.include_extends.specs.Reads as reads
+use Rattle.include_extends.specs.declared.LoadRefusal.{LoadRefusal}
+use Rattle.include_extends.specs.declared.Loaded.{Loaded}
+use Rattle.outside_files.specs.Counts.{Rose}
 use Rattle.outside_files.specs.Files.{Contents}
-use Rattle.plain_services.specs.Loading.{LoadsAs, loaded}
-use Rattle.plain_services.specs.declared.LoadRefusal.{LoadRefusal}
-use Rattle.plain_services.specs.declared.PlainRefusal.{PlainRefusal}
-use Rattle.plain_services.specs.declared.Unbuilt.{Unbuilt}
-use Rattle.refusals.proofs.Joined.{one_loading}
-use Rattle.refusals.specs.Origins.{is_of_words, loading_refusal}
+use Rattle.refusals.proofs.Joined.{one_load}
+use Rattle.refusals.specs.Origins.{IsBeforeDial, is_of_words, load_refusal}
 use Rattle.refusals.specs.Refused.{is_failed_read, is_free, wants_memory}
 use Rattle.refusals.specs.declared.Refusal.{Refusal}
+use Rattle.refusals.specs.declared.Unbuilt.{Unbuilt}
+use Rattle.service_attrs.specs.Projects.{IsInOrder}
 use Rattle.service_attrs.specs.declared.Project.{Project}
 use Rattle.tree_base.specs.Answers.{◌>>=◌, Fails, Gives, Unless}
 
@@ -30,56 +34,171 @@ IfSome-all (Some x) P h = h x
 abbrev refusing : Refusal → Result Asked Refusal
 refusing refusal = Err refusal
 
--- what loading gave
-pub loads_project : (expected : Result Project PlainRefusal) (options : Options) (project : Project) → LoadsAs expected (Ok project) → LoadsFor expected (Ok (record { options = options; project = project }))
-loads_project expected options project h = sym (ap loaded_or_refused h)
+abbrev unloaded : LoadRefusal → Result Loaded LoadRefusal
+unloaded refusal = Err refusal
 
--- what loading refused
-pub loads_refused : (expected : Result Project PlainRefusal) (refusal : PlainRefusal) (joined : Refusal) → joined ≡ loading_refusal refusal → LoadsAs expected (Err refusal) → LoadsFor expected (Err joined)
-loads_refused expected refusal joined is h = subst (λ (r : Refusal). Unless (is_free r) (loaded_or_refused expected ≡ Err r)) (sym is) (at refusal h)
+-- what follows a refusal that may stand in the place of others
+unless_free : (refusal : Refusal) (A B : Type 0) → Unless (wants_memory refusal) A → (A → B) → Unless (is_free refusal) B
+unless_free refusal A B h k = at (wants_memory refusal) (is_failed_read refusal) h
   where
-    at : (refusal : PlainRefusal) → LoadsAs expected (Err refusal) → Unless (is_free (loading_refusal refusal)) (loaded_or_refused expected ≡ Err (loading_refusal refusal))
-    at (PlainRefusal.NotBuilt unbuilt) e = sym (ap loaded_or_refused e)
-    at (PlainRefusal.Load (LoadRefusal.NotFound path)) e = sym (ap loaded_or_refused e)
-    at (PlainRefusal.Load (LoadRefusal.ReadFault path)) e = tt
-    at (PlainRefusal.Load (LoadRefusal.FileTooLarge path)) e = sym (ap loaded_or_refused e)
-    at (PlainRefusal.Load (LoadRefusal.Yaml path refusal)) e = sym (ap loaded_or_refused e)
-    at (PlainRefusal.Name refusal) e = sym (ap loaded_or_refused e)
-    at (PlainRefusal.Project refusal) e = sym (ap loaded_or_refused e)
-    at PlainRefusal.Memory e = tt
+    at : (wants failed : Bool) → Unless wants A → Unless (wants || failed) B
+    at true failed h = tt
+    at false true h = tt
+    at false false h = k h
 
--- loading refuses no words
-pub loads_no_words : (refusal : PlainRefusal) (joined : Refusal) → joined ≡ loading_refusal refusal → (refusal ≡ PlainRefusal.NotBuilt Unbuilt.Words → ⊥) → IsTrue (is_of_words joined) → ⊥
-loads_no_words refusal joined is never h = at refusal never (subst (λ (r : Refusal). IsTrue (is_of_words r)) is h)
-  where
-    at : (refusal : PlainRefusal) → (refusal ≡ PlainRefusal.NotBuilt Unbuilt.Words → ⊥) → IsTrue (is_of_words (loading_refusal refusal)) → ⊥
-    at (PlainRefusal.NotBuilt Unbuilt.Words) never h = never refl
-    at (PlainRefusal.NotBuilt (Unbuilt.Attribute path)) never h = cc h
-    at (PlainRefusal.Load refusal) never h = cc h
-    at (PlainRefusal.Name refusal) never h = cc h
-    at (PlainRefusal.Project refusal) never h = cc h
-    at PlainRefusal.Memory never h = cc h
+-- a load that gave something, or was refused otherwise than for want of memory, ran so
+ran_loaded : (told : Option Contents) (load : Load Loaded) (loaded : Loaded) → reads.Gives told (Ok loaded) load → Ran told load (Ok loaded)
+ran_loaded told load loaded h = h (λ e. cc e)
 
--- a read that failed, by what loading says of it
-pub loads_read : (refusal : PlainRefusal) (joined : Refusal) (path : List ℕ) → joined ≡ loading_refusal refusal → joined ≡ Refusal.Load (LoadRefusal.ReadFault path) → refusal ≡ PlainRefusal.Load (LoadRefusal.ReadFault path)
-loads_read refusal joined path is e = one_loading refusal (PlainRefusal.Load (LoadRefusal.ReadFault path)) (sym is ∙ e)
+module _ (options : Options) (env : Variables) (cwd : List ℕ) where
+  abbrev load : Load Loaded
+  load = load_for options env cwd
 
-abbrev loaded_next : List ℕ → Contents → Result Options Refusal → Result Project Refusal
-loaded_next cwd files asked = asked >>= λ _. loaded_or_refused (loaded cwd files)
+  module _ (files : Contents) where
+    -- what was loaded means its project
+    loaded_means : (loaded : Loaded) → Ran (Some files) load (Ok loaded) → project_for options env cwd files ≡ project_loaded loaded
+    loaded_means loaded h = at (ran_told files load (Ok loaded) h)
+      where
+        at : (Ok loaded ≡ loaded_from files load) ⊎ ((path : List ℕ) × (Ok loaded ≡ Err (LoadRefusal.ReadFault path))) → project_for options env cwd files ≡ project_loaded loaded
+        at (inl e) = ap (λ (r : Result Loaded LoadRefusal). loaded_or_refused r >>= project_loaded) (sym e)
+        at (inr failed) = absurd (cc (failed.1))
+
+    as_asked : (meant project : Result Project Refusal) → Gives wants_memory project meant → MeansAs meant (asked_with options project)
+    as_asked meant (Ok project) h = h
+    as_asked meant (Err refusal) h = unless_free refusal (meant ≡ Err refusal) (meant ≡ Err refusal) h (λ e. e)
+
+    means_project : (loaded : Loaded) (project : Result Project Refusal) → reads.Gives (Some files) (Ok loaded) load → Gives wants_memory project (project_loaded loaded) → MeansFor options env cwd files (asked_with options project)
+    means_project loaded project h k =
+        subst (λ (meant : Result Project Refusal). MeansAs meant (asked_with options project)) (sym (loaded_means loaded (ran_loaded (Some files) load loaded h))) (as_asked (project_loaded loaded) project k)
+
+    -- a refusal of loading means what a call is refused with
+    refused_means : (refusal : LoadRefusal) → (refusal ≡ LoadRefusal.Memory → ⊥) → ((path : List ℕ) → refusal ≡ LoadRefusal.ReadFault path → ⊥) → reads.Gives (Some files) (unloaded refusal) load
+        → project_for options env cwd files ≡ Err (load_refusal refusal)
+    refused_means refusal wanted failed h =
+        at (ran_told files load (unloaded refusal) (h (λ e. let same : refusal ≡ LoadRefusal.Memory = cc e in wanted same)))
+      where
+        at : (unloaded refusal ≡ loaded_from files load) ⊎ ((path : List ℕ) × (unloaded refusal ≡ unloaded (LoadRefusal.ReadFault path))) → project_for options env cwd files ≡ Err (load_refusal refusal)
+        at (inl e) = ap (λ (r : Result Loaded LoadRefusal). loaded_or_refused r >>= project_loaded) (sym e)
+        at (inr found) = let same : refusal ≡ LoadRefusal.ReadFault found.0 = cc found.1 in absurd (failed found.0 same)
+
+    means_refusal : (refusal : LoadRefusal) → reads.Gives (Some files) (unloaded refusal) load → MeansFor options env cwd files (Err (load_refusal refusal))
+    means_refusal (LoadRefusal.NotFound path) h = refused_means (LoadRefusal.NotFound path) (λ e. cc e) (λ path e. cc e) h
+    means_refusal (LoadRefusal.ReadFault path) h = tt
+    means_refusal (LoadRefusal.FileTooLarge path) h = refused_means (LoadRefusal.FileTooLarge path) (λ e. cc e) (λ path e. cc e) h
+    means_refusal (LoadRefusal.TooManyFiles path) h = refused_means (LoadRefusal.TooManyFiles path) (λ e. cc e) (λ path e. cc e) h
+    means_refusal (LoadRefusal.NoHome path) h = refused_means (LoadRefusal.NoHome path) (λ e. cc e) (λ path e. cc e) h
+    means_refusal (LoadRefusal.Yaml path cause) h = refused_means (LoadRefusal.Yaml path cause) (λ e. cc e) (λ path e. cc e) h
+    means_refusal (LoadRefusal.EnvFile path cause) h = refused_means (LoadRefusal.EnvFile path cause) (λ e. cc e) (λ path e. cc e) h
+    means_refusal (LoadRefusal.Subst path cause) h = refused_means (LoadRefusal.Subst path cause) (λ e. cc e) (λ path e. cc e) h
+    means_refusal LoadRefusal.Memory h = tt
+
+  module _ (told : Option Contents) where
+    -- the same where files tell what they hold
+    pub loads_project : (loaded : Loaded) (project : Result Project Refusal) → reads.Gives told (Ok loaded) load → Gives wants_memory project (project_loaded loaded)
+        → IfSome told (λ contents. MeansFor options env cwd contents (asked_with options project))
+    loads_project loaded project h k = at told h
+      where
+        at : (told : Option Contents) → reads.Gives told (Ok loaded) load → IfSome told (λ contents. MeansFor options env cwd contents (asked_with options project))
+        at None h = tt
+        at (Some contents) h = means_project contents loaded project h k
+
+    pub loads_refused : (refusal : LoadRefusal) (joined : Refusal) → joined ≡ load_refusal refusal → reads.Gives told (unloaded refusal) load → IfSome told (λ contents. MeansFor options env cwd contents (Err joined))
+    loads_refused refusal joined is h = subst (λ (r : Refusal). IfSome told (λ contents. MeansFor options env cwd contents (Err r))) (sym is) (at told h)
+      where
+        at : (told : Option Contents) → reads.Gives told (unloaded refusal) load → IfSome told (λ contents. MeansFor options env cwd contents (Err (load_refusal refusal)))
+        at None h = tt
+        at (Some contents) h = means_refusal contents refusal h
+
+    -- a project that was loaded is one that some answers of reads give
+    pub is_loaded : (loaded : Loaded) (project : Result Project Refusal) → reads.Gives told (Ok loaded) load → Gives wants_memory project (project_loaded loaded)
+        → IfOk (asked_with options project) (λ asked. IsLoaded options env cwd told asked.project)
+    is_loaded loaded (Err refusal) h k = tt
+    is_loaded loaded (Ok project) h k = (loaded, ran_loaded told load loaded h, k)
+
+    -- a read that failed is one that the load comes to
+    pub loads_read : (refusal : LoadRefusal) (joined : Refusal) (path : List ℕ) (old new : ℕ) → joined ≡ load_refusal refusal → joined ≡ Refusal.Load (LoadRefusal.ReadFault path) → reads.Gives told (unloaded refusal) load
+        → ((at : List ℕ) → refusal ≡ LoadRefusal.ReadFault at → Rose old new) → IsFailedLoad options env cwd told old new path
+    loads_read refusal joined path old new is e h rose =
+        let same : refusal ≡ LoadRefusal.ReadFault path = one_load refusal (LoadRefusal.ReadFault path) (sym is ∙ e) in
+        let ran : Ran told load (unloaded refusal) = h (λ f. let wanted : refusal ≡ LoadRefusal.Memory = cc f in let bad : LoadRefusal.ReadFault path ≡ LoadRefusal.Memory = sym same ∙ wanted in cc bad) in
+        (subst (λ (r : LoadRefusal). Ran told load (unloaded r)) same ran, rose path same)
+
+-- a refusal of loading is none of words
+pub load_no_words : (refusal : LoadRefusal) → IsTrue (is_of_words (load_refusal refusal)) → ⊥
+load_no_words (LoadRefusal.NotFound path) h = cc h
+load_no_words (LoadRefusal.ReadFault path) h = cc h
+load_no_words (LoadRefusal.FileTooLarge path) h = cc h
+load_no_words (LoadRefusal.TooManyFiles path) h = cc h
+load_no_words (LoadRefusal.NoHome path) h = cc h
+load_no_words (LoadRefusal.Yaml path cause) h = cc h
+load_no_words (LoadRefusal.EnvFile path cause) h = cc h
+load_no_words (LoadRefusal.Subst path cause) h = cc h
+load_no_words LoadRefusal.Memory h = cc h
+
+-- what holds of refusals of a project
+project_no_words : (refusal : Refusal) → IsOfProject refusal → IsTrue (is_of_words refusal) → ⊥
+project_no_words (Refusal.NotBuilt Unbuilt.Words) k h = k
+project_no_words (Refusal.NotBuilt (Unbuilt.Variable name)) k h = cc h
+project_no_words (Refusal.NotBuilt (Unbuilt.Attribute path)) k h = cc h
+project_no_words (Refusal.Words words) k h = k
+project_no_words (Refusal.Load refusal) k h = k
+project_no_words (Refusal.Name name) k h = cc h
+project_no_words (Refusal.Project project) k h = cc h
+project_no_words (Refusal.Seen fault) k h = k
+project_no_words (Refusal.Request request outcome) k h = k
+project_no_words (Refusal.Condition slot condition report) k h = k
+project_no_words Refusal.Stopped k h = k
+project_no_words (Refusal.Late why) k h = k
+project_no_words (Refusal.Outside part) k h = k
+project_no_words Refusal.Memory k h = cc h
+
+project_before_dial : (refusal : Refusal) → IsOfProject refusal → IsBeforeDial refusal
+project_before_dial (Refusal.NotBuilt unbuilt) k = tt
+project_before_dial (Refusal.Words words) k = tt
+project_before_dial (Refusal.Load refusal) k = tt
+project_before_dial (Refusal.Name name) k = tt
+project_before_dial (Refusal.Project project) k = tt
+project_before_dial (Refusal.Seen fault) k = absurd k
+project_before_dial (Refusal.Request request outcome) k = absurd k
+project_before_dial (Refusal.Condition slot condition report) k = absurd k
+project_before_dial Refusal.Stopped k = absurd k
+project_before_dial (Refusal.Late why) k = absurd k
+project_before_dial (Refusal.Outside part) k = absurd k
+project_before_dial Refusal.Memory k = tt
+
+module _ (options : Options) where
+  -- how a project that was loaded, or its refusal, answers
+  pub with_order : (project : Result Project Refusal) → IfOk project (λ p. IsInOrder p.services) → IfOk (asked_with options project) (λ asked. IsInOrder asked.project.services)
+  with_order (Ok project) h = h
+  with_order (Err refusal) h = tt
+
+  pub with_options : (project : Result Project Refusal) → IfOk (asked_with options project) (λ asked. asked.options ≡ options)
+  with_options (Ok project) = refl
+  with_options (Err refusal) = tt
+
+  pub with_kind : (project : Result Project Refusal) → IfErr project IsOfProject → IfErr (asked_with options project) IsBeforeDial
+  with_kind (Ok project) h = tt
+  with_kind (Err refusal) h = project_before_dial refusal h
+
+  pub with_no_words : (project : Result Project Refusal) → IfErr project IsOfProject → IfErr (asked_with options project) (λ refusal. IsTrue (is_of_words refusal) → ⊥)
+  with_no_words (Ok project) h = tt
+  with_no_words (Err refusal) h = project_no_words refusal h
+
+  pub with_no_read : (project : Result Project Refusal) (path : List ℕ) → IfErr project IsOfProject → asked_with options project ≡ Err (Refusal.Load (LoadRefusal.ReadFault path)) → ⊥
+  with_no_read (Ok project) path h e = cc e
+  with_no_read (Err refusal) path h e = let same : refusal ≡ Refusal.Load (LoadRefusal.ReadFault path) = cc e in subst IsOfProject same h
+
+abbrev next : Variables → List ℕ → Contents → Result Options Refusal → Result Project Refusal
+next env cwd files asked = asked >>= λ options. project_for options env cwd files
 
 module _ (words : List (List ℕ)) (env : Variables) where
-  -- words that are built mean what loading gives
-  pub means_loaded : (cwd : List ℕ) (files : Contents) (options : Options) (result : Result Asked Refusal) → options_asked words env ≡ Ok options → LoadsFor (loaded cwd files) result → MeansAs (meaning words env cwd files) result
-  means_loaded cwd files options result e h = subst (λ (m : Result Project Refusal). MeansAs m result) (sym (ap (loaded_next cwd files) e)) h
+  -- words that are built mean what their options mean
+  pub means_loaded : (cwd : List ℕ) (files : Contents) (options : Options) (result : Result Asked Refusal) → options_asked words env ≡ Ok options → MeansFor options env cwd files result → MeansAs (meaning words env cwd files) result
+  means_loaded cwd files options result e h = subst (λ (m : Result Project Refusal). MeansAs m result) (sym (ap (next env cwd files) e)) h
 
   -- words that are refused mean that refusal
   pub means_refused : (cwd : List ℕ) (files : Contents) (refusal : Refusal) → Fails wants_memory refusal (options_asked words env) → MeansAs (meaning words env cwd files) (Err refusal)
-  means_refused cwd files refusal h = at (wants_memory refusal) (is_failed_read refusal) h
-    where
-      at : (wants failed : Bool) → Unless wants (options_asked words env ≡ Err refusal) → Unless (wants || failed) (meaning words env cwd files ≡ Err refusal)
-      at true failed h = tt
-      at false true h = tt
-      at false false h = ap (loaded_next cwd files) h
+  means_refused cwd files refusal h = unless_free refusal (options_asked words env ≡ Err refusal) (meaning words env cwd files ≡ Err refusal) h (λ e. ap (next env cwd files) e)
 
   -- where words are refused, that is the answer, unless memory was wanted
   pub refused_answers : (refusal : Refusal) → Fails wants_memory refusal (options_asked words env) → IfErr (options_asked words env) (λ expected. Gives wants_memory (refusing refusal) (Err expected))
@@ -107,8 +226,11 @@ module _ (words : List (List ℕ)) (env : Variables) where
   same_options options (Err refusal) e h = tt
   same_options options (Ok asked) e h = e ∙ ap (λ (o : Options). Ok o) (sym h)
 
+  -- a project that was loaded for the options of words is spelled by them
+  pub is_spelled : (cwd : List ℕ) (told : Option Contents) (options : Options) (result : Result Asked Refusal) → options_asked words env ≡ Ok options → IfOk result (λ asked. IsLoaded options env cwd told asked.project)
+      → IfOk result (λ asked. IsSpelled words env cwd told asked.project)
+  is_spelled cwd told options (Err refusal) e h = tt
+  is_spelled cwd told options (Ok asked) e h = (options, e, h)
+
   pub command_is : (options : Options) → options_asked words env ≡ Ok options → command_of words env ≡ Some options.command
   command_is options e = ap command_in e
-
-  pub has_command : (options : Options) → options_asked words env ≡ Ok options → command_of words env ≢ None
-  has_command options e none = let bad : Some options.command ≡ None = sym (command_is options e) ∙ none in cc bad

@@ -1,16 +1,15 @@
 -- Refusals of words.
-use Rattle.std.proofs.Common.{◌≡◌, ◌∙◌, ℕ, Bool, true, false, ◌||◌, List, Ok, Err, Some, None, refl, sym, ap, subst}
-use Rattle.std.specs.Prelude.{Option, Result, IfErr, IsTrue}
-use Rattle.asked_project.specs.Asking.{Variables, built_or_not, command_in, options_asked, read_or_refused}
+use Rattle.std.proofs.Common.{◌≡◌, ℕ, false, ◌||◌, List, Ok, Err, refl, sym, ap, subst}
+use Rattle.std.specs.Prelude.{Result, IsTrue}
+use Rattle.asked_project.specs.Asking.{Variables, built_or_not, options_asked, read_or_refused}
 use Rattle.compose_words.specs.Reading.{IsUnlessMemory, options_of}
 use Rattle.compose_words.specs.declared.Options.{Options}
 use Rattle.compose_words.specs.declared.WordsRefusal.{WordsRefusal}
-use Rattle.plain_services.specs.declared.LoadRefusal.{LoadRefusal}
-use Rattle.plain_services.specs.declared.Unbuilt.{Unbuilt}
+use Rattle.include_extends.specs.declared.LoadRefusal.{LoadRefusal}
 use Rattle.refusals.specs.Origins.{IsBeforeDial, is_of_words, words_refusal}
 use Rattle.refusals.specs.Refused.{wants_memory}
 use Rattle.refusals.specs.declared.Refusal.{Refusal}
-use Rattle.tree_base.specs.Answers.{◌>>=◌, Fails, Gives, Unless}
+use Rattle.tree_base.specs.Answers.{◌>>=◌, Fails, Gives}
 
 -- words that read well go on to what is built
 pub words_read : (words : List (List ℕ)) (env : Variables) (options : Options) (answer : Result Options Refusal) → options_of words ≡ Ok options → Gives wants_memory answer (built_or_not env options)

@@ -1,13 +1,13 @@
 -- What the words of a call ask for, of what is built so far.
-use Rattle.std.specs.Prelude.{ℕ, ◌==◌, Bool, true, false, not, ◌&&◌, if◌then◌else◌, List, Option, Some, None, Result, Ok, Err, codes, is_none, is_some, length}
+use Rattle.std.specs.Prelude.{ℕ, ◌==◌, Bool, false, not, ◌&&◌, if◌then◌else◌, List, Option, Some, None, Result, Ok, Err, codes, is_none, is_some, length}
 use Rattle.std.specs.Option.{option_map_or}
 use Rattle.compose_words.specs.Reading.{options_of}
 use Rattle.compose_words.specs.declared.Command.{Command}
 use Rattle.compose_words.specs.declared.Options.{Options}
 use Rattle.compose_words.specs.declared.WordsRefusal.{WordsRefusal}
-use Rattle.plain_services.specs.declared.Unbuilt.{Unbuilt}
 use Rattle.refusals.specs.Origins.{words_refusal}
 use Rattle.refusals.specs.declared.Refusal.{Refusal}
+use Rattle.refusals.specs.declared.Unbuilt.{Unbuilt}
 use Rattle.tree_base.specs.Answers.{◌>>=◌}
 use Rattle.tree_base.specs.Entries.{value_at}
 
@@ -23,17 +23,27 @@ is_empty xs = length xs == 0
 abbrev pub is_nonempty_in : Variables → List ℕ → Bool
 is_nonempty_in env name = option_map_or (λ value. not (is_empty value)) (value_at env name) false
 
--- no option is given that isn't built for any command: other files, directories, names, profiles, env files and sockets
+-- the first variable that isn't built, of those that docker compose reads for itself: a project's name, where it
+-- isn't empty, and then profiles
+abbrev pub unbuilt_variable : Variables → Option (List ℕ)
+unbuilt_variable env =
+    if is_nonempty_in env (codes "COMPOSE_PROJECT_NAME") then Some (codes "COMPOSE_PROJECT_NAME")
+    else (if is_some (value_at env (codes "COMPOSE_PROFILES"))
+    then Some (codes "COMPOSE_PROFILES") else None)
+
+-- no option is given that isn't built for any command: other files, directories, names, profiles and sockets
 abbrev pub has_only_built : Options → Bool
 has_only_built options =
-    is_empty options.files && (is_none options.project && (is_none options.directory && (is_empty options.profiles
-    && (is_empty options.env_files && (is_none options.socket && is_none options.stop_file)))))
+    is_empty options.files && (is_none options.project && (is_none options.directory
+    && (is_empty options.profiles && (is_none options.socket && is_none options.stop_file))))
 
 -- a command that is built, with its own options, on an Engine in memory or not
 abbrev pub is_built_command : Bool → Command → Bool
 is_built_command memory (Command.Config json quiet) = not json
-is_built_command memory (Command.Up orphans wait seconds scale) = memory && (not wait && (is_none seconds && is_empty scale))
-is_built_command memory (Command.Down orphans volumes seconds) = memory && (not volumes && is_none seconds)
+is_built_command memory (Command.Up orphans wait seconds scale) =
+    memory && (not wait && (is_none seconds && is_empty scale))
+is_built_command memory (Command.Down orphans volumes seconds) =
+    memory && (not volumes && is_none seconds)
 is_built_command memory (Command.Simulate number) = false
 is_built_command memory Command.Wait = false
 is_built_command memory Command.Logs = false
@@ -42,17 +52,15 @@ is_built_command memory (Command.EngineSim connections) = false
 abbrev pub has_built_command : Options → Bool
 has_built_command options = is_built_command options.in_memory options.command
 
--- the variables that docker compose reads for itself aren't built: a project's name, where it isn't empty, and profiles
-abbrev pub has_built_variables : Variables → Bool
-has_built_variables env = not (is_nonempty_in env (codes "COMPOSE_PROJECT_NAME")) && not (is_some (value_at env (codes "COMPOSE_PROFILES")))
-
 -- all is built that options and variables ask for
 abbrev pub are_built : Variables → Options → Bool
-are_built env options = has_only_built options && (has_built_command options && has_built_variables env)
+are_built env options =
+    has_only_built options && (has_built_command options && is_none (unbuilt_variable env))
 
 -- options, unless something of them isn't built
 abbrev pub built_or_not : Variables → Options → Result Options Refusal
-built_or_not env options = if are_built env options then Ok options else Err (Refusal.NotBuilt Unbuilt.Words)
+built_or_not env options =
+    if are_built env options then Ok options else Err (Refusal.NotBuilt Unbuilt.Words)
 
 -- the options of words, or what a call is refused with where these are none
 abbrev pub read_or_refused : Result Options WordsRefusal → Result Options Refusal

@@ -1,31 +1,87 @@
 -- What a call's words, variables, working directory and files mean: a project, or the first refusal.
-use Rattle.std.specs.Prelude.{◌≡◌, ◌≢◌, ℕ, List, None, Result, Ok, Err}
-use Rattle.asked_project.specs.Asking.{Variables, command_of, options_asked}
+use Rattle.std.specs.Prelude.{◌≡◌, ℕ, List, Option, Some, None, Result, Ok, Err}
+use Rattle.asked_project.specs.Asking.{Variables, options_asked, unbuilt_variable}
 use Rattle.asked_project.specs.declared.asking.Asked.{Asked}
+use Rattle.compose_words.specs.declared.Options.{Options}
+use Rattle.include_extends.specs.Loading.{loading}
+use Rattle.include_extends.specs.Reads.{Load, Ran, loaded_from}
+use Rattle.include_extends.specs.declared.LoadRefusal.{LoadRefusal}
+use Rattle.include_extends.specs.declared.Loaded.{Loaded}
 use Rattle.outside_files.specs.Counts.{Rose}
 use Rattle.outside_files.specs.Files.{Contents}
-use Rattle.plain_services.specs.Loading.{compose_path, loaded}
+use Rattle.plain_services.specs.ProjectNames.{base_name}
+use Rattle.plain_services.specs.Projects.{project_of}
 use Rattle.plain_services.specs.declared.PlainRefusal.{PlainRefusal}
-use Rattle.refusals.specs.Origins.{loading_refusal}
+use Rattle.refusals.specs.Origins.{load_refusal, project_refusal}
 use Rattle.refusals.specs.Refused.{is_free}
 use Rattle.refusals.specs.declared.Refusal.{Refusal}
+use Rattle.refusals.specs.declared.Unbuilt.{Unbuilt}
 use Rattle.service_attrs.specs.declared.Project.{Project}
 use Rattle.tree_base.specs.Answers.{◌>>=◌, Unless}
 
--- a project, or what a call is refused with where loading refuses so
-abbrev pub loaded_or_refused : Result Project PlainRefusal → Result Project Refusal
-loaded_or_refused (Ok project) = Ok project
-loaded_or_refused (Err refusal) = Err (loading_refusal refusal)
+-- what was loaded, or what a call is refused with whose files aren't
+abbrev pub loaded_or_refused : Result Loaded LoadRefusal → Result Loaded Refusal
+loaded_or_refused (Ok loaded) = Ok loaded
+loaded_or_refused (Err refusal) = Err (load_refusal refusal)
 
--- the project that words, variables, a working directory and files give, or the first refusal: that of the words, then of loading
+-- a project, or what a call is refused with whose tree gives none
+abbrev pub project_or_refused : Result Project PlainRefusal → Result Project Refusal
+project_or_refused (Ok project) = Ok project
+project_or_refused (Err refusal) = Err (project_refusal refusal)
+
+-- what is given, unless a variable isn't built
+abbrev pub unless_variable : {X : Type 0} → Option (List ℕ) → Result X Refusal → Result X Refusal
+unless_variable None given = given
+unless_variable (Some name) given = Err (Refusal.NotBuilt (Unbuilt.Variable name))
+
+-- the project of what was loaded: first the variables of env files are asked, and then the tree in its directory
+abbrev pub project_loaded : Loaded → Result Project Refusal
+project_loaded loaded =
+    unless_variable (unbuilt_variable loaded.env)
+    (project_or_refused (project_of (base_name loaded.directory) loaded.tree))
+
+-- what options, variables and a working directory load: the Compose file under its variables
+abbrev pub load_for : Options → Variables → List ℕ → Load Loaded
+load_for options env cwd = loading options.env_files env cwd
+
+-- the project that options, variables, a working directory and files give, or the first refusal
+abbrev pub project_for : Options → Variables → List ℕ → Contents → Result Project Refusal
+project_for options env cwd files =
+    loaded_or_refused (loaded_from files (load_for options env cwd)) >>= project_loaded
+
+-- the project that words, variables, a working directory and files give, or the first refusal: that of the words,
+-- then of loading, then of what was loaded
 abbrev pub meaning : List (List ℕ) → Variables → List ℕ → Contents → Result Project Refusal
-meaning words env cwd files = options_asked words env >>= λ options. loaded_or_refused (loaded cwd files)
+meaning words env cwd files =
+    options_asked words env >>= λ options. project_for options env cwd files
 
--- an answer has the project that is meant, or its refusal; a read that failed and a want of memory may stand in its place
+-- an answer has the project that is meant, or its refusal; a read that failed and a want of memory may stand in its
+-- place
 abbrev pub MeansAs : Result Project Refusal → Result Asked Refusal → Type 0
 MeansAs meant (Ok asked) = meant ≡ Ok asked.project
 MeansAs meant (Err refusal) = Unless (is_free refusal) (meant ≡ Err refusal)
 
--- the read of a file failed: the words are built, the file is the Compose file, and the files' count of faults rose
-abbrev pub IsFailedRead : List (List ℕ) → Variables → List ℕ → ℕ → ℕ → List ℕ → Type 0
-IsFailedRead words env cwd old new path = (command_of words env ≢ None) × (path ≡ compose_path cwd) × Rose old new
+-- what some answers of reads load for options gives the project; the answers are the files' where these are told
+abbrev pub IsLoaded : Options → Variables → List ℕ → Option Contents → Project → Type 0
+IsLoaded options env cwd told project =
+    (loaded : Loaded) × Ran told (load_for options env cwd) (Ok loaded)
+    × (project_loaded loaded ≡ Ok project)
+
+-- the same for the options that words ask for
+abbrev pub IsSpelled : List (List ℕ) → Variables → List ℕ → Option Contents → Project → Type 0
+IsSpelled words env cwd told project =
+    (options : Options) × (options_asked words env ≡ Ok options)
+    × IsLoaded options env cwd told project
+
+-- the load for options comes to a read that may fail there, and reads failed
+abbrev pub IsFailedLoad : Options → Variables → List ℕ → Option Contents → ℕ → ℕ → List ℕ → Type 0
+IsFailedLoad options env cwd told old new path =
+    Ran told (load_for options env cwd) (Err (LoadRefusal.ReadFault path)) × Rose old new
+
+-- the read of a file failed: the words are built, what they load reads that file there, and the files' count of
+-- faults rose
+abbrev pub IsFailedRead :
+    List (List ℕ) → Variables → List ℕ → Option Contents → ℕ → ℕ → List ℕ → Type 0
+IsFailedRead words env cwd told old new path =
+    (options : Options) × (options_asked words env ≡ Ok options)
+    × IsFailedLoad options env cwd told old new path

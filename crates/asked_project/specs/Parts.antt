@@ -1,11 +1,29 @@
 -- Parts of what a call is asked that have functions of their own.
-use Rattle.std.specs.Prelude.{Result}
-use Rattle.asked_project.specs.Meaning.{MeansAs, loaded_or_refused}
+use Rattle.std.specs.Prelude.{ℕ, List, Result, Ok, Err}
+use Rattle.asked_project.specs.Asking.{Variables}
+use Rattle.asked_project.specs.Meaning.{MeansAs, project_for}
 use Rattle.asked_project.specs.declared.asking.Asked.{Asked}
-use Rattle.plain_services.specs.declared.PlainRefusal.{PlainRefusal}
+use Rattle.compose_words.specs.declared.Options.{Options}
+use Rattle.outside_files.specs.Files.{Contents}
 use Rattle.refusals.specs.declared.Refusal.{Refusal}
+use Rattle.refusals.specs.declared.Unbuilt.{Unbuilt}
 use Rattle.service_attrs.specs.declared.Project.{Project}
 
--- an answer has the project that loading gives, or what a call is refused with where loading refuses
-abbrev pub LoadsFor : Result Project PlainRefusal → Result Asked Refusal → Type 0
-LoadsFor expected = MeansAs (loaded_or_refused expected)
+-- an answer for options has the project that these mean, or its refusal
+abbrev pub MeansFor : Options → Variables → List ℕ → Contents → Result Asked Refusal → Type 0
+MeansFor options env cwd files = MeansAs (project_for options env cwd files)
+
+-- what is asked, where a project was loaded for options
+abbrev pub asked_with : Options → Result Project Refusal → Result Asked Refusal
+asked_with options (Ok project) = Ok (record { options = options; project = project })
+asked_with options (Err refusal) = Err refusal
+
+-- a refusal of what was loaded: of what isn't built of it, of the project's name, of what it declares, or a want of
+-- memory
+abbrev pub IsOfProject : Refusal → Type 0
+IsOfProject (Refusal.NotBuilt (Unbuilt.Variable name)) = Unit {0}
+IsOfProject (Refusal.NotBuilt (Unbuilt.Attribute path)) = Unit {0}
+IsOfProject (Refusal.Name refusal) = Unit {0}
+IsOfProject (Refusal.Project refusal) = Unit {0}
+IsOfProject Refusal.Memory = Unit {0}
+IsOfProject _ = ⊥

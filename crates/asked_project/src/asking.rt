@@ -1,20 +1,19 @@
 ghost use Rattle.std.specs.Prelude.{◌≡◌, ◌<◌, ◌^◌, Err, Ok, IfErr, IfOk, IfSome, IsTrue, length};
 ghost use Rattle.asked_project.specs.Asking.{options_asked};
-ghost use Rattle.asked_project.specs.Meaning.{IsFailedRead, MeansAs, meaning};
-ghost use Rattle.asked_project.specs.Parts.{LoadsFor};
-ghost use Rattle.outside_files.specs.Counts.{Rose};
-ghost use Rattle.plain_services.specs.Loading.{IsSpelled, compose_path, loaded};
-ghost use Rattle.plain_services.specs.declared.LoadRefusal.{LoadRefusal};
+ghost use Rattle.asked_project.specs.Meaning.{IsFailedLoad, IsFailedRead, IsLoaded, IsSpelled, MeansAs, meaning};
+ghost use Rattle.asked_project.specs.Parts.{MeansFor, asked_with};
+ghost use Rattle.include_extends.specs.declared.LoadRefusal.{LoadRefusal};
 ghost use Rattle.refusals.specs.Origins.{IsBeforeDial, is_of_words};
 ghost use Rattle.refusals.specs.Refused.{wants_memory};
 ghost use Rattle.refusals.specs.declared.Refusal.{Refusal};
 ghost use Rattle.service_attrs.specs.Projects.{IsInOrder};
 ghost use Rattle.tree_base.specs.Answers.{Gives};
 
+use crate::loaded::project_loaded;
 use crate::words::options_asked;
 use compose_words::Options;
+use include_extends::load;
 use outside_files::Files;
-use plain_services::load;
 use refusals::Refusal;
 use service_attrs::Project;
 use std::alloc::Global;
@@ -27,9 +26,10 @@ pub struct Asked {
     pub project: Project,
 }
 
-/// The command with its options that words ask for, and the project that the variables, the working directory `cwd` and the files give. The
-/// refusals, in their order: `Words` where the words are none, `NotBuilt(Words)` where they ask for what isn't built yet, and
-/// those of loading.
+/// The command with its options that words ask for, and the project that the variables, the working directory `cwd`
+/// and the files give. The refusals, in their order: `Words` where the words are none; `NotBuilt(Words)` where they,
+/// or the variables, ask for what isn't built yet; those of loading; `NotBuilt(Variable)` for a variable of an env
+/// file; and those of the project.
 pub fn project_asked<F: Files>(
     alloc: Global,
     words: &List<Text>,
@@ -38,24 +38,30 @@ pub fn project_asked<F: Files>(
     files: &mut F,
 ) -> Result<Asked, Refusal>
     requires { length words.now < 2 ^ 32 }
-    ensures told { IfSome (F.told files.old) (λ contents. MeansAs (meaning words.now env.now cwd.now contents) result) }
+    ensures told { IfSome (F.told files.old) (λ contents.
+        MeansAs (meaning words.now env.now cwd.now contents) result) }
 
     // Words are refused exactly, also where the files aren't told.
-    ensures words { IfErr (options_asked words.now env.now) (λ refusal. Gives wants_memory result (Err refusal)) }
-    ensures words_only { IfErr result (λ refusal. IsTrue (is_of_words refusal) → options_asked words.now env.now ≡ Err refusal) }
+    ensures words { IfErr (options_asked words.now env.now) (λ refusal.
+        Gives wants_memory result (Err refusal)) }
+    ensures words_only { IfErr result (λ refusal.
+        IsTrue (is_of_words refusal) → options_asked words.now env.now ≡ Err refusal) }
     ensures options { IfOk result (λ asked. options_asked words.now env.now ≡ Ok asked.options) }
 
-    // Some text spells the project, and its services are in order.
-    ensures text { IfOk result (λ asked. IsSpelled cwd.now asked.project) }
+    // Some answers of reads give the project, and its services are in order.
+    ensures text { IfOk result (λ asked.
+        IsSpelled words.now env.now cwd.now (F.told files.old) asked.project) }
     ensures order { IfOk result (λ asked. IsInOrder asked.project.services) }
 
-    // A read that failed is that of the Compose file, for words that are built, and was counted.
-    ensures read { (path : _) → result ≡ Err (Refusal.Load (LoadRefusal.ReadFault path)) → IsFailedRead words.now env.now cwd.now (F.faults files.old) (F.faults files.new) path }
+    // A read that failed is one that words that are built come to, and was counted.
+    ensures read { (path : _) → result ≡ Err (Refusal.Load (LoadRefusal.ReadFault path))
+        → IsFailedRead words.now env.now cwd.now (F.told files.old)
+        (F.faults files.old) (F.faults files.new) path }
     ensures kind { IfErr result IsBeforeDial }
     ensures kept { F.told files.new ≡ F.told files.old }
 {
     match options_asked(alloc, words, env) {
-        Ok(options) => project_for(alloc, options, cwd, files),
+        Ok(options) => project_for(alloc, options, env, cwd, files),
         Err(refusal) => Err(refusal),
     }
 }
@@ -64,25 +70,46 @@ pub fn project_asked<F: Files>(
 fn project_for<F: Files>(
     alloc: Global,
     options: Options,
+    env: &Env,
     cwd: &Text,
     files: &mut F,
 ) -> Result<Asked, Refusal>
-    ensures told { IfSome (F.told files.old) (λ contents. LoadsFor (loaded cwd.now contents) result) }
+    ensures told { IfSome (F.told files.old) (λ contents.
+        MeansFor options env.now cwd.now contents result) }
     ensures words { IfErr result (λ refusal. IsTrue (is_of_words refusal) → ⊥) }
     ensures options { IfOk result (λ asked. asked.options ≡ options) }
-    ensures text { IfOk result (λ asked. IsSpelled cwd.now asked.project) }
+    ensures text { IfOk result (λ asked.
+        IsLoaded options env.now cwd.now (F.told files.old) asked.project) }
     ensures order { IfOk result (λ asked. IsInOrder asked.project.services) }
-    ensures path { (path : _) → result ≡ Err (Refusal.Load (LoadRefusal.ReadFault path)) → path ≡ compose_path cwd.now }
-    ensures read { (path : _) → result ≡ Err (Refusal.Load (LoadRefusal.ReadFault path)) → Rose (F.faults files.old) (F.faults files.new) }
+    ensures read { (path : _) → result ≡ Err (Refusal.Load (LoadRefusal.ReadFault path))
+        → IsFailedLoad options env.now cwd.now (F.told files.old)
+        (F.faults files.old) (F.faults files.new) path }
     ensures kind { IfErr result IsBeforeDial }
     ensures kept { F.told files.new ≡ F.told files.old }
 {
-    match load(alloc, cwd, files) {
-        Ok(project) => Ok(Asked { options, project }),
+    match load(alloc, files, &options.env_files, env, cwd) {
+        Ok(loaded) => {
+            let project = project_loaded(alloc, &loaded);
+            // By calls, here and below: else the drop of each text would be proved at this place.
+            drop(loaded);
+            asked_with(options, project)
+        }
         Err(refusal) => {
-            // By a call, since the drop of each text would be proved at this place.
             drop(options);
             Err(Refusal::from(refusal))
+        }
+    }
+}
+
+/// What a call is asked, where a project was loaded for its options.
+fn asked_with(options: Options, project: Result<Project, Refusal>) -> Result<Asked, Refusal>
+    ensures { result ≡ asked_with options project }
+{
+    match project {
+        Ok(project) => Ok(Asked { options, project }),
+        Err(refusal) => {
+            drop(options);
+            Err(refusal)
         }
     }
 }

@@ -1,5 +1,6 @@
 ghost use Rattle.std.specs.Prelude.{◌≡◌, ◌<◌, ◌^◌, ◌||◌, IfErr, IfOk, IsTrue, codes, is_some, length};
-ghost use Rattle.asked_project.specs.Asking.{are_built, built_or_not, has_built_command, has_only_built, is_nonempty_in, options_asked};
+ghost use Rattle.std.specs.Option.{option_map};
+ghost use Rattle.asked_project.specs.Asking.{are_built, built_or_not, has_built_command, has_only_built, is_nonempty_in, options_asked, unbuilt_variable};
 ghost use Rattle.refusals.specs.Origins.{is_of_words};
 ghost use Rattle.refusals.specs.Refused.{wants_memory};
 ghost use Rattle.tree_base.specs.Answers.{Gives};
@@ -10,8 +11,8 @@ use refusals::{Refusal, Unbuilt};
 use std::alloc::Global;
 use tree_base::{Env, List, Memory, Text};
 
-/// The command with its options that words ask for. `Words` where they are none, and `NotBuilt(Words)` where they, or the
-/// variables, ask for what isn't built yet.
+/// The command with its options that words ask for. `Words` where they are none, and `NotBuilt(Words)` where they, or
+/// the variables, ask for what isn't built yet.
 pub(crate) fn options_asked(
     alloc: Global,
     words: &List<Text>,
@@ -51,7 +52,21 @@ fn are_built(alloc: Global, options: &Options, env: &Env) -> Result<bool, Memory
     if !has_only_built(options) || !has_built_command(options) {
         return Ok(false);
     }
-    Ok(!names_project(alloc, env)? && !enables_profiles(alloc, env)?)
+    Ok(unbuilt_variable(alloc, env)?.is_none())
+}
+
+/// The first of the variables that docker compose reads for itself which isn't built: a project's name, where it
+/// isn't empty, and then profiles.
+pub(crate) fn unbuilt_variable(alloc: Global, env: &Env) -> Result<Option<&'static str>, Memory>
+    ensures { IfOk result (λ name. option_map (λ n. n.now) name ≡ unbuilt_variable env.now) }
+{
+    if names_project(alloc, env)? {
+        Ok(Some("COMPOSE_PROJECT_NAME"))
+    } else if enables_profiles(alloc, env)? {
+        Ok(Some("COMPOSE_PROFILES"))
+    } else {
+        Ok(None)
+    }
 }
 
 /// Whether none of the options is given that isn't built for any command.
@@ -62,7 +77,6 @@ fn has_only_built(options: &Options) -> bool
         && options.project.is_none()
         && options.directory.is_none()
         && options.profiles.is_empty()
-        && options.env_files.is_empty()
         && options.socket.is_none()
         && options.stop_file.is_none()
 }
@@ -104,7 +118,8 @@ fn names_project(alloc: Global, env: &Env) -> Result<bool, Memory>
 
 /// Whether a variable enables profiles.
 fn enables_profiles(alloc: Global, env: &Env) -> Result<bool, Memory>
-    ensures { IfOk result (λ enabled. enabled ≡ is_some (value_at env.now (codes "COMPOSE_PROFILES"))) }
+    ensures { IfOk result (λ enabled.
+        enabled ≡ is_some (value_at env.now (codes "COMPOSE_PROFILES"))) }
 {
     let name = Text::from_str(alloc, "COMPOSE_PROFILES")?;
     Ok(env.get(&name).is_some())

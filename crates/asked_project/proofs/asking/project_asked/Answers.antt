@@ -1,7 +1,7 @@
 use Rattle.std.proofs.Common.{◌≡◌}
-use Rattle.asked_project.proofs.Answered.{IfSome-all, IfSome-map, has_command, means_loaded, means_refused, no_words, refused_answers, refused_exactly, same_options, unrefused_answers}
+use Rattle.asked_project.proofs.Answered.{IfSome-all, IfSome-map, is_spelled, means_loaded, means_refused, no_words, refused_answers, refused_exactly, same_options, unrefused_answers}
 use Rattle.asked_project.proofs.Refusing.{words_before_dial, words_no_read}
-use Rattle.plain_services.specs.declared.LoadRefusal.{LoadRefusal}
+use Rattle.include_extends.specs.declared.LoadRefusal.{LoadRefusal}
 use Rattle.refusals.specs.declared.Refusal.{Refusal}
 use Rattle.asked_project.proofs.asking.project_asked.Goals as goal
 
@@ -18,9 +18,11 @@ returns-in-Ok-clause-words_only g c = no_words c.args.words.now c.args.env.now c
 pub returns-in-Ok-clause-options : goal.returns-in-Ok-clause-options
 returns-in-Ok-clause-options g c = same_options c.args.words.now c.args.env.now c.in-Ok.options c.project_for.result c.in-Ok.ensures.answer c.project_for.ensures.options
 
+pub returns-in-Ok-clause-text : goal.returns-in-Ok-clause-text
+returns-in-Ok-clause-text g c = is_spelled c.args.words.now c.args.env.now c.args.cwd.now (g.F.Files.told c.args.files.now) c.in-Ok.options c.project_for.result c.in-Ok.ensures.answer c.project_for.ensures.text
+
 pub returns-in-Ok-clause-read : goal.returns-in-Ok-clause-read
-returns-in-Ok-clause-read g c = λ path e.
-    (has_command c.args.words.now c.args.env.now c.in-Ok.options c.in-Ok.ensures.answer, c.project_for.ensures.path path e, c.project_for.ensures.read path e)
+returns-in-Ok-clause-read g c = λ path e. (c.in-Ok.options, c.in-Ok.ensures.answer, c.project_for.ensures.read path e)
 
 pub returns-in-Err-clause-told : goal.returns-in-Err-clause-told
 returns-in-Err-clause-told g c =

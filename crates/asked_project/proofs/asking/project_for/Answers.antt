@@ -1,27 +1,47 @@
-use Rattle.std.proofs.Common.{◌≡◌, Err, ap}
-use Rattle.asked_project.proofs.Answered.{IfSome-map, loads_no_words, loads_project, loads_read, loads_refused}
-use Rattle.plain_services.specs.Loading.{loaded}
-use Rattle.plain_services.specs.declared.LoadRefusal.{LoadRefusal}
+use Rattle.std.proofs.Common.{◌≡◌, ◌∙◌, Err, ap, subst, sym}
+use Rattle.std.specs.Prelude.{IfErr, IfOk, IfSome, IsTrue, Result}
+use Rattle.asked_project.specs.Meaning.{IsLoaded}
+use Rattle.asked_project.specs.Parts.{MeansFor}
+use Rattle.asked_project.specs.declared.asking.Asked.{Asked}
+use Rattle.asked_project.proofs.Answered.{is_loaded, load_no_words, loads_project, loads_read, loads_refused, with_kind, with_no_read, with_no_words, with_options, with_order}
+use Rattle.include_extends.specs.declared.LoadRefusal.{LoadRefusal}
+use Rattle.refusals.specs.Origins.{IsBeforeDial, is_of_words}
 use Rattle.refusals.specs.declared.Refusal.{Refusal}
+use Rattle.service_attrs.specs.Projects.{IsInOrder}
 use Rattle.asked_project.proofs.asking.project_for.Goals as goal
 
 pub returns-in-Ok-clause-told : goal.returns-in-Ok-clause-told
 returns-in-Ok-clause-told g c =
-    IfSome-map (g.F.Files.told c.args.files.now) _ _ c.in-Ok.ensures.told (λ contents h. loads_project (loaded c.args.cwd.now contents) c.args.options c.in-Ok.project h)
+    subst (λ (r : Result Asked Refusal). IfSome (g.F.Files.told c.args.files.now) (λ contents. MeansFor c.args.options c.args.env.now c.args.cwd.now contents r)) (sym c.asked_with.ensures)
+    (loads_project c.args.options c.args.env.now c.args.cwd.now (g.F.Files.told c.args.files.now) c.in-Ok.loaded c.project_loaded-project.result c.in-Ok.ensures.given c.project_loaded-project.ensures.told)
+
+pub returns-in-Ok-clause-words : goal.returns-in-Ok-clause-words
+returns-in-Ok-clause-words g c = subst (λ (r : Result Asked Refusal). IfErr r (λ refusal. IsTrue (is_of_words refusal) → ⊥)) (sym c.asked_with.ensures) (with_no_words c.args.options c.project_loaded-project.result c.project_loaded-project.ensures.kind)
+
+pub returns-in-Ok-clause-options : goal.returns-in-Ok-clause-options
+returns-in-Ok-clause-options g c = subst (λ (r : Result Asked Refusal). IfOk r (λ asked. asked.options ≡ c.args.options)) (sym c.asked_with.ensures) (with_options c.args.options c.project_loaded-project.result)
+
+pub returns-in-Ok-clause-text : goal.returns-in-Ok-clause-text
+returns-in-Ok-clause-text g c =
+    subst (λ (r : Result Asked Refusal). IfOk r (λ asked. IsLoaded c.args.options c.args.env.now c.args.cwd.now (g.F.Files.told c.args.files.now) asked.project)) (sym c.asked_with.ensures)
+    (is_loaded c.args.options c.args.env.now c.args.cwd.now (g.F.Files.told c.args.files.now) c.in-Ok.loaded c.project_loaded-project.result c.in-Ok.ensures.given c.project_loaded-project.ensures.told)
+
+pub returns-in-Ok-clause-order : goal.returns-in-Ok-clause-order
+returns-in-Ok-clause-order g c = subst (λ (r : Result Asked Refusal). IfOk r (λ asked. IsInOrder asked.project.services)) (sym c.asked_with.ensures) (with_order c.args.options c.project_loaded-project.result c.project_loaded-project.ensures.order)
+
+pub returns-in-Ok-clause-kind : goal.returns-in-Ok-clause-kind
+returns-in-Ok-clause-kind g c = subst (λ (r : Result Asked Refusal). IfErr r IsBeforeDial) (sym c.asked_with.ensures) (with_kind c.args.options c.project_loaded-project.result c.project_loaded-project.ensures.kind)
+
+pub returns-in-Ok-clause-read : goal.returns-in-Ok-clause-read
+returns-in-Ok-clause-read g c = λ path e. absurd (with_no_read c.args.options c.project_loaded-project.result path c.project_loaded-project.ensures.kind (sym c.asked_with.ensures ∙ e))
 
 pub returns-in-Err-clause-told : goal.returns-in-Err-clause-told
-returns-in-Err-clause-told g c =
-    IfSome-map (g.F.Files.told c.args.files.now) _ _ c.in-Err.ensures.told (λ contents h. loads_refused (loaded c.args.cwd.now contents) c.in-Err.refusal c.from.result c.from.ensures.refusal h)
+returns-in-Err-clause-told g c = loads_refused c.args.options c.args.env.now c.args.cwd.now (g.F.Files.told c.args.files.now) c.in-Err.refusal c.from.result c.from.ensures.refusal c.in-Err.ensures.given
 
 pub returns-in-Err-clause-words : goal.returns-in-Err-clause-words
-returns-in-Err-clause-words g c = loads_no_words c.in-Err.refusal c.from.result c.from.ensures.refusal (λ e. c.in-Err.ensures.words (ap Err e))
-
-pub returns-in-Err-clause-path : goal.returns-in-Err-clause-path
-returns-in-Err-clause-path g c = λ path e.
-    let same : c.from.result ≡ Refusal.Load (LoadRefusal.ReadFault path) = cc e in
-    c.in-Err.ensures.path path (ap Err (loads_read c.in-Err.refusal c.from.result path c.from.ensures.refusal same))
+returns-in-Err-clause-words g c = λ h. load_no_words c.in-Err.refusal (subst (λ (r : Refusal). IsTrue (is_of_words r)) c.from.ensures.refusal h)
 
 pub returns-in-Err-clause-read : goal.returns-in-Err-clause-read
 returns-in-Err-clause-read g c = λ path e.
     let same : c.from.result ≡ Refusal.Load (LoadRefusal.ReadFault path) = cc e in
-    c.in-Err.ensures.read path (ap Err (loads_read c.in-Err.refusal c.from.result path c.from.ensures.refusal same))
+    loads_read c.args.options c.args.env.now c.args.cwd.now (g.F.Files.told c.args.files.now) c.in-Err.refusal c.from.result path _ _ c.from.ensures.refusal same c.in-Err.ensures.given (λ at f. c.in-Err.ensures.fault at (ap Err f))
