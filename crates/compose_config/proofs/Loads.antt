@@ -1,20 +1,16 @@
 -- Facts on the project that was asked for, and on what was refused.
-use Rattle.std.proofs.Common.{◌≡◌, ◌≢◌, ◌⊎◌, ◌∙◌, Bool, true, false, List, ℕ, Some, None, Ok, Err, inl, refl, subst, sym, ap}
+use Rattle.std.proofs.Common.{◌≡◌, Bool, true, false, List, ℕ, Some, None, Ok, Err, refl, subst, sym, ap}
 use Rattle.std.specs.Prelude.{Option, Result, IfErr, IfOk, IfSome, IsTrue}
 use Rattle.asked_project.specs.Asking.{Variables, command_in, command_of, options_asked}
-use Rattle.asked_project.specs.Meaning.{IsFailedRead, MeansAs, meaning}
+use Rattle.asked_project.specs.Meaning.{IsFailedRead, IsSpelled, MeansAs, meaning}
 use Rattle.asked_project.specs.declared.Asked.{Asked}
 use Rattle.compose_config.specs.Commands.{ForProject, IfLoads, IsOfConfig, IsReadFault, OnlyOutsideFails}
-use Rattle.compose_words.specs.declared.Command.{Command}
 use Rattle.compose_words.specs.declared.Options.{Options}
-use Rattle.outside_files.specs.Counts.{Rose}
+use Rattle.include_extends.specs.declared.LoadRefusal.{LoadRefusal}
 use Rattle.outside_files.specs.Files.{Contents}
-use Rattle.plain_services.specs.Loading.{IsSpelled, compose_path}
-use Rattle.plain_services.specs.declared.LoadRefusal.{LoadRefusal}
-use Rattle.plain_services.specs.declared.Unbuilt.{Unbuilt}
 use Rattle.refusals.proofs.Said.{said}
 use Rattle.refusals.specs.Origins.{IsBeforeDial, is_of_words}
-use Rattle.refusals.specs.Refused.{IsRefusal, is_failed_read, is_free, wants_memory}
+use Rattle.refusals.specs.Refused.{IsRefusal, is_free, wants_memory}
 use Rattle.refusals.specs.Saying.{IsSaid}
 use Rattle.refusals.specs.declared.Refusal.{Refusal}
 use Rattle.service_attrs.specs.declared.Project.{Project}
@@ -116,12 +112,12 @@ module _ (words : List (List ℕ)) (env : Variables) where
 
   module _ (cwd : List ℕ) (told : Option Contents) where
     -- a fact on the project that was answered is one on the project that is meant
-    pub for_project : (asked : Asked) (Fact : Project → Type 0) → IfSome told (λ contents. MeansAs (meaning words env cwd contents) (given asked)) → IsSpelled cwd asked.project → Fact asked.project → ForProject words env cwd told Fact
-    for_project asked Fact means spelled fact = at told means
+    pub for_project : (asked : Asked) (Fact : Project → Type 0) → IfSome told (λ contents. MeansAs (meaning words env cwd contents) (given asked)) → IsSpelled words env cwd told asked.project → Fact asked.project → ForProject words env cwd told Fact
+    for_project asked Fact means spelled fact = at told means spelled
       where
-        at : (told : Option Contents) → IfSome told (λ contents. MeansAs (meaning words env cwd contents) (given asked)) → ForProject words env cwd told Fact
-        at None h = (asked.project, spelled, fact)
-        at (Some contents) h = (asked.project, h, fact)
+        at : (told : Option Contents) → IfSome told (λ contents. MeansAs (meaning words env cwd contents) (given asked)) → IsSpelled words env cwd told asked.project → ForProject words env cwd told Fact
+        at None h is = (asked.project, is, fact)
+        at (Some contents) h is = (asked.project, h, fact)
 
     -- a fact holds also where a project is meant
     pub if_loads : (Fact : Type 0) → Fact → IfLoads words env cwd told Fact
@@ -156,7 +152,12 @@ module _ (words : List (List ℕ)) (env : Variables) where
         free (Refusal.Load (LoadRefusal.ReadFault path)) e read = read path refl
         free (Refusal.Load (LoadRefusal.NotFound path)) e read = absurd (cc e)
         free (Refusal.Load (LoadRefusal.FileTooLarge path)) e read = absurd (cc e)
-        free (Refusal.Load (LoadRefusal.Yaml path refusal)) e read = absurd (cc e)
+        free (Refusal.Load (LoadRefusal.TooManyFiles path)) e read = absurd (cc e)
+        free (Refusal.Load (LoadRefusal.NoHome path)) e read = absurd (cc e)
+        free (Refusal.Load (LoadRefusal.Yaml path cause)) e read = absurd (cc e)
+        free (Refusal.Load (LoadRefusal.EnvFile path cause)) e read = absurd (cc e)
+        free (Refusal.Load (LoadRefusal.Subst path cause)) e read = absurd (cc e)
+        free (Refusal.Load LoadRefusal.Memory) e read = absurd (cc e)
         free (Refusal.Words words) e read = absurd (cc e)
         free (Refusal.NotBuilt unbuilt) e read = absurd (cc e)
         free (Refusal.Name name) e read = absurd (cc e)
@@ -213,12 +214,15 @@ said_some refusal found is_said e = let bad : IsSaid refusal None = subst (IsSai
 
 -- nothing but what is outside hinders a call that is meant to have a project, where a refusal was said
 module _ (words : List (List ℕ)) (env : Variables) (cwd : List ℕ) (told : Option Contents) (files_old files_new out_old out_new : ℕ) where
+  abbrev Failed : Option Refusal → Type 0
+  Failed found = IsReadFault words env cwd told files_old files_new found
+
   abbrev Hindered : Option Refusal → Type 0
-  Hindered found = OnlyOutsideFails cwd files_old files_new out_old out_new found
+  Hindered found = OnlyOutsideFails Failed out_old out_new found
 
   pub only_outside : (refusal : Refusal) (found : Option Refusal) → IfSome told (λ contents. MeansAs (meaning words env cwd contents) (answered refusal))
-      → ((path : List ℕ) → refusal ≡ Refusal.Load (LoadRefusal.ReadFault path) → IsFailedRead words env cwd files_old files_new path) → IsSaid refusal found
-      → IfLoads words env cwd told (OnlyOutsideFails cwd files_old files_new out_old out_new found)
+      → ((path : List ℕ) → refusal ≡ Refusal.Load (LoadRefusal.ReadFault path) → IsFailedRead words env cwd told files_old files_new path) → IsSaid refusal found
+      → IfLoads words env cwd told (Hindered found)
   only_outside refusal found means read is_said =
-      loads_weaker words env cwd told (Hindered (Some refusal)) (Hindered found) (not_loaded words env cwd told (λ r. Hindered (Some r)) refusal means tt (λ path e. let failed = read path e in (failed.1, failed.2)))
+      loads_weaker words env cwd told (Hindered (Some refusal)) (Hindered found) (not_loaded words env cwd told (λ r. Hindered (Some r)) refusal means tt read)
       (λ only. said refusal found is_said Hindered tt only)

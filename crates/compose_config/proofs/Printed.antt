@@ -1,12 +1,12 @@
 -- What a page leaves that was printed.
-use Rattle.std.proofs.Common.{◌≡◌, ◌∙◌, ℕ, Bool, true, false, List, [], Some, None, length, refl, sym, ap, subst, arith, append-nil}
+use Rattle.std.proofs.Common.{◌≡◌, ℕ, List, [], Some, None, length, refl, sym, ap, subst, arith, append-nil}
 use Rattle.std.specs.Prelude.{IsTrue, Option}
 use Rattle.std.proofs.Math.Seq.{take-length}
 use Rattle.compose_config.specs.Commands.{GrewByPrefix, IsOfConfig, OnlyOutsideFails, PrintsPage, page_asked, page_for}
 use Rattle.compose_words.specs.declared.Command.{Command}
 use Rattle.outside_files.specs.Counts.{Rose}
 use Rattle.outside_files.specs.Sinks.{GrewBy}
-use Rattle.plain_services.specs.declared.LoadRefusal.{LoadRefusal}
+use Rattle.include_extends.specs.declared.LoadRefusal.{LoadRefusal}
 use Rattle.refusals.proofs.Said.{said_if_any}
 use Rattle.refusals.specs.Origins.{IsOfLoading, is_of_words}
 use Rattle.refusals.specs.Saying.{IsSaidIfAny}
@@ -74,10 +74,10 @@ module _ (page : List ℕ) (old new : Option (List ℕ)) (faults_old faults_new 
   of_page (Some (Refusal.Late why)) prints = absurd prints
 
   -- a project that was loaded is printed, unless memory is wanted or the output fails
-  pub page_complete : (cwd : List ℕ) (files_old files_new : ℕ) (refusal : Option Refusal) → PrintsPage page refusal old new faults_old faults_new → OnlyOutsideFails cwd files_old files_new faults_old faults_new refusal
-  page_complete cwd files_old files_new refusal prints = at refusal (of_page refusal prints)
+  pub page_complete : (ReadFailed : Option Refusal → Type 0) (refusal : Option Refusal) → PrintsPage page refusal old new faults_old faults_new → OnlyOutsideFails ReadFailed faults_old faults_new refusal
+  page_complete ReadFailed refusal prints = at refusal (of_page refusal prints)
     where
-      at : (refusal : Option Refusal) → IsOfPage refusal → OnlyOutsideFails cwd files_old files_new faults_old faults_new refusal
+      at : (refusal : Option Refusal) → IsOfPage refusal → OnlyOutsideFails ReadFailed faults_old faults_new refusal
       at None h = tt
       at (Some (Refusal.Outside Part.Out)) h = h
       at (Some Refusal.Memory) h = tt

@@ -1,17 +1,16 @@
 -- What the command `config` leaves.
-use Rattle.std.specs.Prelude.{◌≡◌, ◌≤◌, ℕ, Bool, true, false, if◌then◌else◌, List, [], Option, Some, None, IfSome, Ok, Err, Result, IfOk, length, take}
+use Rattle.std.specs.Prelude.{◌≡◌, ◌≤◌, ℕ, Bool, false, if◌then◌else◌, List, [], Option, Some, None, IfSome, Ok, Err, Result, IfOk, length, take}
 use Rattle.asked_project.specs.Asking.{Variables}
-use Rattle.asked_project.specs.Meaning.{meaning}
+use Rattle.asked_project.specs.Meaning.{IsFailedRead, IsSpelled, meaning}
 use Rattle.compose_words.specs.declared.Command.{Command}
 use Rattle.compose_words.specs.declared.Options.{Options}
 use Rattle.compose_words.specs.declared.WordsRefusal.{WordsRefusal}
+use Rattle.include_extends.specs.declared.LoadRefusal.{LoadRefusal}
 use Rattle.project_print.specs.ProjectPages.{project_page}
 use Rattle.outside_files.specs.Counts.{Rose}
 use Rattle.outside_files.specs.Files.{Contents}
 use Rattle.outside_files.specs.Sinks.{GrewBy}
-use Rattle.plain_services.specs.Loading.{IsSpelled, compose_path}
 use Rattle.service_attrs.specs.declared.Project.{Project}
-use Rattle.plain_services.specs.declared.LoadRefusal.{LoadRefusal}
 use Rattle.refusals.specs.declared.Part.{Part}
 use Rattle.refusals.specs.declared.Refusal.{Refusal}
 
@@ -39,18 +38,22 @@ abbrev pub page_asked : Option Command → Project → List ℕ
 page_asked None project = []
 page_asked (Some command) project = page_for command project
 
--- a fact on the project that a call loads: the one that its words, variables and files mean where the files are told, else one that
--- some text of the Compose file spells
-abbrev pub ForProject : List (List ℕ) → Variables → List ℕ → Option Contents → (Project → Type 0) → Type 0
-ForProject words env cwd None Fact = (project : Project) × IsSpelled cwd project × Fact project
-ForProject words env cwd (Some contents) Fact = (project : Project) × (meaning words env cwd contents ≡ Ok project) × Fact project
+-- a fact on the project that a call loads: the one that its words, variables and files mean where the files are told,
+-- else one that some answers of reads give
+abbrev pub ForProject :
+    List (List ℕ) → Variables → List ℕ → Option Contents → (Project → Type 0) → Type 0
+ForProject words env cwd None Fact =
+    (project : Project) × IsSpelled words env cwd None project × Fact project
+ForProject words env cwd (Some contents) Fact =
+    (project : Project) × (meaning words env cwd contents ≡ Ok project) × Fact project
 
 -- a fact that holds where the files are told and a project is meant
 abbrev pub IfLoads : List (List ℕ) → Variables → List ℕ → Option Contents → Type 0 → Type 0
-IfLoads words env cwd told Fact = IfSome told (λ contents. IfOk (meaning words env cwd contents) (λ _. Fact))
+IfLoads words env cwd told Fact =
+    IfSome told (λ contents. IfOk (meaning words env cwd contents) (λ _. Fact))
 
--- what `config` may be refused with: the words, loading, the project's name, what it declares, a fault of the output, or a want
--- of memory
+-- what `config` may be refused with: the words, loading, the project's name, what it declares, a fault of the output,
+-- or a want of memory
 abbrev pub IsOfConfig : Option Refusal → Type 0
 IsOfConfig None = Unit {0}
 IsOfConfig (Some (Refusal.Words refusal)) = Unit {0}
@@ -69,19 +72,22 @@ GrewByPrefix old new page = (n : ℕ) × (n ≤ length page) × GrewBy old (take
 -- what became of a page: it was written whole; or the output failed, or memory was wanted, after a prefix of it
 abbrev pub PrintsPage : List ℕ → Option Refusal → Option (List ℕ) → Option (List ℕ) → ℕ → ℕ → Type 0
 PrintsPage page None old new faults_old faults_new = GrewBy old page new
-PrintsPage page (Some (Refusal.Outside Part.Out)) old new faults_old faults_new = Rose faults_old faults_new × GrewByPrefix old new page
+PrintsPage page (Some (Refusal.Outside Part.Out)) old new faults_old faults_new =
+    Rose faults_old faults_new × GrewByPrefix old new page
 PrintsPage page (Some Refusal.Memory) old new faults_old faults_new = GrewByPrefix old new page
 PrintsPage page _ old new faults_old faults_new = ⊥
 
--- a call is refused since the read of the Compose file failed, which the files counted
-abbrev pub IsReadFault : List ℕ → ℕ → ℕ → Option Refusal → Type 0
-IsReadFault cwd old new (Some (Refusal.Load (LoadRefusal.ReadFault path))) = (path ≡ compose_path cwd) × Rose old new
-IsReadFault cwd old new _ = ⊥
+-- a call is refused since a read failed, which its load comes to and the files counted
+abbrev pub IsReadFault :
+    List (List ℕ) → Variables → List ℕ → Option Contents → ℕ → ℕ → Option Refusal → Type 0
+IsReadFault words env cwd told old new (Some (Refusal.Load (LoadRefusal.ReadFault path))) =
+    IsFailedRead words env cwd told old new path
+IsReadFault words env cwd told old new _ = ⊥
 
--- nothing but what is outside hinders a call: it ends well, or memory is wanted, or the read of the Compose file failed, or the
--- output did; each fault was counted
-abbrev pub OnlyOutsideFails : List ℕ → ℕ → ℕ → ℕ → ℕ → Option Refusal → Type 0
-OnlyOutsideFails cwd files_old files_new out_old out_new None = Unit {0}
-OnlyOutsideFails cwd files_old files_new out_old out_new (Some Refusal.Memory) = Unit {0}
-OnlyOutsideFails cwd files_old files_new out_old out_new (Some (Refusal.Outside Part.Out)) = Rose out_old out_new
-OnlyOutsideFails cwd files_old files_new out_old out_new refusal = IsReadFault cwd files_old files_new refusal
+-- nothing but what is outside hinders a call: it ends well, or memory is wanted, or a read failed so, or the output
+-- did, which was counted
+abbrev pub OnlyOutsideFails : (Option Refusal → Type 0) → ℕ → ℕ → Option Refusal → Type 0
+OnlyOutsideFails ReadFailed out_old out_new None = Unit {0}
+OnlyOutsideFails ReadFailed out_old out_new (Some Refusal.Memory) = Unit {0}
+OnlyOutsideFails ReadFailed out_old out_new (Some (Refusal.Outside Part.Out)) = Rose out_old out_new
+OnlyOutsideFails ReadFailed out_old out_new refusal = ReadFailed refusal

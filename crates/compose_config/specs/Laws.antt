@@ -13,23 +13,30 @@ text_word text = scalar (doubled text)
 -- the lines of a service, by its key and its image
 abbrev pub service_lines : Service → List ℕ
 service_lines service =
-    codes "  " ++ (scalar service.key ++ (codes ":\n    image: " ++ (text_word service.image ++ codes "\n    network_mode: none\n")))
+    codes "  " ++ (scalar service.key ++ (codes ":\n    image: "
+    ++ (text_word service.image ++ codes "\n    network_mode: none\n")))
 
--- the page of a project that has a service is the line of its name, a line above the services, and the lines of each service
+-- the page of a project that has a service is the line of its name, a line above the services, and the lines of each
+-- service
 abbrev pub PagesHaveTheirLines : Type 0
 PagesHaveTheirLines =
     (project : Project) → 0 < length project.services
-    → project_page project ≡ codes "name: " ++ (text_word project.name ++ (codes "\nservices:\n" ++ flat_map service_lines project.services))
+    → project_page project
+    ≡ codes "name: " ++ (text_word project.name
+    ++ (codes "\nservices:\n" ++ flat_map service_lines project.services))
 
 -- the page of a project that has no service is the line of its name, and a line that says that there are none
 abbrev pub EmptyProjectsHaveTwoLines : Type 0
 EmptyProjectsHaveTwoLines =
     (project : Project) → project.services ≡ []
-    → project_page project ≡ codes "name: " ++ (text_word project.name ++ codes "\nservices: {}\n")
+    → project_page project
+    ≡ codes "name: " ++ (text_word project.name ++ codes "\nservices: {}\n")
 
 -- where no word needs quotes, the page is the line of the name above the text of a Compose file with these services
 abbrev pub PlainPagesAreFiles : Type 0
 PlainPagesAreFiles =
     (project : Project) → 0 < length project.services
-    → All (λ service. is_plain service.key ≡ true) project.services → All (λ service. is_plain service.image ≡ true) project.services
-    → project_page project ≡ codes "name: " ++ (text_word project.name ++ (codes "\n" ++ prints_of project.services))
+    → All (λ service. is_plain service.key ≡ true) project.services
+    → All (λ service. is_plain service.image ≡ true) project.services
+    → project_page project
+    ≡ codes "name: " ++ (text_word project.name ++ (codes "\n" ++ prints_of project.services))

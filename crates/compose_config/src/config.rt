@@ -1,15 +1,15 @@
 ghost use Rattle.std.specs.Prelude.{◌≡◌, ◌⊎◌, ◌<◌, ◌^◌, ◌↔◌, Err, None, Some, IfErr, IfSome, IsTrue, length};
 ghost use Rattle.asked_project.specs.Asking.{command_of, options_asked};
 ghost use Rattle.asked_project.specs.Meaning.{IsFailedRead, meaning};
-ghost use Rattle.compose_config.specs.Commands.{ForProject, GrewByPrefix, IfLoads, IsConfigOrRefused, IsOfConfig, OnlyOutsideFails, PrintsPage, is_quiet, page_asked, page_for};
+ghost use Rattle.compose_config.specs.Commands.{ForProject, GrewByPrefix, IfLoads, IsConfigOrRefused, IsOfConfig, IsReadFault, OnlyOutsideFails, PrintsPage, is_quiet, page_asked, page_for};
 ghost use Rattle.compose_words.specs.Reading.{options_of};
+ghost use Rattle.include_extends.specs.declared.LoadRefusal.{LoadRefusal};
 ghost use Rattle.project_print.specs.ProjectPages.{project_page};
 ghost use Rattle.outside_files.specs.Counts.{Rose};
 ghost use Rattle.outside_files.specs.Sinks.{GrewBy};
 ghost use Rattle.service_attrs.specs.Projects.{IsInOrder};
 ghost use Rattle.refusals.specs.Origins.{IsOfLoading, is_of_words};
 ghost use Rattle.refusals.specs.Statuses.{status_of};
-ghost use Rattle.plain_services.specs.declared.LoadRefusal.{LoadRefusal};
 ghost use Rattle.refusals.specs.declared.Part.{Part};
 ghost use Rattle.refusals.specs.declared.Refusal.{Refusal};
 ghost use Rattle.refusals.specs.Refused.{IsRefusal};
@@ -32,8 +32,9 @@ pub struct ConfigEnd {
 
 /// Prints the project that the words of the command line ask for, and always returns.
 ///
-/// The words have to be those of `config`, or of no command. The Compose file is `compose.yaml` in the working directory `cwd`.
-/// The page of its project is written to `out`, and nothing of it with `--quiet`; the line of a refusal is written to `err`.
+/// The words have to be those of `config`, or of no command. The Compose file is `compose.yaml` in the working
+/// directory `cwd`, and its scalars take the values of the variables `env` and of env files. The page of its project
+/// is written to `out`, and nothing of it with `--quiet`; the line of a refusal is written to `err`.
 pub fn config_run<F: Files, O: Sink, G: Sink>(
     alloc: Global,
     words: &List<Text>,
@@ -47,31 +48,47 @@ pub fn config_run<F: Files, O: Sink, G: Sink>(
     requires command { IsConfigOrRefused (options_of words.now) }
 
     // Where the words are refused, or the files are told, what is meant to be refused is what the call is refused with.
-    ensures words { IfErr (options_asked words.now env.now) (λ refusal. IsSaid refusal result.refusal) }
-    ensures words_only { (refusal : _) → IsTrue (is_of_words refusal) → result.refusal ≡ Some refusal → options_asked words.now env.now ≡ Err refusal }
-    ensures loading { IfSome (F.told files.old) (λ contents. IfErr (meaning words.now env.now cwd.now contents) (λ refusal. IsRefusal refusal result.refusal)) }
+    ensures words { IfErr (options_asked words.now env.now) (λ refusal.
+        IsSaid refusal result.refusal) }
+    ensures words_only { (refusal : _) → IsTrue (is_of_words refusal)
+        → result.refusal ≡ Some refusal
+        → options_asked words.now env.now ≡ Err refusal }
+    ensures loading { IfSome (F.told files.old) (λ contents.
+        IfErr (meaning words.now env.now cwd.now contents) (λ refusal.
+        IsRefusal refusal result.refusal)) }
 
     // No other refusals than these come, and a fault is told only where something outside failed.
     ensures kind { IsOfConfig result.refusal }
-    ensures read_fault { (path : _) → result.refusal ≡ Some (Refusal.Load (LoadRefusal.ReadFault path))
-        → IsFailedRead words.now env.now cwd.now (F.faults files.old) (F.faults files.new) path }
-    ensures output_fault { result.refusal ≡ Some (Refusal.Outside Part.Out) → Rose (O.faults out.old) (O.faults out.new) }
+    ensures read_fault { (path : _)
+        → result.refusal ≡ Some (Refusal.Load (LoadRefusal.ReadFault path))
+        → IsFailedRead words.now env.now cwd.now (F.told files.old)
+        (F.faults files.old) (F.faults files.new) path }
+    ensures output_fault { result.refusal ≡ Some (Refusal.Outside Part.Out)
+        → Rose (O.faults out.old) (O.faults out.new) }
 
-    // At status 0 the page of the project was written whole, or nothing with `--quiet`; and else nothing, or a prefix of it.
-    ensures page { result.status ≡ 0 → ForProject words.now env.now cwd.now (F.told files.old) (λ project.
-        GrewBy (O.written out.old) (page_asked (command_of words.now env.now) project) (O.written out.new)) }
-    ensures prefix { (O.written out.new ≡ O.written out.old) ⊎ ForProject words.now env.now cwd.now (F.told files.old) (λ project.
-        GrewByPrefix (O.written out.old) (O.written out.new) (page_asked (command_of words.now env.now) project)) }
+    // At status 0 the page of the project was written whole, or nothing with `--quiet`; and else nothing, or a prefix
+    // of it.
+    ensures page { result.status ≡ 0
+        → ForProject words.now env.now cwd.now (F.told files.old) (λ project.
+        GrewBy (O.written out.old)
+        (page_asked (command_of words.now env.now) project) (O.written out.new)) }
+    ensures prefix { (O.written out.new ≡ O.written out.old)
+        ⊎ ForProject words.now env.now cwd.now (F.told files.old) (λ project.
+        GrewByPrefix (O.written out.old) (O.written out.new)
+        (page_asked (command_of words.now env.now) project)) }
     ensures quiet { IsOfLoading result.refusal → O.written out.new ≡ O.written out.old }
 
     // A project that loading gives is printed, unless memory is wanted or something outside fails.
-    ensures complete { IfLoads words.now env.now cwd.now (F.told files.old)
-        (OnlyOutsideFails cwd.now (F.faults files.old) (F.faults files.new) (O.faults out.old) (O.faults out.new) result.refusal) }
+    ensures complete { IfLoads words.now env.now cwd.now (F.told files.old) (OnlyOutsideFails
+        (IsReadFault words.now env.now cwd.now (F.told files.old)
+        (F.faults files.old) (F.faults files.new))
+        (O.faults out.old) (O.faults out.new) result.refusal) }
 
     // The status is that of the refusal, whose line is written to `err`.
     ensures status { result.status ≡ status_of result.refusal }
     ensures none { (result.refusal ≡ None) ↔ (result.status ≡ 0) }
-    ensures line { SaysRefusal result.refusal (G.written err.old) (G.written err.new) (G.faults err.old) (G.faults err.new) }
+    ensures line { SaysRefusal result.refusal (G.written err.old) (G.written err.new)
+        (G.faults err.old) (G.faults err.new) }
     ensures kept { F.told files.new ≡ F.told files.old }
 {
     match project_asked(alloc, words, env, cwd, files) {
@@ -85,7 +102,8 @@ fn ended<G: Sink>(alloc: Global, refusal: Option<Refusal>, err: &mut G) -> Confi
     ensures refusal { IsSaidIfAny refusal result.refusal }
     ensures status { result.status ≡ status_of result.refusal }
     ensures none { (result.refusal ≡ None) ↔ (result.status ≡ 0) }
-    ensures line { SaysRefusal result.refusal (G.written err.old) (G.written err.new) (G.faults err.old) (G.faults err.new) }
+    ensures line { SaysRefusal result.refusal (G.written err.old) (G.written err.new)
+        (G.faults err.old) (G.faults err.new) }
 {
     let refusal = say_if_any(alloc, refusal, err);
     ConfigEnd {
@@ -94,8 +112,8 @@ fn ended<G: Sink>(alloc: Global, refusal: Option<Refusal>, err: &mut G) -> Confi
     }
 }
 
-/// Prints what a call is asked for: the page of the project, or nothing with `--quiet`. The line of a refusal, a fault of
-/// the output or a want of memory, is written to `err`.
+/// Prints what a call is asked for: the page of the project, or nothing with `--quiet`. The line of a refusal, a
+/// fault of the output or a want of memory, is written to `err`.
 pub fn print_asked<O: Sink, G: Sink>(
     alloc: Global,
     asked: &Asked,
@@ -103,10 +121,13 @@ pub fn print_asked<O: Sink, G: Sink>(
     err: &mut G,
 ) -> ConfigEnd
     requires order { IsInOrder asked.now.project.services }
-    ensures printed { PrintsPage (page_for asked.now.options.command asked.now.project) result.refusal (O.written out.old) (O.written out.new) (O.faults out.old) (O.faults out.new) }
+    ensures printed { PrintsPage (page_for asked.now.options.command asked.now.project)
+        result.refusal
+        (O.written out.old) (O.written out.new) (O.faults out.old) (O.faults out.new) }
     ensures status { result.status ≡ status_of result.refusal }
     ensures none { (result.refusal ≡ None) ↔ (result.status ≡ 0) }
-    ensures line { SaysRefusal result.refusal (G.written err.old) (G.written err.new) (G.faults err.old) (G.faults err.new) }
+    ensures line { SaysRefusal result.refusal (G.written err.old) (G.written err.new)
+        (G.faults err.old) (G.faults err.new) }
 {
     let refusal = write_asked(alloc, asked, out);
     ended(alloc, refusal, err)
@@ -115,7 +136,8 @@ pub fn print_asked<O: Sink, G: Sink>(
 /// Writes what a command prints of a project.
 fn write_asked<O: Sink>(alloc: Global, asked: &Asked, out: &mut O) -> Option<Refusal>
     requires order { IsInOrder asked.now.project.services }
-    ensures { PrintsPage (page_for asked.now.options.command asked.now.project) result (O.written out.old) (O.written out.new) (O.faults out.old) (O.faults out.new) }
+    ensures { PrintsPage (page_for asked.now.options.command asked.now.project) result
+        (O.written out.old) (O.written out.new) (O.faults out.old) (O.faults out.new) }
 {
     if is_quiet(&asked.options.command) {
         None
@@ -142,7 +164,8 @@ fn is_quiet(command: &Command) -> bool
 /// Writes the page of a project.
 fn write_page<O: Sink>(alloc: Global, project: &Project, out: &mut O) -> Option<Refusal>
     requires order { IsInOrder project.now.services }
-    ensures { PrintsPage (project_page project.now) result (O.written out.old) (O.written out.new) (O.faults out.old) (O.faults out.new) }
+    ensures { PrintsPage (project_page project.now) result
+        (O.written out.old) (O.written out.new) (O.faults out.old) (O.faults out.new) }
 {
     let Ok(page) = page(alloc, project) else {
         return Some(Refusal::Memory);

@@ -1,7 +1,7 @@
 use Rattle.std.proofs.Common.{Err, ap, inr}
 use Rattle.asked_project.specs.Asking.{command_of}
 use Rattle.asked_project.specs.Meaning.{meaning}
-use Rattle.compose_config.specs.Commands.{GrewByPrefix, page_asked, page_for}
+use Rattle.compose_config.specs.Commands.{GrewByPrefix, IsReadFault, page_asked, page_for}
 use Rattle.compose_config.proofs.Loads.{IfSome-map, before_kind, before_no_outside, command_is, for_project, if_loads, means_unrefused, no_words_refused, only_outside, said_exactly, said_read, said_refusal, said_some, said_words}
 use Rattle.compose_config.proofs.Printed.{asked_prefix, asked_whole, page_complete, page_fault, page_kind, page_no_loading, page_no_read, page_no_words}
 use Rattle.outside_files.specs.Sinks.{GrewBy}
@@ -40,7 +40,7 @@ pub returns-in-Ok-clause-quiet : goal.returns-in-Ok-clause-quiet
 returns-in-Ok-clause-quiet g c = λ loading. absurd (page_no_loading (page_for c.in-Ok.asked.options.command c.in-Ok.asked.project) (g.O.Sink.written c.args.out.now) (g.O.Sink.written c.print_asked.new.out) (g.O.Sink.faults c.args.out.now) (g.O.Sink.faults c.print_asked.new.out) c.print_asked.result.refusal c.print_asked.ensures.printed loading)
 
 pub returns-in-Ok-clause-complete : goal.returns-in-Ok-clause-complete
-returns-in-Ok-clause-complete g c = if_loads c.args.words.now c.args.env.now c.args.cwd.now (g.F.Files.told c.args.files.now) _ (page_complete (page_for c.in-Ok.asked.options.command c.in-Ok.asked.project) (g.O.Sink.written c.args.out.now) (g.O.Sink.written c.print_asked.new.out) (g.O.Sink.faults c.args.out.now) (g.O.Sink.faults c.print_asked.new.out) c.args.cwd.now (g.F.Files.faults c.args.files.now) (g.F.Files.faults c.project_asked.new.files) c.print_asked.result.refusal c.print_asked.ensures.printed)
+returns-in-Ok-clause-complete g c = if_loads c.args.words.now c.args.env.now c.args.cwd.now (g.F.Files.told c.args.files.now) _ (page_complete (page_for c.in-Ok.asked.options.command c.in-Ok.asked.project) (g.O.Sink.written c.args.out.now) (g.O.Sink.written c.print_asked.new.out) (g.O.Sink.faults c.args.out.now) (g.O.Sink.faults c.print_asked.new.out) (IsReadFault c.args.words.now c.args.env.now c.args.cwd.now (g.F.Files.told c.args.files.now) (g.F.Files.faults c.args.files.now) (g.F.Files.faults c.project_asked.new.files)) c.print_asked.result.refusal c.print_asked.ensures.printed)
 
 pub returns-in-Err-clause-words : goal.returns-in-Err-clause-words
 returns-in-Err-clause-words g c = said_words c.args.words.now c.args.env.now c.in-Err.refusal c.ended.result.refusal c.in-Err.ensures.words c.ended.ensures.refusal
