@@ -1,11 +1,8 @@
 -- What a project declares is whole, its slots need no other, and what is sent for each slot is made for it.
-use Rattle.std.proofs.Common.{◌≡◌, ℕ, List, subst}
-use Rattle.engine_types.specs.declared.Slot.{Slot}
 use Rattle.identity.proofs.Declares.{declares_alone, declares_plain, declares_unrolled, each_slot, own_endpoint, own_hash, own_image, own_labels, own_number}
 use Rattle.identity.specs.Declaring.{declared_of, slot_of}
 use Rattle.service_attrs.specs.declared.Service.{Service}
 use Rattle.service_attrs.specs.declared.Project.{Project}
-use Rattle.run_model.specs.EngineRules.{Among}
 use Rattle.serial_run.specs.Serial.{WaitsForNone}
 use Rattle.world_laws.specs.OwnSpecs.{HasOwnSpecs, IsOwnSpec}
 

@@ -6,16 +6,15 @@ use Rattle.asked_project.specs.Meaning.{IsFailedRead, MeansAs, meaning}
 use Rattle.compose_cli.specs.Ends.{IsRefusedWith, SendsNothing}
 use Rattle.compose_cli.specs.Runs.{IfRuns, IsUnbegun, aim_asked}
 use Rattle.compose_cli.specs.declared.ended.Ended.{Ended}
-use Rattle.compose_config.proofs.Loads.{answered, loads_weaker, not_loaded, said_read, said_refusal}
+use Rattle.compose_config.proofs.Loads.{answered, loads_weaker, not_loaded, said_refusal}
 use Rattle.compose_config.specs.Commands.{IfLoads, IsConfig, IsReadFault}
 use Rattle.compose_words.specs.declared.Command.{Command}
+use Rattle.include_extends.specs.declared.LoadRefusal.{LoadRefusal}
 use Rattle.outside_files.specs.Files.{Contents}
-use Rattle.plain_services.specs.declared.LoadRefusal.{LoadRefusal}
 use Rattle.refusals.proofs.Said.{said}
 use Rattle.refusals.specs.Origins.{IsBeforeDial, IsOfLoading, is_of_words}
 use Rattle.refusals.specs.Refused.{IsRefusal}
 use Rattle.refusals.specs.Saying.{IsSaid}
-use Rattle.refusals.specs.declared.Part.{Part}
 use Rattle.refusals.specs.declared.Refusal.{Refusal}
 use Rattle.run_model.specs.Plans.{Aim}
 use Rattle.service_attrs.specs.declared.Project.{Project}
@@ -38,17 +37,20 @@ pub if_runs : (words : List (List ℕ)) (env : Variables) (Fact : Type 0) → Fa
 if_runs words env Fact fact = where_it_runs (aim_asked (command_of words env)) Fact fact
 
 module _ (words : List (List ℕ)) (env : Variables) (cwd : List ℕ) (told : Option Contents) (old new : ℕ) where
+  abbrev Failed : Option Refusal → Type 0
+  Failed found = IsReadFault words env cwd told old new found
+
   -- a refusal of loading, where a project is meant, is a read that failed
   abbrev OnlyRead : Option Refusal → Type 0
-  OnlyRead found = IsOfLoading found → IsReadFault cwd old new found
+  OnlyRead found = IsOfLoading found → Failed found
 
   pub only_reads : (refusal : Refusal) (found : Option Refusal) → IfSome told (λ contents. MeansAs (meaning words env cwd contents) (answered refusal))
-      → ((path : List ℕ) → refusal ≡ Refusal.Load (LoadRefusal.ReadFault path) → IsFailedRead words env cwd old new path) → IsSaid refusal found → IsOfLoading found
-      → IfRuns words env (λ _. IfLoads words env cwd told (IsReadFault cwd old new found))
+      → ((path : List ℕ) → refusal ≡ Refusal.Load (LoadRefusal.ReadFault path) → IsFailedRead words env cwd told old new path) → IsSaid refusal found → IsOfLoading found
+      → IfRuns words env (λ _. IfLoads words env cwd told (Failed found))
   only_reads refusal found means read is_said of_loading =
-      if_runs words env (IfLoads words env cwd told (IsReadFault cwd old new found))
-      (loads_weaker words env cwd told (OnlyRead (Some refusal)) (IsReadFault cwd old new found)
-      (not_loaded words env cwd told (λ r. OnlyRead (Some r)) refusal means (λ never. absurd never) (λ path e _. let failed = read path e in (failed.1, failed.2)))
+      if_runs words env (IfLoads words env cwd told (Failed found))
+      (loads_weaker words env cwd told (OnlyRead (Some refusal)) (Failed found)
+      (not_loaded words env cwd told (λ r. OnlyRead (Some r)) refusal means (λ never. absurd never) (λ path e _. read path e))
       (λ only. said refusal found is_said OnlyRead (λ never. absurd never) only of_loading))
 
 -- what comes before the dial begins no run

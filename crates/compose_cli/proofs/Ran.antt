@@ -1,20 +1,17 @@
 -- What a call leaves, by what its run left.
-use Rattle.std.proofs.Common.{◌≡◌, ◌⊎◌, ℕ, zero, suc, ◌<◌, ◌≤◌, Bool, true, false, List, [], ◌∷◌, ◌++◌, Option, Some, None, length, take, refl, sym, ap, ◌∙◌, subst, inl, inr, arith, append-nil}
-use Rattle.std.specs.Prelude.{IfSome, IsSomeAnd, Ok, if◌then◌else◌, option_map, slice_get}
+use Rattle.std.proofs.Common.{◌≡◌, ℕ, zero, suc, ◌≤◌, Bool, true, false, List, [], ◌∷◌, ◌++◌, Option, Some, None, length, take, refl, sym, ap, ◌∙◌, subst, inl, inr, arith, append-nil}
+use Rattle.std.specs.Prelude.{IfSome, Ok, if◌then◌else◌, option_map, slice_get}
 use Rattle.std.specs.Option.{option_map_or}
 use Rattle.engine_types.specs.declared.Engine.{Engine}
 use Rattle.engine_types.specs.declared.RunFault.{RunFault}
 use Rattle.asked_project.specs.Asking.{Variables, command_of}
-use Rattle.asked_project.specs.Meaning.{MeansAs, meaning}
+use Rattle.asked_project.specs.Meaning.{IsSpelled, MeansAs, meaning}
 use Rattle.asked_project.specs.declared.Asked.{Asked}
 use Rattle.compose_cli.specs.Runs.{ForTask, HoldsExactly, HoldsNone, IfRuns, IsCausedAnew, IsRefusalOf, IsStatusOf, IsUnbegun, LeadsOn, Reports, RunsTask, aim_asked, aim_for, run_options, task_for}
 use Rattle.engine_types.specs.declared.Entry.{Entry}
 use Rattle.engine_types.specs.declared.Exchange.{Exchange}
 use Rattle.compose_config.proofs.Loads.{for_project}
 use Rattle.compose_words.specs.declared.Command.{Command}
-use Rattle.plain_services.specs.Loading.{IsSpelled}
-use Rattle.service_attrs.specs.declared.Project.{Project}
-use Rattle.outside_files.specs.Counts.{Rose}
 use Rattle.outside_files.specs.Files.{Contents}
 use Rattle.outside_api.specs.Accounts.{Account, account}
 use Rattle.outside_api.specs.Hands.{BeginsWith, Heard, HeardNothing}
@@ -283,7 +280,7 @@ has_begun journal refusal unbegun e a = begun_by journal a (λ n. subst IsUnbegu
 
 -- a fact on the task that the words ask for of the project that was asked for
 pub for_task : (words : List (List ℕ)) (env : Variables) (cwd : List ℕ) (told : Option Contents) (first : ℕ) (aim : Aim) (asked : Asked) (Fact : Task → Type 0) → aim_asked (command_of words env) ≡ Some aim
-    → IfSome told (λ contents. MeansAs (meaning words env cwd contents) (Ok asked)) → IsSpelled cwd asked.project → Fact (task_for aim (limits_of run_options first) asked.project)
+    → IfSome told (λ contents. MeansAs (meaning words env cwd contents) (Ok asked)) → IsSpelled words env cwd told asked.project → Fact (task_for aim (limits_of run_options first) asked.project)
     → ForTask words env cwd told first Fact
 for_task words env cwd told first aim asked Fact runs means spelled fact =
     rw runs (for_project words env cwd told asked (λ p. Fact (task_for aim (limits_of run_options first) p)) means spelled fact)

@@ -5,12 +5,14 @@ use Rattle.engine_types.specs.declared.Outcome.{Outcome}
 use Rattle.engine_types.specs.declared.SeenFault.{SeenFault}
 use Rattle.engine_types.specs.declared.WireEnd.{WireEnd}
 use Rattle.compose_words.specs.declared.WordsRefusal.{WordsRefusal}
-use Rattle.plain_services.specs.Statuses.{project_status, yaml_status}
+use Rattle.dotenv.specs.declared.refusal.EnvRefusal.{EnvRefusal}
+use Rattle.include_extends.specs.declared.LoadRefusal.{LoadRefusal}
+use Rattle.interpolate.specs.declared.refusal.SubstTreeRefusal.{SubstTreeRefusal}
+use Rattle.plain_services.specs.Statuses.{env_status, project_status, tree_status, yaml_status}
 use Rattle.refusals.specs.Statuses.{refusal_status, status_of, words_status}
-use Rattle.plain_services.specs.declared.LoadRefusal.{LoadRefusal}
 use Rattle.plain_services.specs.declared.ProjectRefusal.{ProjectRefusal}
 use Rattle.refusals.specs.declared.Refusal.{Refusal}
-use Rattle.plain_services.specs.declared.Unbuilt.{Unbuilt}
+use Rattle.refusals.specs.declared.Unbuilt.{Unbuilt}
 use Rattle.run_model.specs.Ending.{lost_status, outcome_status, seen_status}
 use Rattle.yaml_lines.specs.declared.refusal.YamlRefusal.{YamlRefusal}
 
@@ -47,7 +49,19 @@ yaml_not_zero (YamlRefusal.TooManyNodes place) e = absurd (cc e)
 yaml_not_zero (YamlRefusal.TooMuchText place) e = absurd (cc e)
 yaml_not_zero YamlRefusal.Memory e = absurd (cc e)
 
+env_not_zero : (refusal : EnvRefusal) → env_status refusal ≡ 0 → ⊥
+env_not_zero (EnvRefusal.BadLine line) e = absurd (cc e)
+env_not_zero (EnvRefusal.BadQuote line) e = absurd (cc e)
+env_not_zero (EnvRefusal.Subst line cause) e = absurd (cc e)
+env_not_zero EnvRefusal.Memory e = absurd (cc e)
+
+tree_not_zero : (refusal : SubstTreeRefusal) → tree_status refusal ≡ 0 → ⊥
+tree_not_zero (SubstTreeRefusal.At path cause) e = absurd (cc e)
+tree_not_zero SubstTreeRefusal.TooMuchText e = absurd (cc e)
+tree_not_zero SubstTreeRefusal.Memory e = absurd (cc e)
+
 project_not_zero : (refusal : ProjectRefusal) → project_status refusal ≡ 0 → ⊥
+project_not_zero (ProjectRefusal.BadShape path) e = absurd (cc e)
 project_not_zero (ProjectRefusal.BadName name) e = absurd (cc e)
 project_not_zero (ProjectRefusal.TooManyServices count) e = absurd (cc e)
 
@@ -64,11 +78,17 @@ words_not_zero WordsRefusal.Memory e = absurd (cc e)
 refusal_not_zero : (refusal : Refusal) → refusal_status refusal ≡ 0 → ⊥
 refusal_not_zero (Refusal.Words refusal) e = words_not_zero refusal e
 refusal_not_zero (Refusal.NotBuilt Unbuilt.Words) e = absurd (cc e)
+refusal_not_zero (Refusal.NotBuilt (Unbuilt.Variable name)) e = absurd (cc e)
 refusal_not_zero (Refusal.NotBuilt (Unbuilt.Attribute path)) e = absurd (cc e)
 refusal_not_zero (Refusal.Load (LoadRefusal.NotFound path)) e = absurd (cc e)
 refusal_not_zero (Refusal.Load (LoadRefusal.ReadFault path)) e = absurd (cc e)
 refusal_not_zero (Refusal.Load (LoadRefusal.FileTooLarge path)) e = absurd (cc e)
-refusal_not_zero (Refusal.Load (LoadRefusal.Yaml path refusal)) e = yaml_not_zero refusal e
+refusal_not_zero (Refusal.Load (LoadRefusal.TooManyFiles path)) e = absurd (cc e)
+refusal_not_zero (Refusal.Load (LoadRefusal.NoHome path)) e = absurd (cc e)
+refusal_not_zero (Refusal.Load (LoadRefusal.Yaml path cause)) e = yaml_not_zero cause e
+refusal_not_zero (Refusal.Load (LoadRefusal.EnvFile path cause)) e = env_not_zero cause e
+refusal_not_zero (Refusal.Load (LoadRefusal.Subst path cause)) e = tree_not_zero cause e
+refusal_not_zero (Refusal.Load LoadRefusal.Memory) e = absurd (cc e)
 refusal_not_zero (Refusal.Name refusal) e = project_not_zero refusal e
 refusal_not_zero (Refusal.Project refusal) e = project_not_zero refusal e
 refusal_not_zero (Refusal.Seen fault) e = seen_not_zero fault e

@@ -34,8 +34,10 @@ use Rattle.outside_files.specs.Writing.{Says}
 
 -- what a command's run is for: `up` and `down` leave volumes; the others run nothing
 abbrev pub aim_for : Command → Option Aim
-aim_for (Command.Up orphans wait seconds scale) = Some (record { purpose = Purpose.Up; orphans = orphans; volumes = false })
-aim_for (Command.Down orphans volumes seconds) = Some (record { purpose = Purpose.Down; orphans = orphans; volumes = false })
+aim_for (Command.Up orphans wait seconds scale) =
+    Some (record { purpose = Purpose.Up; orphans = orphans; volumes = false })
+aim_for (Command.Down orphans volumes seconds) =
+    Some (record { purpose = Purpose.Down; orphans = orphans; volumes = false })
 aim_for _ = None
 
 -- what the run of words is for, where they are built and run anything
@@ -60,28 +62,34 @@ first_reading clock (hand ∷ others) = (clock hand).first
 abbrev pub task_for : Aim → RunLimits → Project → Task
 task_for aim limits project = task_of (declared_of project) aim limits
 
--- a fact on the task that a call runs: what its words ask for, within the limits that its options and the first reading of hand
--- 0's clock set, of the project that the words, their variables and the files mean where the files are told, else of some project
-abbrev pub ForTask : List (List ℕ) → Variables → List ℕ → Option Contents → ℕ → (Task → Type 0) → Type 0
+-- a fact on the task that a call runs: what its words ask for, within the limits that its options and the first
+-- reading of hand 0's clock set, of the project that the words, their variables and the files mean where the files
+-- are told, else of some project
+abbrev pub ForTask :
+    List (List ℕ) → Variables → List ℕ → Option Contents → ℕ → (Task → Type 0) → Type 0
 ForTask words env cwd told first Fact =
-    IfRuns words env (λ aim. ForProject words env cwd told (λ project. Fact (task_for aim (limits_of run_options first) project)))
+    IfRuns words env (λ aim. ForProject words env cwd told (λ project.
+    Fact (task_for aim (limits_of run_options first) project)))
 
--- what a call is refused with whose run has this fault, if any: that fault, or a fault of the output where the run has none, or
--- want of memory
+-- what a call is refused with whose run has this fault, if any: that fault, or a fault of the output where the run
+-- has none, or want of memory
 abbrev pub IsRefusalOf : Option RunFault → ℕ → ℕ → Option Refusal → Type 0
 IsRefusalOf fault old new refusal =
     (refusal ≡ option_map run_refusal fault)
     ⊎ ((fault ≡ None) × (refusal ≡ Some (Refusal.Outside Part.Out)) × Rose old new)
     ⊎ (refusal ≡ Some Refusal.Memory)
 
--- the exit status of a call whose run has this status: that one, or 7 where the output failed after a run of status 0, or 9
+-- the exit status of a call whose run has this status: that one, or 7 where the output failed after a run of status
+-- 0, or 9
 abbrev pub IsStatusOf : ℕ → ℕ → Type 0
 IsStatusOf run status = (status ≡ run) ⊎ ((run ≡ 0) × (status ≡ 7)) ⊎ (status ≡ 9)
 
 -- a run's report was written to the output, or a prefix of it where that failed or memory was wanted
 abbrev pub Reports : List ℕ → Option Refusal → Option (List ℕ) → Option (List ℕ) → ℕ → ℕ → Type 0
 Reports report refusal old new faults_old faults_new =
-    Says report old new faults_old faults_new ⊎ ((refusal ≡ Some Refusal.Memory) × ((n : ℕ) × (n ≤ length report) × GrewBy old (take n report) new))
+    Says report old new faults_old faults_new
+    ⊎ ((refusal ≡ Some Refusal.Memory)
+    × ((n : ℕ) × (n ≤ length report) × GrewBy old (take n report) new))
 
 -- a call without a run was refused before it, or wanted memory
 abbrev pub IsUnbegun : Option Refusal → Type 0
@@ -96,7 +104,9 @@ IsUnbegun _ = ⊥
 
 -- where an Engine was told at first, and one is told now, a world of the run leads from the one to the other
 abbrev pub LeadsOn : Task → List Entry → Option Engine → Option Engine → Type 0
-LeadsOn task journal began now = IfSome began (λ first. IfSome now (λ last. (moves : List Move) × IsWorldOfRun task journal first moves last))
+LeadsOn task journal began now =
+    IfSome began (λ first. IfSome now (λ last.
+    (moves : List Move) × IsWorldOfRun task journal first moves last))
 
 -- where an Engine is told, it holds exactly what the task declares
 abbrev pub HoldsExactly : Task → Option Engine → Type 0
@@ -104,29 +114,40 @@ HoldsExactly task now = IfSome now (λ engine. IsExact task.declared engine task
 
 -- where an Engine is told, all that the task declares is gone
 abbrev pub HoldsNone : Task → Option Engine → Type 0
-HoldsNone task now = IfSome now (λ engine. IsGone task.declared engine task.aim.orphans task.aim.volumes)
+HoldsNone task now =
+    IfSome now (λ engine. IsGone task.declared engine task.aim.orphans task.aim.volumes)
 
--- each outcome of a worker's in the task's journal has its cause in its own exchange, with a hand that tells this now: before the
--- run its log was empty, it had heard nothing, and no exchange had failed
+-- each outcome of a worker's in the task's journal has its cause in its own exchange, with a hand that tells this
+-- now: before the run its log was empty, it had heard nothing, and no exchange had failed
 abbrev pub IsCausedAnew : Task → List Entry → ℕ → Account → Type 0
-IsCausedAnew task journal w now = (heard : Option (List Heard)) × HeardNothing heard × IsCaused task journal w (account [] heard 0) now
+IsCausedAnew task journal w now =
+    (heard : Option (List Heard)) × HeardNothing heard
+    × IsCaused task journal w (account [] heard 0) now
 
 -- a call ran a task: its journal, what each worker's hand tells, its refusal, and what it wrote
-pub record RunsTask {H : Type 0} (log : H → List Exchange) (heard : H → Option (List Heard)) (faults : H → ℕ) (task : Task) (ended : Ended H)
+pub record RunsTask {H : Type 0} (log : H → List Exchange) (heard : H → Option (List Heard))
+    (faults : H → ℕ) (task : Task) (ended : Ended H)
     (written_old written_new : Option (List ℕ)) (faults_old faults_new : ℕ) : Type 0 where
   pub run : IsRun task ended.journal
   pub left : IsLeftByAll task ended.journal
   pub hands : length ended.hands ≡ task.limits.workers
-  pub logs : (w : ℕ) (hand : H) → slice_get ended.hands w ≡ Some hand → GrowsBy (run_exchanges task ended.journal w) [] (log hand)
-  pub caused : (w : ℕ) (hand : H) → slice_get ended.hands w ≡ Some hand → IsCausedAnew task ended.journal w (account (log hand) (heard hand) (faults hand))
+  pub logs : (w : ℕ) (hand : H) → slice_get ended.hands w ≡ Some hand
+      → GrowsBy (run_exchanges task ended.journal w) [] (log hand)
+  pub caused : (w : ℕ) (hand : H) → slice_get ended.hands w ≡ Some hand
+      → IsCausedAnew task ended.journal w (account (log hand) (heard hand) (faults hand))
   pub refused : IsRefusalOf (run_fault task ended.journal) faults_old faults_new ended.refusal
-  pub reported : Reports (run_report task ended.journal) ended.refusal written_old written_new faults_old faults_new
+  pub reported : Reports (run_report task ended.journal) ended.refusal written_old written_new
+      faults_old faults_new
   pub spares : is_up task.aim.purpose ≡ true → SparesKept task ended.journal
   pub exact : ended.refusal ≡ None → is_up task.aim.purpose ≡ true → EndsExact task ended.journal
   pub gone : ended.refusal ≡ None → is_up task.aim.purpose ≡ false → EndsGone task ended.journal
 
 -- what became of the Engine that a call's hand tells, and that its plug told at first
-pub record MovesEngine {H : Type 0} (engine : H → Option Engine) (task : Task) (ended : Ended H) (began : Option Engine) : Type 0 where
-  pub leads : IfBegun ended.journal ((hand : H) → Among ended.hands hand → LeadsOn task ended.journal began (engine hand))
-  pub exact : ended.refusal ≡ None → is_up task.aim.purpose ≡ true → (hand : H) → Among ended.hands hand → HoldsExactly task (engine hand)
-  pub gone : ended.refusal ≡ None → is_up task.aim.purpose ≡ false → (hand : H) → Among ended.hands hand → HoldsNone task (engine hand)
+pub record MovesEngine {H : Type 0} (engine : H → Option Engine) (task : Task) (ended : Ended H)
+    (began : Option Engine) : Type 0 where
+  pub leads : IfBegun ended.journal ((hand : H) → Among ended.hands hand
+      → LeadsOn task ended.journal began (engine hand))
+  pub exact : ended.refusal ≡ None → is_up task.aim.purpose ≡ true → (hand : H)
+      → Among ended.hands hand → HoldsExactly task (engine hand)
+  pub gone : ended.refusal ≡ None → is_up task.aim.purpose ≡ false → (hand : H)
+      → Among ended.hands hand → HoldsNone task (engine hand)

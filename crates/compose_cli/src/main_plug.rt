@@ -6,8 +6,8 @@ use outside_api::{DialAnswer, Plug, Target};
 use std::alloc::Global;
 use tree_base::Text;
 
-/// The plug of the program: it makes hands of fresh Engines in memory, and counts them. A socket is not built yet, and its
-/// dial fails.
+/// The plug of the program: it makes hands of fresh Engines in memory, and counts them. A socket is not built yet,
+/// and its dial fails.
 #[derive(Debug, Drop)]
 pub struct MainPlug {
     dialled: u64,

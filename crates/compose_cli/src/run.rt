@@ -41,17 +41,25 @@ pub(crate) fn run_declared<P: Plug, O: Sink, G: Sink>(
     requires unconditional { WaitsForNone declared.now }
     requires own { HasOwnSpecs declared.now }
     ensures origin { IsOfLoading result.refusal → ⊥ }
-    ensures dial { result.refusal ≡ Some (Refusal.Outside Part.Plug) → SendsNothing result × Rose (P.faults plug.old) (P.faults plug.new) }
+    ensures dial { result.refusal ≡ Some (Refusal.Outside Part.Plug)
+        → SendsNothing result × Rose (P.faults plug.old) (P.faults plug.new) }
     ensures dialled { CountsHands (P.dialled plug.old) (P.dialled plug.new) (length result.hands) }
     ensures unbegun { result.journal ≡ [] → IsUnbegun result.refusal }
     ensures quiet_unbegun { result.journal ≡ [] → O.written out.new ≡ O.written out.old }
-    ensures unsent { result.journal ≡ [] → (hand : P.Hand) → Among result.hands hand → P.Hand.log hand ≡ [] }
-    ensures ran { IfBegun result.journal (RunsTask (λ h. P.Hand.log h) (λ h. P.Hand.heard h) (λ h. P.Hand.faults h) (task_of declared.now (aim_of aim) one_worker) result
+    ensures unsent { result.journal ≡ [] → (hand : P.Hand) → Among result.hands hand
+        → P.Hand.log hand ≡ [] }
+    ensures ran { IfBegun result.journal (RunsTask
+        (λ h. P.Hand.log h) (λ h. P.Hand.heard h) (λ h. P.Hand.faults h)
+        (task_of declared.now (aim_of aim) one_worker) result
         (O.written out.old) (O.written out.new) (O.faults out.old) (O.faults out.new)) }
-    ensures engine { MovesEngine (λ h. P.Hand.engine h) (task_of declared.now (aim_of aim) one_worker) result (P.engine plug.old) }
+    ensures engine { MovesEngine
+        (λ h. P.Hand.engine h) (task_of declared.now (aim_of aim) one_worker) result
+        (P.engine plug.old) }
     ensures status { result.status ≡ status_of result.refusal }
-    ensures line { SaysRefusal result.refusal (G.written err.old) (G.written err.new) (G.faults err.old) (G.faults err.new) }
-    ensures quiet { result.refusal ≡ Some (Refusal.Outside Part.Plug) → O.written out.new ≡ O.written out.old }
+    ensures line { SaysRefusal result.refusal (G.written err.old) (G.written err.new)
+        (G.faults err.old) (G.faults err.new) }
+    ensures quiet { result.refusal ≡ Some (Refusal.Outside Part.Plug)
+        → O.written out.new ≡ O.written out.old }
 {
     let Ok(hands) = Vec::with_capacity(alloc, 1) else {
         return refused(alloc, Refusal::Memory, err);
@@ -68,7 +76,8 @@ pub(crate) fn refused<H, G: Sink>(alloc: Global, refusal: Refusal, err: &mut G) 
     ensures nothing { SendsNothing result }
     ensures refusal { IsSaid refusal result.refusal }
     ensures status { result.status ≡ status_of result.refusal }
-    ensures line { SaysRefusal result.refusal (G.written err.old) (G.written err.new) (G.faults err.old) (G.faults err.new) }
+    ensures line { SaysRefusal result.refusal (G.written err.old) (G.written err.new)
+        (G.faults err.old) (G.faults err.new) }
 {
     let refusal = say(alloc, refusal, err);
     Ended {
@@ -102,13 +111,22 @@ fn run_with<H: Hand, O: Sink, G: Sink>(
     ensures unbegun { result.journal ≡ [] → IsUnbegun result.refusal }
     ensures quiet_unbegun { result.journal ≡ [] → O.written out.new ≡ O.written out.old }
     ensures unsent { result.journal ≡ [] → (hand : H) → Among result.hands hand → H.log hand ≡ [] }
-    ensures ran { IfBegun result.journal (RunsTask (λ h. H.log h) (λ h. H.heard h) (λ h. H.faults h) (task_of declared.now (aim_of aim) one_worker) result
+    ensures ran { IfBegun result.journal (RunsTask
+        (λ h. H.log h) (λ h. H.heard h) (λ h. H.faults h)
+        (task_of declared.now (aim_of aim) one_worker) result
         (O.written out.old) (O.written out.new) (O.faults out.old) (O.faults out.new)) }
-    ensures through { IfBegun result.journal ((other : H) → Among result.hands other → GoesThrough (task_of declared.now (aim_of aim) one_worker) result.journal (H.engine hand) (H.engine other)) }
-    ensures exact { result.refusal ≡ None → is_up aim.purpose ≡ true → (other : H) → Among result.hands other → HoldsExactly (task_of declared.now (aim_of aim) one_worker) (H.engine other) }
-    ensures gone { result.refusal ≡ None → is_up aim.purpose ≡ false → (other : H) → Among result.hands other → HoldsNone (task_of declared.now (aim_of aim) one_worker) (H.engine other) }
+    ensures through { IfBegun result.journal ((other : H) → Among result.hands other → GoesThrough
+        (task_of declared.now (aim_of aim) one_worker) result.journal (H.engine hand)
+        (H.engine other)) }
+    ensures exact { result.refusal ≡ None → is_up aim.purpose ≡ true → (other : H)
+        → Among result.hands other
+        → HoldsExactly (task_of declared.now (aim_of aim) one_worker) (H.engine other) }
+    ensures gone { result.refusal ≡ None → is_up aim.purpose ≡ false → (other : H)
+        → Among result.hands other
+        → HoldsNone (task_of declared.now (aim_of aim) one_worker) (H.engine other) }
     ensures status { result.status ≡ status_of result.refusal }
-    ensures line { SaysRefusal result.refusal (G.written err.old) (G.written err.new) (G.faults err.old) (G.faults err.new) }
+    ensures line { SaysRefusal result.refusal (G.written err.old) (G.written err.new)
+        (G.faults err.old) (G.faults err.new) }
 {
     let Ran {
         journal,
@@ -129,7 +147,8 @@ fn run_with<H: Hand, O: Sink, G: Sink>(
 fn write_report<O: Sink>(fault: Option<RunFault>, report: &Text, out: &mut O) -> Option<Refusal>
     ensures refused { IsRefusalOf fault (O.faults out.old) (O.faults out.new) result }
     ensures origin { IsOfRun result }
-    ensures written { Says report.now (O.written out.old) (O.written out.new) (O.faults out.old) (O.faults out.new) }
+    ensures written { Says report.now (O.written out.old) (O.written out.new)
+        (O.faults out.old) (O.faults out.new) }
 {
     let whole = write_all(out, report.as_str().as_bytes());
     match fault {

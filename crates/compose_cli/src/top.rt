@@ -5,6 +5,7 @@ ghost use Rattle.asked_project.specs.Meaning.{IsFailedRead, meaning};
 ghost use Rattle.compose_cli.specs.Ends.{CountsHands, IsRefusedWith, SendsNothing};
 ghost use Rattle.compose_cli.specs.Runs.{ForTask, HoldsExactly, HoldsNone, IfRuns, IsCausedAnew, IsRefusalOf, IsStatusOf, IsUnbegun, LeadsOn, MovesEngine, Reports, RunsTask, aim_asked, aim_for, first_reading, task_for};
 ghost use Rattle.compose_config.specs.Commands.{ForProject, GrewByPrefix, IfLoads, IsConfig, IsOfConfig, IsReadFault, OnlyOutsideFails, page_asked};
+ghost use Rattle.include_extends.specs.declared.LoadRefusal.{LoadRefusal};
 ghost use Rattle.outside_api.specs.Accounts.{account};
 ghost use Rattle.outside_files.specs.Counts.{Rose};
 ghost use Rattle.outside_files.specs.Sinks.{GrewBy};
@@ -13,7 +14,6 @@ ghost use Rattle.project_run.specs.Whole.{IfBegun, SparesKept};
 ghost use Rattle.project_run.specs.Worlds.{EndsExact, EndsGone};
 ghost use Rattle.refusals.specs.Origins.{IsOfLoading, is_of_words};
 ghost use Rattle.refusals.specs.Statuses.{status_of};
-ghost use Rattle.plain_services.specs.declared.LoadRefusal.{LoadRefusal};
 ghost use Rattle.refusals.specs.declared.Part.{Part};
 ghost use Rattle.refusals.specs.declared.Refusal.{Refusal};
 ghost use Rattle.run_model.specs.EngineRules.{Among};
@@ -39,10 +39,11 @@ use tree_base::{Env, List, Text};
 
 /// Does what the words of the command line ask for, with one hand. It waits for nobody, and always returns.
 ///
-/// So far these commands are built: `config`, also with `--quiet`, which writes the project's page to `out`; and `up` and `down`
-/// with `--memory`, also with `--remove-orphans`, which bring the project of the Compose file `compose.yaml` in the working
-/// directory up, or take it down, on an Engine in memory. The report of a run is written to `out`, one line for each
-/// action that ended well, and the line of a refusal to `err`.
+/// So far these commands are built: `config`, also with `--quiet`, which writes the project's page to `out`; and `up`
+/// and `down` with `--memory`, also with `--remove-orphans`, which bring the project of the Compose file
+/// `compose.yaml` in the working directory up, or take it down, on an Engine in memory. The file's scalars take the
+/// values of the variables `env`, and of those of the files of `--env-file`, or else of `.env`. The report of a run
+/// is written to `out`, one line for each action that ended well, and the line of a refusal to `err`.
 pub fn serial_main<F: Files, P: Plug, O: Sink, G: Sink>(
     alloc: Global,
     words: &List<Text>,
@@ -57,81 +58,134 @@ pub fn serial_main<F: Files, P: Plug, O: Sink, G: Sink>(
     requires told { ForSome (P.dialled plug.old) (λ n. n < 2 ^ 61) }
 
     // Where the words are refused, or the files are told, what is meant to be refused is what the call is refused with.
-    ensures words { IfErr (options_asked words.now env.now) (λ refusal. SendsNothing result × IsSaid refusal result.refusal) }
-    ensures words_only { (refusal : _) → IsTrue (is_of_words refusal) → result.refusal ≡ Some refusal → options_asked words.now env.now ≡ Err refusal }
-    ensures loading { IfSome (F.told files.old) (λ contents. IfErr (meaning words.now env.now cwd.now contents) (λ refusal. IsRefusedWith refusal result)) }
-    ensures read_fault { (path : _) → result.refusal ≡ Some (Refusal.Load (LoadRefusal.ReadFault path))
-        → IsFailedRead words.now env.now cwd.now (F.faults files.old) (F.faults files.new) path }
+    ensures words { IfErr (options_asked words.now env.now) (λ refusal.
+        SendsNothing result × IsSaid refusal result.refusal) }
+    ensures words_only { (refusal : _) → IsTrue (is_of_words refusal)
+        → result.refusal ≡ Some refusal
+        → options_asked words.now env.now ≡ Err refusal }
+    ensures loading { IfSome (F.told files.old) (λ contents.
+        IfErr (meaning words.now env.now cwd.now contents) (λ refusal.
+        IsRefusedWith refusal result)) }
+    ensures read_fault { (path : _)
+        → result.refusal ≡ Some (Refusal.Load (LoadRefusal.ReadFault path))
+        → IsFailedRead words.now env.now cwd.now (F.told files.old)
+        (F.faults files.old) (F.faults files.new) path }
 
     // A refused project sends nothing, and neither does `config`, nor a call whose dial failed.
     ensures nothing_sent { IsOfLoading result.refusal → SendsNothing result }
     ensures config { aim_asked (command_of words.now env.now) ≡ None → SendsNothing result }
-    ensures dial { result.refusal ≡ Some (Refusal.Outside Part.Plug) → SendsNothing result × Rose (P.faults plug.old) (P.faults plug.new) }
+    ensures dial { result.refusal ≡ Some (Refusal.Outside Part.Plug)
+        → SendsNothing result × Rose (P.faults plug.old) (P.faults plug.new) }
 
     // Every hand that was made is handed back.
     ensures dialled { CountsHands (P.dialled plug.old) (P.dialled plug.new) (length result.hands) }
     ensures status { result.status ≡ status_of result.refusal }
 
-    // `config` writes the page of the project at status 0, and nothing with `--quiet`; at another status nothing, or a prefix of it.
-    ensures page { IsConfig (command_of words.now env.now) → result.status ≡ 0 → ForProject words.now env.now cwd.now (F.told files.old) (λ project.
-        GrewBy (O.written out.old) (page_asked (command_of words.now env.now) project) (O.written out.new)) }
+    // `config` writes the page of the project at status 0, and nothing with `--quiet`; at another status nothing, or
+    // a prefix of it.
+    ensures page { IsConfig (command_of words.now env.now) → result.status ≡ 0
+        → ForProject words.now env.now cwd.now (F.told files.old) (λ project.
+        GrewBy (O.written out.old)
+        (page_asked (command_of words.now env.now) project) (O.written out.new)) }
     ensures page_prefix { IsConfig (command_of words.now env.now)
-        → (O.written out.new ≡ O.written out.old) ⊎ ForProject words.now env.now cwd.now (F.told files.old) (λ project.
-        GrewByPrefix (O.written out.old) (O.written out.new) (page_asked (command_of words.now env.now) project)) }
-    ensures page_fault { IsConfig (command_of words.now env.now) → result.refusal ≡ Some (Refusal.Outside Part.Out) → Rose (O.faults out.old) (O.faults out.new) }
+        → (O.written out.new ≡ O.written out.old)
+        ⊎ ForProject words.now env.now cwd.now (F.told files.old) (λ project.
+        GrewByPrefix (O.written out.old) (O.written out.new)
+        (page_asked (command_of words.now env.now) project)) }
+    ensures page_fault { IsConfig (command_of words.now env.now)
+        → result.refusal ≡ Some (Refusal.Outside Part.Out)
+        → Rose (O.faults out.old) (O.faults out.new) }
 
-    // Nothing else refuses `config`: a project that loads is printed, unless memory is wanted or something outside fails.
+    // Nothing else refuses `config`: a project that loads is printed, unless memory is wanted or something outside
+    // fails.
     ensures page_kind { IsConfig (command_of words.now env.now) → IsOfConfig result.refusal }
-    ensures page_complete { IsConfig (command_of words.now env.now) → IfLoads words.now env.now cwd.now (F.told files.old)
-        (OnlyOutsideFails cwd.now (F.faults files.old) (F.faults files.new) (O.faults out.old) (O.faults out.new) result.refusal) }
+    ensures page_complete { IsConfig (command_of words.now env.now)
+        → IfLoads words.now env.now cwd.now (F.told files.old) (OnlyOutsideFails
+        (IsReadFault words.now env.now cwd.now (F.told files.old)
+        (F.faults files.old) (F.faults files.new))
+        (O.faults out.old) (O.faults out.new) result.refusal) }
 
-    // Loading refuses no `up` or `down` of a project that loads, unless the read of its file fails.
-    ensures run_complete { IsOfLoading result.refusal → IfRuns words.now env.now (λ aim. IfLoads words.now env.now cwd.now (F.told files.old)
-        (IsReadFault cwd.now (F.faults files.old) (F.faults files.new) result.refusal)) }
+    // Loading refuses no `up` or `down` of a project that loads, unless a read of its files fails.
+    ensures run_complete { IsOfLoading result.refusal → IfRuns words.now env.now (λ aim.
+        IfLoads words.now env.now cwd.now (F.told files.old) (IsReadFault words.now env.now cwd.now
+        (F.told files.old) (F.faults files.old) (F.faults files.new) result.refusal)) }
 
-    // The journal is empty only where the call was refused before its run, or wanted memory; then nothing was sent, and nothing
-    // was written to `out`.
-    ensures unbegun { IfRuns words.now env.now (λ aim. result.journal ≡ [] → IsUnbegun result.refusal) }
-    ensures quiet_unbegun { IfRuns words.now env.now (λ aim. result.journal ≡ [] → O.written out.new ≡ O.written out.old) }
-    ensures unsent { result.journal ≡ [] → (hand : P.Hand) → Among result.hands hand → P.Hand.log hand ≡ [] }
+    // The journal is empty only where the call was refused before its run, or wanted memory; then nothing was sent,
+    // and nothing was written to `out`.
+    ensures unbegun { IfRuns words.now env.now (λ aim.
+        result.journal ≡ [] → IsUnbegun result.refusal) }
+    ensures quiet_unbegun { IfRuns words.now env.now (λ aim.
+        result.journal ≡ [] → O.written out.new ≡ O.written out.old) }
+    ensures unsent { result.journal ≡ [] → (hand : P.Hand) → Among result.hands hand
+        → P.Hand.log hand ≡ [] }
 
-    // Else the journal is that of a whole run of what the words ask for of the project, within their limits. There are as many hands as
-    // workers, each worker left where the observation ended well, and the hand of each made its exchanges, each of
-    // which has its cause in itself.
-    ensures legal { IfBegun result.journal (ForTask words.now env.now cwd.now (F.told files.old) (first_reading (λ h. P.Hand.clock h) result.hands) (λ task. IsRun task result.journal)) }
-    ensures left { IfBegun result.journal (ForTask words.now env.now cwd.now (F.told files.old) (first_reading (λ h. P.Hand.clock h) result.hands) (λ task. IsLeftByAll task result.journal)) }
-    ensures hands { IfBegun result.journal (ForTask words.now env.now cwd.now (F.told files.old) (first_reading (λ h. P.Hand.clock h) result.hands) (λ task.
+    // Else the journal is that of a whole run of what the words ask for of the project, within their limits. There
+    // are as many hands as workers, each worker left where the observation ended well, and the hand of each made its
+    // exchanges, each of which has its cause in itself.
+    ensures legal { IfBegun result.journal (ForTask words.now env.now cwd.now (F.told files.old)
+        (first_reading (λ h. P.Hand.clock h) result.hands) (λ task. IsRun task result.journal)) }
+    ensures left { IfBegun result.journal (ForTask words.now env.now cwd.now (F.told files.old)
+        (first_reading (λ h. P.Hand.clock h) result.hands) (λ task.
+        IsLeftByAll task result.journal)) }
+    ensures hands { IfBegun result.journal (ForTask words.now env.now cwd.now (F.told files.old)
+        (first_reading (λ h. P.Hand.clock h) result.hands) (λ task.
         length result.hands ≡ task.limits.workers)) }
-    ensures log { IfBegun result.journal (ForTask words.now env.now cwd.now (F.told files.old) (first_reading (λ h. P.Hand.clock h) result.hands) (λ task.
-        (w : ℕ) (hand : P.Hand) → slice_get result.hands w ≡ Some hand → GrowsBy (run_exchanges task result.journal w) [] (P.Hand.log hand))) }
-    ensures cause { IfBegun result.journal (ForTask words.now env.now cwd.now (F.told files.old) (first_reading (λ h. P.Hand.clock h) result.hands) (λ task.
+    ensures log { IfBegun result.journal (ForTask words.now env.now cwd.now (F.told files.old)
+        (first_reading (λ h. P.Hand.clock h) result.hands) (λ task.
         (w : ℕ) (hand : P.Hand) → slice_get result.hands w ≡ Some hand
-        → IsCausedAnew task result.journal w (account (P.Hand.log hand) (P.Hand.heard hand) (P.Hand.faults hand)))) }
+        → GrowsBy (run_exchanges task result.journal w) [] (P.Hand.log hand))) }
+    ensures cause { IfBegun result.journal (ForTask words.now env.now cwd.now (F.told files.old)
+        (first_reading (λ h. P.Hand.clock h) result.hands) (λ task.
+        (w : ℕ) (hand : P.Hand) → slice_get result.hands w ≡ Some hand
+        → IsCausedAnew task result.journal w
+        (account (P.Hand.log hand) (P.Hand.heard hand) (P.Hand.faults hand)))) }
 
     // Status, refusal and report are those of the run, and `up` leaves kept containers alone.
-    ensures run_status { IfBegun result.journal (ForTask words.now env.now cwd.now (F.told files.old) (first_reading (λ h. P.Hand.clock h) result.hands) (λ task. IsStatusOf (run_status task result.journal) result.status)) }
-    ensures run_fault { IfBegun result.journal (ForTask words.now env.now cwd.now (F.told files.old) (first_reading (λ h. P.Hand.clock h) result.hands) (λ task.
-        IsRefusalOf (run_fault task result.journal) (O.faults out.old) (O.faults out.new) result.refusal)) }
-    ensures report { IfBegun result.journal (ForTask words.now env.now cwd.now (F.told files.old) (first_reading (λ h. P.Hand.clock h) result.hands) (λ task.
-        Reports (run_report task result.journal) result.refusal (O.written out.old) (O.written out.new) (O.faults out.old) (O.faults out.new))) }
-    ensures kept { IfBegun result.journal (ForTask words.now env.now cwd.now (F.told files.old) (first_reading (λ h. P.Hand.clock h) result.hands) (λ task. is_up task.aim.purpose ≡ true → SparesKept task result.journal)) }
+    ensures run_status { IfBegun result.journal
+        (ForTask words.now env.now cwd.now (F.told files.old)
+        (first_reading (λ h. P.Hand.clock h) result.hands) (λ task.
+        IsStatusOf (run_status task result.journal) result.status)) }
+    ensures run_fault { IfBegun result.journal (ForTask words.now env.now cwd.now (F.told files.old)
+        (first_reading (λ h. P.Hand.clock h) result.hands) (λ task.
+        IsRefusalOf (run_fault task result.journal)
+        (O.faults out.old) (O.faults out.new) result.refusal)) }
+    ensures report { IfBegun result.journal (ForTask words.now env.now cwd.now (F.told files.old)
+        (first_reading (λ h. P.Hand.clock h) result.hands) (λ task.
+        Reports (run_report task result.journal) result.refusal
+        (O.written out.old) (O.written out.new) (O.faults out.old) (O.faults out.new))) }
+    ensures kept { IfBegun result.journal (ForTask words.now env.now cwd.now (F.told files.old)
+        (first_reading (λ h. P.Hand.clock h) result.hands) (λ task.
+        is_up task.aim.purpose ≡ true → SparesKept task result.journal)) }
 
-    // The Engine went through the run: the one that the hand tells, and one in every world of the run, whatever it held before.
-    ensures world { IfBegun result.journal (ForTask words.now env.now cwd.now (F.told files.old) (first_reading (λ h. P.Hand.clock h) result.hands) (λ task.
-        (hand : P.Hand) → Among result.hands hand → LeadsOn task result.journal (P.engine plug.old) (P.Hand.engine hand))) }
+    // The Engine went through the run: the one that the hand tells, and one in every world of the run, whatever it
+    // held before.
+    ensures world { IfBegun result.journal (ForTask words.now env.now cwd.now (F.told files.old)
+        (first_reading (λ h. P.Hand.clock h) result.hands) (λ task.
+        (hand : P.Hand) → Among result.hands hand
+        → LeadsOn task result.journal (P.engine plug.old) (P.Hand.engine hand))) }
 
     // At status 0 it holds exactly what the project declares after `up`, and nothing of it after `down`.
-    ensures exact { result.status ≡ 0 → ForTask words.now env.now cwd.now (F.told files.old) (first_reading (λ h. P.Hand.clock h) result.hands) (λ task. is_up task.aim.purpose ≡ true
+    ensures exact { result.status ≡ 0 → ForTask words.now env.now cwd.now (F.told files.old)
+        (first_reading (λ h. P.Hand.clock h) result.hands) (λ task. is_up task.aim.purpose ≡ true
         → (hand : P.Hand) → Among result.hands hand → HoldsExactly task (P.Hand.engine hand)) }
-    ensures exact_in_each_world { result.status ≡ 0 → ForTask words.now env.now cwd.now (F.told files.old) (first_reading (λ h. P.Hand.clock h) result.hands) (λ task. is_up task.aim.purpose ≡ true → EndsExact task result.journal) }
-    ensures gone { result.status ≡ 0 → ForTask words.now env.now cwd.now (F.told files.old) (first_reading (λ h. P.Hand.clock h) result.hands) (λ task. is_up task.aim.purpose ≡ false
+    ensures exact_in_each_world { result.status ≡ 0
+        → ForTask words.now env.now cwd.now (F.told files.old)
+        (first_reading (λ h. P.Hand.clock h) result.hands) (λ task.
+        is_up task.aim.purpose ≡ true → EndsExact task result.journal) }
+    ensures gone { result.status ≡ 0 → ForTask words.now env.now cwd.now (F.told files.old)
+        (first_reading (λ h. P.Hand.clock h) result.hands) (λ task. is_up task.aim.purpose ≡ false
         → (hand : P.Hand) → Among result.hands hand → HoldsNone task (P.Hand.engine hand)) }
-    ensures gone_in_each_world { result.status ≡ 0 → ForTask words.now env.now cwd.now (F.told files.old) (first_reading (λ h. P.Hand.clock h) result.hands) (λ task. is_up task.aim.purpose ≡ false → EndsGone task result.journal) }
+    ensures gone_in_each_world { result.status ≡ 0
+        → ForTask words.now env.now cwd.now (F.told files.old)
+        (first_reading (λ h. P.Hand.clock h) result.hands) (λ task.
+        is_up task.aim.purpose ≡ false → EndsGone task result.journal) }
 
     // The line of the refusal is written to `err`, and nothing to `out` where nothing was sent.
-    ensures line { SaysRefusal result.refusal (G.written err.old) (G.written err.new) (G.faults err.old) (G.faults err.new) }
+    ensures line { SaysRefusal result.refusal (G.written err.old) (G.written err.new)
+        (G.faults err.old) (G.faults err.new) }
     ensures quiet { IsOfLoading result.refusal → O.written out.new ≡ O.written out.old }
-    ensures quiet_dial { result.refusal ≡ Some (Refusal.Outside Part.Plug) → O.written out.new ≡ O.written out.old }
+    ensures quiet_dial { result.refusal ≡ Some (Refusal.Outside Part.Plug)
+        → O.written out.new ≡ O.written out.old }
 {
     match project_asked(alloc, words, env, cwd, files) {
         Ok(asked) => match aim_for(&asked.options.command) {
@@ -194,17 +248,25 @@ fn run_project<P: Plug, O: Sink, G: Sink>(
     requires dialled { ForSome (P.dialled plug.old) (λ n. n < 2 ^ 61) }
     requires order { IsInOrder project.now.services }
     ensures origin { IsOfLoading result.refusal → ⊥ }
-    ensures dial { result.refusal ≡ Some (Refusal.Outside Part.Plug) → SendsNothing result × Rose (P.faults plug.old) (P.faults plug.new) }
+    ensures dial { result.refusal ≡ Some (Refusal.Outside Part.Plug)
+        → SendsNothing result × Rose (P.faults plug.old) (P.faults plug.new) }
     ensures dialled { CountsHands (P.dialled plug.old) (P.dialled plug.new) (length result.hands) }
     ensures unbegun { result.journal ≡ [] → IsUnbegun result.refusal }
     ensures quiet_unbegun { result.journal ≡ [] → O.written out.new ≡ O.written out.old }
-    ensures unsent { result.journal ≡ [] → (hand : P.Hand) → Among result.hands hand → P.Hand.log hand ≡ [] }
-    ensures ran { IfBegun result.journal (RunsTask (λ h. P.Hand.log h) (λ h. P.Hand.heard h) (λ h. P.Hand.faults h) (task_for (aim_of aim) one_worker project.now) result
+    ensures unsent { result.journal ≡ [] → (hand : P.Hand) → Among result.hands hand
+        → P.Hand.log hand ≡ [] }
+    ensures ran { IfBegun result.journal (RunsTask
+        (λ h. P.Hand.log h) (λ h. P.Hand.heard h) (λ h. P.Hand.faults h)
+        (task_for (aim_of aim) one_worker project.now) result
         (O.written out.old) (O.written out.new) (O.faults out.old) (O.faults out.new)) }
-    ensures engine { MovesEngine (λ h. P.Hand.engine h) (task_for (aim_of aim) one_worker project.now) result (P.engine plug.old) }
+    ensures engine { MovesEngine
+        (λ h. P.Hand.engine h) (task_for (aim_of aim) one_worker project.now) result
+        (P.engine plug.old) }
     ensures status { result.status ≡ status_of result.refusal }
-    ensures line { SaysRefusal result.refusal (G.written err.old) (G.written err.new) (G.faults err.old) (G.faults err.new) }
-    ensures quiet { result.refusal ≡ Some (Refusal.Outside Part.Plug) → O.written out.new ≡ O.written out.old }
+    ensures line { SaysRefusal result.refusal (G.written err.old) (G.written err.new)
+        (G.faults err.old) (G.faults err.new) }
+    ensures quiet { result.refusal ≡ Some (Refusal.Outside Part.Plug)
+        → O.written out.new ≡ O.written out.old }
 {
     match declare(alloc, project) {
         Ok(declared) => run_declared(alloc, &declared, aim, plug, out, err),

@@ -1,4 +1,4 @@
-use Rattle.std.proofs.Common.{◌≡◌, ◌∙◌, List, [], ◌∷◌, ◌++◌, true, false, refl, ap}
+use Rattle.std.proofs.Common.{◌≡◌, ◌∙◌, List, [], ◌∷◌, ◌++◌, true, refl, ap}
 use Rattle.std.specs.Prelude.{is_ok}
 use Rattle.compose_cli.proofs.Ran.{exact_by, gone_by, runs_task, through_by, unwritten, went_well}
 use Rattle.project_run.specs.Whole.{task_of}

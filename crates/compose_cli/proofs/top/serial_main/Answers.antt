@@ -3,7 +3,7 @@ use Rattle.asked_project.specs.Asking.{command_of, options_asked}
 use Rattle.asked_project.specs.Meaning.{meaning}
 use Rattle.compose_config.proofs.Loads.{IfSome-map, before_kind, before_no_outside, command_is, for_project, if_loads, means_unrefused, no_words_refused, only_outside, said_exactly, said_read, said_words}
 use Rattle.compose_config.proofs.Printed.{asked_prefix, asked_whole, page_complete, page_fault, page_kept, page_kind, page_no_loading, page_no_plug, page_no_read, page_no_words}
-use Rattle.compose_config.specs.Commands.{GrewByPrefix, page_asked, page_for}
+use Rattle.compose_config.specs.Commands.{GrewByPrefix, IsReadFault, page_asked, page_for}
 use Rattle.compose_cli.proofs.Ending.{before_unbegun, beside, if_runs, no_config, no_words, only_reads, refused_with}
 use Rattle.compose_cli.proofs.Ran.{asked, for_task, has_begun, idle, if_begun, said_not_zero, status_by, unasked}
 use Rattle.compose_cli.specs.Runs.{HoldsExactly, HoldsNone, IsCausedAnew, IsRefusalOf, IsStatusOf, LeadsOn, Reports, first_reading, task_for}
@@ -139,7 +139,7 @@ pub returns-in-Ok-clause-page_kind : goal.returns-in-Ok-clause-page_kind
 returns-in-Ok-clause-page_kind g c = λ config. page_kind (page_for c.in-Ok.asked.options.command c.in-Ok.asked.project) (g.O.Sink.written c.args.out.now) (g.O.Sink.written c.print_asked.new.out) (g.O.Sink.faults c.args.out.now) (g.O.Sink.faults c.print_asked.new.out) c.without_hands.result.refusal (page_kept (page_for c.in-Ok.asked.options.command c.in-Ok.asked.project) (g.O.Sink.written c.args.out.now) (g.O.Sink.written c.print_asked.new.out) (g.O.Sink.faults c.args.out.now) (g.O.Sink.faults c.print_asked.new.out) c.print_asked.result.refusal c.without_hands.result.refusal c.without_hands.ensures.refusal c.print_asked.ensures.printed)
 
 pub returns-in-Ok-clause-page_complete : goal.returns-in-Ok-clause-page_complete
-returns-in-Ok-clause-page_complete g c = λ config. if_loads c.args.words.now c.args.env.now c.args.cwd.now (g.F.Files.told c.args.files.now) _ (page_complete (page_for c.in-Ok.asked.options.command c.in-Ok.asked.project) (g.O.Sink.written c.args.out.now) (g.O.Sink.written c.print_asked.new.out) (g.O.Sink.faults c.args.out.now) (g.O.Sink.faults c.print_asked.new.out) c.args.cwd.now (g.F.Files.faults c.args.files.now) (g.F.Files.faults c.project_asked.new.files) c.without_hands.result.refusal (page_kept (page_for c.in-Ok.asked.options.command c.in-Ok.asked.project) (g.O.Sink.written c.args.out.now) (g.O.Sink.written c.print_asked.new.out) (g.O.Sink.faults c.args.out.now) (g.O.Sink.faults c.print_asked.new.out) c.print_asked.result.refusal c.without_hands.result.refusal c.without_hands.ensures.refusal c.print_asked.ensures.printed))
+returns-in-Ok-clause-page_complete g c = λ config. if_loads c.args.words.now c.args.env.now c.args.cwd.now (g.F.Files.told c.args.files.now) _ (page_complete (page_for c.in-Ok.asked.options.command c.in-Ok.asked.project) (g.O.Sink.written c.args.out.now) (g.O.Sink.written c.print_asked.new.out) (g.O.Sink.faults c.args.out.now) (g.O.Sink.faults c.print_asked.new.out) (IsReadFault c.args.words.now c.args.env.now c.args.cwd.now (g.F.Files.told c.args.files.now) (g.F.Files.faults c.args.files.now) (g.F.Files.faults c.project_asked.new.files)) c.without_hands.result.refusal (page_kept (page_for c.in-Ok.asked.options.command c.in-Ok.asked.project) (g.O.Sink.written c.args.out.now) (g.O.Sink.written c.print_asked.new.out) (g.O.Sink.faults c.args.out.now) (g.O.Sink.faults c.print_asked.new.out) c.print_asked.result.refusal c.without_hands.result.refusal c.without_hands.ensures.refusal c.print_asked.ensures.printed))
 
 pub returns-in-Ok-clause-run_complete : goal.returns-in-Ok-clause-run_complete
 returns-in-Ok-clause-run_complete g c = λ loading. absurd (page_no_loading (page_for c.in-Ok.asked.options.command c.in-Ok.asked.project) (g.O.Sink.written c.args.out.now) (g.O.Sink.written c.print_asked.new.out) (g.O.Sink.faults c.args.out.now) (g.O.Sink.faults c.print_asked.new.out) c.without_hands.result.refusal (page_kept (page_for c.in-Ok.asked.options.command c.in-Ok.asked.project) (g.O.Sink.written c.args.out.now) (g.O.Sink.written c.print_asked.new.out) (g.O.Sink.faults c.args.out.now) (g.O.Sink.faults c.print_asked.new.out) c.print_asked.result.refusal c.without_hands.result.refusal c.without_hands.ensures.refusal c.print_asked.ensures.printed) loading)
