@@ -1,0 +1,4 @@
+pub mod Loads
+pub mod Projects
+pub mod Texts
+pub mod Values

@@ -1,0 +1,41 @@
+-- Which projects have a page that gives them back, and what is read where the page is the Compose file.
+use Rattle.std.specs.Prelude.{◌≡◌, ◌≤◌, ℕ, true, IsTrue, List, [], None, Some, Ok, codes, length, map}
+use Rattle.std.specs.List.{list_all}
+use Rattle.std.specs.Str.{is_utf8}
+use Rattle.include_extends.specs.Loading.{loading}
+use Rattle.include_extends.specs.Paths.{Variables, joined}
+use Rattle.include_extends.specs.Reads.{file_limit, loaded_from}
+use Rattle.include_extends.specs.declared.Loaded.{Loaded}
+use Rattle.outside_files.specs.Files.{Contents}
+use Rattle.plain_services.specs.ProjectNames.{base_name, is_name}
+use Rattle.plain_services.specs.Projects.{project_of}
+use Rattle.project_print.specs.ProjectPages.{node_of, project_page}
+use Rattle.service_attrs.specs.Projects.{IsInOrder}
+use Rattle.service_attrs.specs.declared.Project.{Project}
+use Rattle.tree_base.specs.Entries.{value_at}
+use Rattle.yaml_laws.specs.Laws.{IsWithinLimits}
+use Rattle.yaml_print_laws.specs.Printed.{tree_of}
+
+-- a project that a file can have: its name is one, it has at most 1,000 services in order, its texts are UTF-8, and its page and the
+-- page's tree are within the limits
+pub record IsReadable (project : Project) : Type 0 where
+  pub named : IsTrue (is_name project.name)
+  pub few : length project.services ≤ 1000
+  pub order : IsInOrder project.services
+  pub keys : list_all is_utf8 (map (λ service. service.key) project.services) ≡ true
+  pub images : list_all is_utf8 (map (λ service. service.image) project.services) ≡ true
+  pub tree : IsWithinLimits (tree_of (node_of project))
+  pub page : length (project_page project) ≤ file_limit
+
+-- files in which the page of a project is the Compose file of a directory, without a `.env` beside it
+pub record HasPage (files : Contents) (directory : List ℕ) (project : Project) : Type 0 where
+  pub page : value_at files (joined directory (codes "compose.yaml")) ≡ Some (project_page project)
+  pub alone : value_at files (joined directory (codes ".env")) ≡ None
+
+-- where the page of a project is the Compose file, what is loaded there is that project: in every directory, and whatever the
+-- caller's variables are
+abbrev pub ProjectPagesReadBack : Type 0
+ProjectPagesReadBack = (project : Project) (caller : Variables) (cwd : List ℕ) (files : Contents)
+    → IsReadable project → HasPage files (joined cwd []) project
+    → (loaded : Loaded) × (loaded_from files (loading [] caller cwd) ≡ Ok loaded)
+    × (project_of (base_name loaded.directory) loaded.tree ≡ Ok project)
