@@ -15,6 +15,7 @@ fn returns(name: &str) -> bool {
     match name {
         "scalars_read_back" => project_print::scalars_read_back(),
         "dollars_read_back" => project_print::dollars_read_back(),
+        "projects_read_back" => plain_services::projects_read_back(),
         "services_read_back" => plain_services::services_read_back(),
         "no_service_is_lost" => plain_services::no_service_is_lost(),
         _ => return false,

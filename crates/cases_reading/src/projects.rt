@@ -3,16 +3,20 @@ ghost use Rattle.service_attrs.specs.Projects.{IsInOrder};
 
 use case_files::{Answers, Fields, Reading};
 use cases_ground::Entries;
+use include_extends::{LoadRefusal, Loaded};
 use outside_files::MemoryFiles;
-use plain_services::{PlainRefusal, refusal_status, refusal_words};
+use plain_services::{
+    PlainRefusal, load_status, load_words, project_in, refusal_status, refusal_words,
+};
 use project_print::{page, page_json};
 use service_attrs::{Project, Service};
 use std::alloc::Global;
-use tree_base::{List, Memory, Text, TextMap, Tree};
+use tree_base::{Env, List, Memory, Text, TextMap, Tree};
 
 /// `load: TEXT` in a `directory` (`/w/shop`), where the text stands in `file` (`/w/shop/compose.yaml`) and the reads with
-/// the numbers `failing` fail, so many `times` (once): the `project` that the last one gives, with the `count` of its
-/// services, the `bytes` of their keys and images, and its page as `yaml` and as `json`; or the exit `status` of its refusal.
+/// the numbers `failing` fail, so many `times` (once), without variables: the `project` that the last one gives, with the
+/// `count` of its services, the `bytes` of their keys and images, and its page as `yaml` and as `json`; or the exit `status`
+/// of its refusal.
 pub(crate) fn load(fields: &Fields, answers: &mut Answers) {
     let mut files = files_of(&mut answers.reading, fields);
     load_times(fields, &mut files, answers);
@@ -22,23 +26,45 @@ pub(crate) fn load(fields: &Fields, answers: &mut Answers) {
 fn load_times(fields: &Fields, files: &mut MemoryFiles, answers: &mut Answers) {
     let directory = answers.reading.text_or(fields, "directory", "/w/shop");
     for _ in 1..answers.reading.number_or(fields, "times", 1) {
-        drop(plain_services::load(answers.reading.alloc, &directory, files));
+        drop(load_in(answers.reading.alloc, &directory, files));
     }
-    put_loaded(
-        plain_services::load(answers.reading.alloc, &directory, files),
-        answers,
-    );
+    let loaded = load_in(answers.reading.alloc, &directory, files);
+    put_loaded(loaded, answers);
+}
+
+/// What a directory's files give without variables and other env files.
+fn load_in(
+    alloc: Global,
+    directory: &Text,
+    files: &mut MemoryFiles,
+) -> Result<Loaded, LoadRefusal> {
+    let env_files = List::new(alloc);
+    let env = Env::new(alloc);
+    include_extends::load(alloc, files, &env_files, &env, directory)
 }
 
 /// What was loaded is dropped by a call: a drop in place is proved variant by variant.
-fn put_loaded(loaded: Result<Project, PlainRefusal>, answers: &mut Answers)
-    requires order { IfOk loaded (λ project. IsInOrder project.services) }
-{
+fn put_loaded(loaded: Result<Loaded, LoadRefusal>, answers: &mut Answers) {
     match &loaded {
-        Ok(project) => put_project(project, answers),
+        Ok(loaded) => put_project_in(loaded, answers),
         Err(refusal) => refuse_load(refusal, answers),
     }
     drop(loaded);
+}
+
+fn put_project_in(loaded: &Loaded, answers: &mut Answers) {
+    let project = project_in(answers.reading.alloc, &loaded.directory, &loaded.tree);
+    put_found(&project, answers);
+    drop(project);
+}
+
+fn put_found(found: &Result<Project, PlainRefusal>, answers: &mut Answers)
+    requires order { IfOk found.now (λ project. IsInOrder project.services) }
+{
+    match found {
+        Ok(project) => put_project(project, answers),
+        Err(refusal) => refuse_project(refusal, answers),
+    }
 }
 
 fn files_of(reading: &mut Reading, fields: &Fields) -> MemoryFiles {
@@ -57,7 +83,13 @@ fn only_file(reading: &mut Reading, path: Text, bytes: List<u8>) -> TextMap<List
     files
 }
 
-fn refuse_load(refusal: &PlainRefusal, answers: &mut Answers) {
+fn refuse_load(refusal: &LoadRefusal, answers: &mut Answers) {
+    answers.put_number("status", u64::from(load_status(refusal)));
+    let words = load_words(answers.reading.alloc, refusal);
+    answers.put_said("refused", words);
+}
+
+fn refuse_project(refusal: &PlainRefusal, answers: &mut Answers) {
     answers.put_number("status", u64::from(refusal_status(refusal)));
     let words = refusal_words(answers.reading.alloc, refusal);
     answers.put_said("refused", words);

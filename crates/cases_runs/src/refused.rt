@@ -141,7 +141,7 @@ fn load_refusal(reading: &mut Reading, fields: &Fields) -> LoadRefusal {
         "FileTooLarge" => LoadRefusal::FileTooLarge { path },
         word => LoadRefusal::Yaml {
             path,
-            refusal: yaml_refusal(reading, fields, word),
+            cause: yaml_refusal(reading, fields, word),
         },
     }
 }
