@@ -3,8 +3,8 @@ use crate::stop::Stop;
 use case_files::Line;
 use tree_base::{Memory, Text};
 
-/// How a run of cases goes: what was counted, and why it is broken off, where it is. What comes behind that is passed over,
-/// so that a run has one exit.
+/// How a run of cases goes: what was counted, and why it is broken off, where it is. What comes behind that is
+/// passed over, so that a run has one exit.
 #[derive(Drop)]
 pub struct Run {
     pub counts: Counts,

@@ -13,10 +13,10 @@ use service_attrs::{Project, Service};
 use std::alloc::Global;
 use tree_base::{Env, List, Memory, Text, TextMap, Tree};
 
-/// `load: TEXT` in a `directory` (`/w/shop`), where the text stands in `file` (`/w/shop/compose.yaml`) and the reads with
-/// the numbers `failing` fail, so many `times` (once), without variables: the `project` that the last one gives, with the
-/// `count` of its services, the `bytes` of their keys and images, and its page as `yaml` and as `json`; or the exit `status`
-/// of its refusal.
+/// `load: TEXT` in a `directory` (`/w/shop`), where the text stands in `file` (`/w/shop/compose.yaml`) and the reads
+/// with the numbers `failing` fail, so many `times` (once), without variables: the `project` that the last one gives,
+/// with the `count` of its services, the `bytes` of their keys and images, and its page as `yaml` and as `json`; or the
+/// exit `status` of its refusal.
 pub(crate) fn load(fields: &Fields, answers: &mut Answers) {
     let mut files = files_of(&mut answers.reading, fields);
     load_times(fields, &mut files, answers);

@@ -9,8 +9,8 @@ use std::alloc::Global;
 use tree_base::{List, Memory, Text};
 
 /// The plan of `up` or `down` for what is declared and what was seen: its `actions`, and the ids of the containers that
-/// slots keep, `kept` (`none` of a slot that keeps none). Records of several lists are dropped by calls, here and below: a drop
-/// in place is proved member by member.
+/// slots keep, `kept` (`none` of a slot that keeps none). Records of several lists are dropped by calls, here and
+/// below: a drop in place is proved member by member.
 pub(crate) fn plan(fields: &Fields, answers: &mut Answers) {
     let aim = aim_of(&mut answers.reading, fields, "plan");
     let declared = declared_at(&mut answers.reading, fields);
