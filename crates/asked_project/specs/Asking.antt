@@ -49,6 +49,7 @@ is_built_command memory Command.Wait = false
 is_built_command memory Command.Logs = false
 is_built_command memory (Command.EngineSim connections) = false
 
+-- the command that options name is built
 abbrev pub has_built_command : Options → Bool
 has_built_command options = is_built_command options.in_memory options.command
 

@@ -107,7 +107,8 @@ fn has_built_command(options: &Options) -> bool
 
 /// Whether a variable names the project; an empty one doesn't.
 fn names_project(alloc: Global, env: &Env) -> Result<bool, Memory>
-    ensures { IfOk result (λ named. named ≡ is_nonempty_in env.now (codes "COMPOSE_PROJECT_NAME")) }
+    ensures { IfOk result
+        (λ named. named ≡ is_nonempty_in env.now (codes "COMPOSE_PROJECT_NAME")) }
 {
     let name = Text::from_str(alloc, "COMPOSE_PROJECT_NAME")?;
     Ok(match env.get(&name) {

@@ -31,8 +31,10 @@ impl Counts {
     pub fn status(&self) -> u8
         ensures no_case { 0 < self.now.no_cases → result ≡ 2 }
         ensures unread { 0 < self.now.unread → result ≡ 2 }
-        ensures differ { self.now.no_cases ≡ 0 → self.now.unread ≡ 0 → 0 < self.now.differ → result ≡ 1 }
-        ensures as_wanted { self.now.no_cases ≡ 0 → self.now.unread ≡ 0 → self.now.differ ≡ 0 → result ≡ 0 }
+        ensures differ { self.now.no_cases ≡ 0 → self.now.unread ≡ 0
+            → 0 < self.now.differ → result ≡ 1 }
+        ensures as_wanted { self.now.no_cases ≡ 0 → self.now.unread ≡ 0
+            → self.now.differ ≡ 0 → result ≡ 0 }
     {
         if self.no_cases > 0 || self.unread > 0 {
             2

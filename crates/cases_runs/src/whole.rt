@@ -32,7 +32,8 @@ fn passes(declared: &Declared) -> bool
 }
 
 fn services_ascend(services: &[DeclaredService]) -> bool
-    ensures { result ≡ is_ascending (λ service other. is_before service.key other.key) services.now }
+    ensures { result ≡ is_ascending
+        (λ service other. is_before service.key other.key) services.now }
 {
     match services {
         [] => true,
@@ -104,7 +105,8 @@ fn is_slot_before(slot: &Slot, other: &Slot) -> bool
 }
 
 fn networks_ascend(networks: &[NetworkSpec]) -> bool
-    ensures { result ≡ is_ascending (λ network other. is_before network.name other.name) networks.now }
+    ensures { result ≡ is_ascending
+        (λ network other. is_before network.name other.name) networks.now }
 {
     match networks {
         [] => true,

@@ -110,7 +110,8 @@ fn run_with<H: Hand, O: Sink, G: Sink>(
     ensures origin { IsOfRun result.refusal }
     ensures unbegun { result.journal ≡ [] → IsUnbegun result.refusal }
     ensures quiet_unbegun { result.journal ≡ [] → O.written out.new ≡ O.written out.old }
-    ensures unsent { result.journal ≡ [] → (hand : H) → Among result.hands hand → H.log hand ≡ [] }
+    ensures unsent { result.journal ≡ [] → (hand : H)
+        → Among result.hands hand → H.log hand ≡ [] }
     ensures ran { IfBegun result.journal (RunsTask
         (λ h. H.log h) (λ h. H.heard h) (λ h. H.faults h)
         (task_of declared.now (aim_of aim) one_worker) result

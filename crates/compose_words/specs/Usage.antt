@@ -57,6 +57,7 @@ shown_commands =
 abbrev pub shown_option : OptionLine → Shown
 shown_option line = shown line.argument.now line.help.now
 
+-- the same of a line of the table of commands
 abbrev pub shown_command : CommandLine → Shown
 shown_command line = shown line.argument.now line.help.now
 

@@ -24,7 +24,8 @@ pub(crate) fn environment<F: Files>(
     caller: &Env,
     left: u32,
 ) -> Result<(Env, u32), LoadRefusal>
-    ensures given { Gives (F.told files.old) result (environment directory.now paths.now caller.now left) }
+    ensures given { Gives (F.told files.old) result
+        (environment directory.now paths.now caller.now left) }
     ensures fault { (at : List ℕ) → result ≡ Err (LoadRefusal.ReadFault at)
         → Rose (F.faults files.old) (F.faults files.new) }
     ensures counted { F.faults files.old ≤ F.faults files.new }
@@ -43,7 +44,8 @@ fn file_variables<F: Files>(
     caller: &Env,
     left: u32,
 ) -> Result<(Env, u32), LoadRefusal>
-    ensures given { Gives (F.told files.old) result (file_variables directory.now paths.now caller.now left) }
+    ensures given { Gives (F.told files.old) result
+        (file_variables directory.now paths.now caller.now left) }
     ensures fault { (at : List ℕ) → result ≡ Err (LoadRefusal.ReadFault at)
         → Rose (F.faults files.old) (F.faults files.new) }
     ensures counted { F.faults files.old ≤ F.faults files.new }

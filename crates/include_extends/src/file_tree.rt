@@ -20,7 +20,8 @@ pub(crate) fn file_tree(
     bytes: &[u8],
     env: &Env,
 ) -> Result<Tree, LoadRefusal>
-    ensures given { (told : Option Contents) → Gives told result (file_tree env.now path.now bytes.now) }
+    ensures given { (told : Option Contents)
+        → Gives told result (file_tree env.now path.now bytes.now) }
     ensures fault { (at : List ℕ) → result ≡ Err (LoadRefusal.ReadFault at) → ⊥ }
 {
     let tree = tree_of(alloc, path, bytes)?;
@@ -51,7 +52,8 @@ fn tree_in(alloc: Global, bytes: &[u8]) -> Result<Tree, YamlRefusal>
 
 /// A tree with the values of its scalars under variables.
 fn substituted(alloc: Global, path: &Text, tree: &Tree, env: &Env) -> Result<Tree, LoadRefusal>
-    ensures given { IsGiven result (of_subst path.now (substituted_tree (value_at env.now) tree.now)) }
+    ensures given { IsGiven result
+        (of_subst path.now (substituted_tree (value_at env.now) tree.now)) }
     ensures fault { (at : List ℕ) → result ≡ Err (LoadRefusal.ReadFault at) → ⊥ }
 {
     match subst_tree(alloc, tree, env) {

@@ -96,7 +96,8 @@ fn found_tree(
     left: u32,
     env: &Env,
 ) -> Result<Tree, LoadRefusal>
-    ensures given { (told : Option Contents) → Gives told result (found_tree path.now found left env.now) }
+    ensures given { (told : Option Contents)
+        → Gives told result (found_tree path.now found left env.now) }
     ensures fault { (at : List ℕ) → result ≡ Err (LoadRefusal.ReadFault at) → ⊥ }
 {
     let (bytes, _) = taken(alloc, path, found, left)?;

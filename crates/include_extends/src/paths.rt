@@ -42,7 +42,8 @@ fn parts_of(alloc: Global, text: &str) -> Result<Vec<&str>, Memory>
 }
 
 fn take_step<'a>(parts: &mut Vec<&'a str>, step: &'a str) -> Result<(), Memory>
-    ensures { OnOk result (map (λ part. part.now) parts.new.items ≡ after_part (map (λ part. part.now) parts.old.items) step.now) }
+    ensures { OnOk result (map (λ part. part.now) parts.new.items
+        ≡ after_part (map (λ part. part.now) parts.old.items) step.now) }
 {
     if step.is_empty() || step == "." {
         return Ok(());
@@ -94,7 +95,8 @@ fn home_in(
     text: &Text,
     rest: &str,
 ) -> Result<Text, LoadRefusal>
-    ensures given { IsGiven result (home_in directory.now text.now rest.now (value_at env.now (codes "HOME"))) }
+    ensures given { IsGiven result
+        (home_in directory.now text.now rest.now (value_at env.now (codes "HOME"))) }
     ensures fault { (at : List ℕ) → result ≡ Err (LoadRefusal.ReadFault at) → ⊥ }
 {
     let name = Text::from_str(alloc, "HOME")?;

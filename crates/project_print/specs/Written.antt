@@ -31,9 +31,11 @@ abbrev pub parts_text : ℕ → ℕ → List Shown → List ℕ
 parts_text depth at [] = []
 parts_text depth at (part ∷ parts) = gap depth at ++ (hanging depth part ++ parts_text depth (suc at) parts)
 
+-- the entries of a mapping below one another
 abbrev pub entries_text : ℕ → List (List ℕ × Shown) → List ℕ
 entries_text depth entries = parts_text depth 0 (map entry entries)
 
+-- the items of a sequence below one another
 abbrev pub items_text : ℕ → List Shown → List ℕ
 items_text depth items = parts_text depth 0 (map item items)
 
@@ -51,6 +53,7 @@ abbrev pub listed_from : ℕ → List (List ℕ) → List ℕ
 listed_from at [] = []
 listed_from at (part ∷ parts) = comma at ++ (part ++ listed_from (suc at) parts)
 
+-- the members of an object, with commas between them
 abbrev pub members_text : List (List ℕ × List ℕ) → List ℕ
 members_text entries = listed_from 0 (map member entries)
 

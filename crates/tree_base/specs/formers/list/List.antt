@@ -35,6 +35,7 @@ the_empty = []
 abbrev pub the_items : (X : Type 0) → List X → List X
 the_items X d = d
 
+-- the values that a list holds are the children of its shape
 pub the_items_listed : (X : Type 0) (d : List X) → listed _ (children (the_former this) X d) ≡ the_items X d
 the_items_listed X d = list-listed X d
 

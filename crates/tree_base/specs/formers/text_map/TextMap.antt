@@ -41,6 +41,7 @@ most_values : {Y : Type 0} (f : Y → ℕ) (es : List (List ℕ × Y)) → most 
 most_values f [] = refl
 most_values f (e ∷ es) = λ i. max (sym (none_max (f e.1)) i) (most_values f es i)
 
+-- an entry that is put is as deep as the deepest of its values
 pub entries_puts : {g : Former {0}} (w : Weighed g) (X : Type 0) (μ : X → ℕ) (es : List (List ℕ × g.Of X)) (n : Count) (t : Row X n)
     → deepest μ (list_count (entry g) (map ((entry g).shape X) es) n) (list_put (entry g) X es n t) ≡ max (most (w.weight X μ) (values_of es)) (deepest μ n t)
 entries_puts w X μ es n t = List-puts (w_pair (w_const (List ℕ)) w) X μ es n t ∙ ap (λ a. max a (deepest μ n t)) (most_values (w.weight X μ) es)
@@ -57,6 +58,7 @@ the_empty = []
 abbrev pub the_items : (X : Type 0) → List (List ℕ × X) → List X
 the_items X d = values_of d
 
+-- the values that a map holds are the children of its shape
 pub the_items_listed : (X : Type 0) (d : List (List ℕ × X)) → listed _ (children (the_former this) X d) ≡ the_items X d
 the_items_listed X [] = refl
 the_items_listed X (e ∷ es) = ap (λ l. e.1 ∷ l) (the_items_listed X es)
