@@ -1,4 +1,4 @@
-ghost use Rattle.std.specs.Prelude.{◌≡◌, ℕ, List, [], ◌∷◌, ◌++◌, true, IfOk, OnOk};
+ghost use Rattle.std.specs.Prelude.{◌≡◌, ℕ, List, [], ◌∷◌, ◌++◌, IfOk, OnOk};
 ghost use Rattle.engine_types.specs.declared.Exchange.{Exchange};
 ghost use Rattle.engine_types.specs.declared.Request.{Request};
 ghost use Rattle.engine_types.specs.declared.Slot.{Slot};
