@@ -1,7 +1,9 @@
-//! The program `compose`: it gives the words of the command line, the working directory, the files of the disk
-//! and the standard streams to the top call of `compose_cli`, and ends with the status that this answers. Questions about the
-//! program itself, `--help` and `--version`, it answers before.
+//! The program `compose`: it gives the words of the command line, the variables, the working directory, the files of
+//! the disk and the standard streams to the top call of `compose_cli`, and ends with the status that this answers.
+//! Questions about the program itself, `--help` and `--version`, it answers before.
 #![tactic(auto)]
+
+mod variables;
 
 ghost use Rattle.std.specs.Prelude.{◌<◌, ◌^◌, length};
 
@@ -10,7 +12,8 @@ use compose_words::{Notice, help_text, notice_of, version_text};
 use outside_files::{DiskFiles, OutSink, write_all};
 use std::env;
 use std::process::ExitCode;
-use tree_base::{Env, List, Memory, Text};
+use tree_base::{List, Memory, Text};
+use variables::variables;
 
 /// The exit status where memory is wanted before the top call begins.
 const NO_MEMORY: u8 = 9;
@@ -56,8 +59,7 @@ fn call(rt: &HostRuntime, words: &List<Text>) -> Result<u8, Memory>
     requires { length words.now < 2 ^ 32 }
 {
     let alloc = rt.alloc();
-    // No rule that is built so far reads a variable.
-    let variables = Env::new(alloc);
+    let variables = variables(rt)?;
     let directory = working_directory(rt)?;
     let mut files = DiskFiles::new(rt);
     let mut plug = MainPlug::new();
