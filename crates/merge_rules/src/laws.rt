@@ -1,0 +1,16 @@
+ghost use Rattle.merge_rules.specs.Laws.{NoMarkIsLeft, NullLeaves, TreesStand};
+
+/// The law that null, laid over a tree, leaves it. Nothing runs.
+pub fn null_leaves()
+    ensures { NullLeaves }
+{}
+
+/// The law that no mark is left in a merged tree. Nothing runs.
+pub fn no_mark_is_left()
+    ensures { NoMarkIsLeft }
+{}
+
+/// The law that a tree without marks, laid over nothing by no rule, is that tree. Nothing runs.
+pub fn trees_stand()
+    ensures { TreesStand }
+{}
