@@ -1,0 +1,3 @@
+pub mod Grouping
+pub mod Twice
+pub mod Unspoken
