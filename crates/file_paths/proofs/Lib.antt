@@ -1,0 +1,5 @@
+pub mod Homes
+pub mod Joins
+pub mod Schemes
+pub mod Taken
+pub mod Walking

@@ -1,0 +1,167 @@
+ghost use Rattle.std.specs.Prelude.{◌≡◌, [], IfOk, length, map};
+ghost use Rattle.std.specs.List.{zip};
+ghost use Rattle.file_paths.specs.Answers.{Gives};
+ghost use Rattle.file_paths.specs.Paths.{homed};
+ghost use Rattle.file_paths.specs.Resolving.{entries_homed, items_homed, resolved, resolved_by, values_homed};
+ghost use Rattle.file_paths.specs.Spots.{rules_of};
+ghost use Rattle.tree_base.specs.declared.Tree.{Tree};
+
+use crate::refusal::PathRefusal;
+use crate::spot::{PathKind, PathSpot, kind_at, spot_below, spot_of_items};
+use crate::text::{mount_homed, text_homed};
+use std::alloc::Global;
+use tree_base::{Boxed, Env, List, Map, Text, Tree};
+
+/// The tree of a model with its paths taken against the model's directory, where the home is the one that its variables
+/// name. What holds no path is shared, and not copied. `NoHome` with the first path, in the tree's order, that has no
+/// home, and `Memory`.
+pub fn resolved(
+    alloc: Global,
+    directory: &Text,
+    env: &Env,
+    tree: &Tree,
+) -> Result<Tree, PathRefusal>
+    ensures { Gives result (resolved directory.now env.now tree.now) }
+{
+    resolve(tree, PathSpot::Root, directory, env, alloc)
+}
+
+/// A tree whose paths are absolute. Where it has none, it shares what it holds.
+#[cycle(resolve)]
+fn resolve(
+    tree: &Tree,
+    spot: PathSpot,
+    directory: &Text,
+    env: &Env,
+    alloc: Global,
+) -> Result<Tree, PathRefusal>
+    ensures { Gives result (resolved_by (homed directory.now env.now) tree.now (rules_of spot)) }
+{
+    match spot {
+        PathSpot::Plain => Ok(tree.copy(alloc)?),
+        _ => resolve_parts(tree, spot, directory, env, alloc),
+    }
+}
+
+/// A tree whose paths are absolute, by its parts whose are.
+#[cycle(resolve)]
+fn resolve_parts(
+    tree: &Tree,
+    spot: PathSpot,
+    directory: &Text,
+    env: &Env,
+    alloc: Global,
+) -> Result<Tree, PathRefusal>
+    ensures { Gives result (resolved_by (homed directory.now env.now) tree.now (rules_of spot)) }
+{
+    match tree {
+        Tree::Null => Ok(Tree::Null),
+        Tree::Scalar(text) => text_homed(kind_at(spot), text, directory, env, alloc),
+        Tree::Map(entries) => resolve_map(entries.get(), spot, directory, env, alloc),
+        Tree::Seq(items) => resolve_seq(items.as_slice(), spot, directory, env, alloc),
+        Tree::Reset => Ok(Tree::Reset),
+        Tree::Override(inner) => {
+            let value = resolve(inner.get(), spot, directory, env, alloc)?;
+            Ok(Tree::Override(Boxed::new(alloc, value)?))
+        }
+    }
+}
+
+/// A mapping whose paths are absolute, with the same keys.
+#[cycle(resolve)]
+fn resolve_map(
+    entries: &Map,
+    spot: PathSpot,
+    directory: &Text,
+    env: &Env,
+    alloc: Global,
+) -> Result<Tree, PathRefusal>
+    ensures { Gives result
+        (resolved_by (homed directory.now env.now) (Tree.Map entries.now) (rules_of spot)) }
+{
+    let values = resolve_values(
+        entries.values(),
+        entries.keys(),
+        spot,
+        directory,
+        env,
+        alloc,
+    )?;
+    let all = entries.with_values(alloc, values)?;
+    let whole = entries_homed(kind_at(spot), all, directory, env, alloc)?;
+    Ok(Tree::mapping(alloc, whole)?)
+}
+
+/// The values of a mapping, their paths absolute.
+#[cycle(resolve)]
+fn resolve_values(
+    values: &[Tree],
+    keys: &[Text],
+    spot: PathSpot,
+    directory: &Text,
+    env: &Env,
+    alloc: Global,
+) -> Result<List<Tree>, PathRefusal>
+    requires { length keys.now ≡ length values.now }
+    ensures value { Gives result (values_homed (rules_of spot) []
+        (zip keys.now (map (resolved_by (homed directory.now env.now)) values.now))) }
+    ensures len { IfOk result (λ done. length done ≡ length values.now) }
+{
+    let mut done = List::new(alloc);
+    for (at, value) in values.iter().enumerate() {
+        let below = spot_below(spot, keys[at].as_str());
+        done.push(resolve(value, below, directory, env, alloc)?)?;
+    }
+    Ok(done)
+}
+
+/// A sequence whose paths are absolute.
+#[cycle(resolve)]
+fn resolve_seq(
+    items: &[Tree],
+    spot: PathSpot,
+    directory: &Text,
+    env: &Env,
+    alloc: Global,
+) -> Result<Tree, PathRefusal>
+    ensures { Gives result
+        (resolved_by (homed directory.now env.now) (Tree.Seq items.now) (rules_of spot)) }
+{
+    let all = resolve_items(items, spot_of_items(spot), directory, env, alloc)?;
+    Ok(Tree::sequence(alloc, all)?)
+}
+
+/// Items at a spot, their paths absolute.
+#[cycle(resolve)]
+fn resolve_items(
+    items: &[Tree],
+    spot: PathSpot,
+    directory: &Text,
+    env: &Env,
+    alloc: Global,
+) -> Result<List<Tree>, PathRefusal>
+    ensures { Gives result (items_homed (rules_of spot) []
+        (map (resolved_by (homed directory.now env.now)) items.now)) }
+{
+    let mut done = List::new(alloc);
+    for item in items {
+        done.push(resolve(item, spot, directory, env, alloc)?)?;
+    }
+    Ok(done)
+}
+
+/// A mapping whose values are done: a mount has a path of its own.
+fn entries_homed(
+    kind: Option<PathKind>,
+    entries: Map,
+    directory: &Text,
+    env: &Env,
+    alloc: Global,
+) -> Result<Map, PathRefusal>
+    ensures { Gives result (entries_homed (homed directory.now env.now) kind entries) }
+{
+    match kind {
+        Some(PathKind::Bind) => mount_homed(entries, directory, env, alloc),
+        _ => Ok(entries),
+    }
+}
