@@ -90,6 +90,8 @@ module _ (options : Options) (env : Variables) (cwd : List ℕ) where
     means_refusal (LoadRefusal.Yaml path cause) h = refused_means (LoadRefusal.Yaml path cause) (λ e. cc e) (λ path e. cc e) h
     means_refusal (LoadRefusal.EnvFile path cause) h = refused_means (LoadRefusal.EnvFile path cause) (λ e. cc e) (λ path e. cc e) h
     means_refusal (LoadRefusal.Subst path cause) h = refused_means (LoadRefusal.Subst path cause) (λ e. cc e) (λ path e. cc e) h
+    means_refusal (LoadRefusal.Merge path cause) h = refused_means (LoadRefusal.Merge path cause) (λ e. cc e) (λ path e. cc e) h
+    means_refusal (LoadRefusal.BadShape at) h = refused_means (LoadRefusal.BadShape at) (λ e. cc e) (λ path e. cc e) h
     means_refusal LoadRefusal.Memory h = tt
 
   module _ (told : Option Contents) where
@@ -133,6 +135,8 @@ load_no_words (LoadRefusal.NoHome path) h = cc h
 load_no_words (LoadRefusal.Yaml path cause) h = cc h
 load_no_words (LoadRefusal.EnvFile path cause) h = cc h
 load_no_words (LoadRefusal.Subst path cause) h = cc h
+load_no_words (LoadRefusal.Merge path cause) h = cc h
+load_no_words (LoadRefusal.BadShape at) h = cc h
 load_no_words LoadRefusal.Memory h = cc h
 
 -- what holds of refusals of a project

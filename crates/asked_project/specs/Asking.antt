@@ -31,11 +31,11 @@ unbuilt_variable env =
     else (if is_some (value_at env (codes "COMPOSE_PROFILES"))
     then Some (codes "COMPOSE_PROFILES") else None)
 
--- no option is given that isn't built for any command: other files, directories, names, profiles and sockets
+-- no option is given that isn't built for any command: names, profiles, sockets and stop files
 abbrev pub has_only_built : Options → Bool
 has_only_built options =
-    is_empty options.files && (is_none options.project && (is_none options.directory
-    && (is_empty options.profiles && (is_none options.socket && is_none options.stop_file))))
+    is_none options.project && (is_empty options.profiles
+    && (is_none options.socket && is_none options.stop_file))
 
 -- a command that is built, with its own options, on an Engine in memory or not
 abbrev pub is_built_command : Bool → Command → Bool

@@ -6,12 +6,13 @@ use Rattle.compose_words.specs.declared.Options.{Options}
 use Rattle.include_extends.specs.Loading.{loading}
 use Rattle.include_extends.specs.Reads.{Load, Ran, loaded_from}
 use Rattle.include_extends.specs.declared.LoadRefusal.{LoadRefusal}
+use Rattle.include_extends.specs.declared.LoadRequest.{LoadRequest}
 use Rattle.include_extends.specs.declared.Loaded.{Loaded}
 use Rattle.outside_files.specs.Counts.{Rose}
 use Rattle.outside_files.specs.Files.{Contents}
-use Rattle.plain_services.specs.ProjectNames.{base_name}
-use Rattle.plain_services.specs.Projects.{project_of}
-use Rattle.plain_services.specs.declared.PlainRefusal.{PlainRefusal}
+use Rattle.normal_form.specs.ProjectNames.{base_name}
+use Rattle.normal_form.specs.Projects.{project_of}
+use Rattle.loading_words.specs.declared.TreeRefusal.{TreeRefusal}
 use Rattle.refusals.specs.Origins.{load_refusal, project_refusal}
 use Rattle.refusals.specs.Refused.{is_free}
 use Rattle.refusals.specs.declared.Refusal.{Refusal}
@@ -25,7 +26,7 @@ loaded_or_refused (Ok loaded) = Ok loaded
 loaded_or_refused (Err refusal) = Err (load_refusal refusal)
 
 -- a project, or what a call is refused with whose tree gives none
-abbrev pub project_or_refused : Result Project PlainRefusal → Result Project Refusal
+abbrev pub project_or_refused : Result Project TreeRefusal → Result Project Refusal
 project_or_refused (Ok project) = Ok project
 project_or_refused (Err refusal) = Err (project_refusal refusal)
 
@@ -40,9 +41,20 @@ project_loaded loaded =
     unless_variable (unbuilt_variable loaded.env)
     (project_or_refused (project_of (base_name loaded.directory) loaded.tree))
 
--- what options, variables and a working directory load: the Compose file under its variables
+-- what options, variables and a working directory ask to be loaded
+abbrev pub request_for : Options → Variables → List ℕ → LoadRequest
+request_for options env cwd =
+    record {
+      files = options.files;
+      project_directory = options.directory;
+      env_files = options.env_files;
+      env = env;
+      cwd = cwd;
+    }
+
+-- what they load: the Compose files, merged, under their variables
 abbrev pub load_for : Options → Variables → List ℕ → Load Loaded
-load_for options env cwd = loading options.env_files env cwd
+load_for options env cwd = loading (request_for options env cwd)
 
 -- the project that options, variables, a working directory and files give, or the first refusal
 abbrev pub project_for : Options → Variables → List ℕ → Contents → Result Project Refusal

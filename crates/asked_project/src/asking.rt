@@ -1,8 +1,10 @@
 ghost use Rattle.std.specs.Prelude.{◌≡◌, ◌<◌, ◌^◌, Err, Ok, IfErr, IfOk, IfSome, IsTrue, length};
 ghost use Rattle.asked_project.specs.Asking.{options_asked};
-ghost use Rattle.asked_project.specs.Meaning.{IsFailedLoad, IsFailedRead, IsLoaded, IsSpelled, MeansAs, meaning};
+ghost use Rattle.asked_project.specs.Meaning.{IsFailedLoad, IsFailedRead, IsLoaded, IsSpelled, MeansAs, load_for, meaning, request_for};
 ghost use Rattle.asked_project.specs.Parts.{MeansFor, asked_with};
+ghost use Rattle.include_extends.specs.Reads as loads;
 ghost use Rattle.include_extends.specs.declared.LoadRefusal.{LoadRefusal};
+ghost use Rattle.outside_files.specs.Counts.{Rose};
 ghost use Rattle.refusals.specs.Origins.{IsBeforeDial, is_of_words};
 ghost use Rattle.refusals.specs.Refused.{wants_memory};
 ghost use Rattle.refusals.specs.declared.Refusal.{Refusal};
@@ -12,12 +14,12 @@ ghost use Rattle.tree_base.specs.Answers.{Gives};
 use crate::loaded::project_loaded;
 use crate::words::options_asked;
 use compose_words::Options;
-use include_extends::load;
+use include_extends::{LoadRefusal, LoadRequest, Loaded, load};
 use outside_files::Files;
 use refusals::Refusal;
 use service_attrs::Project;
 use std::alloc::Global;
-use tree_base::{Env, List, Text};
+use tree_base::{Env, List, Memory, Text, TryCopy};
 
 /// What a call is asked: its command with all options, and the project that it is for.
 #[derive(Drop)]
@@ -87,7 +89,7 @@ fn project_for<F: Files>(
     ensures kind { IfErr result IsBeforeDial }
     ensures kept { F.told files.new ≡ F.told files.old }
 {
-    match load(alloc, files, &options.env_files, env, cwd) {
+    match load_for(alloc, &options, env, cwd, files) {
         Ok(loaded) => {
             let project = project_loaded(alloc, &loaded);
             // By calls, here and below: else the drop of each text would be proved at this place.
@@ -99,6 +101,47 @@ fn project_for<F: Files>(
             Err(Refusal::from(refusal))
         }
     }
+}
+
+/// What options load.
+fn load_for<F: Files>(
+    alloc: Global,
+    options: &Options,
+    env: &Env,
+    cwd: &Text,
+    files: &mut F,
+) -> Result<Loaded, LoadRefusal>
+    ensures given { loads.Gives (F.told files.old) result (load_for options.now env.now cwd.now) }
+    ensures fault { (at : _) → result ≡ Err (LoadRefusal.ReadFault at)
+        → Rose (F.faults files.old) (F.faults files.new) }
+    ensures kept { F.told files.new ≡ F.told files.old }
+{
+    match request_for(alloc, options, env, cwd) {
+        Ok(request) => {
+            let loaded = load(alloc, files, &request);
+            drop(request);
+            loaded
+        }
+        Err(Memory) => Err(LoadRefusal::Memory),
+    }
+}
+
+/// What options, variables and a working directory ask to be loaded.
+fn request_for(
+    alloc: Global,
+    options: &Options,
+    env: &Env,
+    cwd: &Text,
+) -> Result<LoadRequest, Memory>
+    ensures { IfOk result (λ request. request ≡ request_for options.now env.now cwd.now) }
+{
+    Ok(LoadRequest {
+        files: options.files.copy(alloc)?,
+        project_directory: options.directory.copy(alloc)?,
+        env_files: options.env_files.copy(alloc)?,
+        env: env.copy(alloc)?,
+        cwd: cwd.copy(alloc)?,
+    })
 }
 
 /// What a call is asked, where a project was loaded for its options.

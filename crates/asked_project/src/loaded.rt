@@ -1,8 +1,8 @@
 ghost use Rattle.std.specs.Prelude.{◌≡◌, Err, IfErr, IfOk};
 ghost use Rattle.asked_project.specs.Meaning.{project_loaded, project_or_refused};
 ghost use Rattle.asked_project.specs.Parts.{IsOfProject};
-ghost use Rattle.plain_services.specs.ProjectNames.{base_name};
-ghost use Rattle.plain_services.specs.Projects.{project_of};
+ghost use Rattle.normal_form.specs.ProjectNames.{base_name};
+ghost use Rattle.normal_form.specs.Projects.{project_of};
 ghost use Rattle.refusals.specs.Refused.{wants_memory};
 ghost use Rattle.refusals.specs.declared.Refusal.{Refusal};
 ghost use Rattle.refusals.specs.declared.Unbuilt.{Unbuilt};
@@ -11,7 +11,7 @@ ghost use Rattle.tree_base.specs.Answers.{Gives};
 
 use crate::words::unbuilt_variable;
 use include_extends::Loaded;
-use plain_services::project_in;
+use normal_form::project_in;
 use refusals::{Refusal, Unbuilt};
 use service_attrs::Project;
 use std::alloc::Global;

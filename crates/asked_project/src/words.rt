@@ -73,9 +73,7 @@ pub(crate) fn unbuilt_variable(alloc: Global, env: &Env) -> Result<Option<&'stat
 fn has_only_built(options: &Options) -> bool
     ensures { result ≡ has_only_built options.now }
 {
-    options.files.is_empty()
-        && options.project.is_none()
-        && options.directory.is_none()
+    options.project.is_none()
         && options.profiles.is_empty()
         && options.socket.is_none()
         && options.stop_file.is_none()

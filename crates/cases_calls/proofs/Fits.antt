@@ -1,5 +1,5 @@
 -- Words that were read as `config`, or were refused, are such words.
-use Rattle.std.proofs.Common.{◌≡◌, Some, Ok, Err, subst, sym}
+use Rattle.std.proofs.Common.{Some, Ok, Err, subst, sym}
 use Rattle.std.specs.Prelude.{IsTrue, Result}
 use Rattle.cases_calls.specs.Fits.{fits_config, is_config}
 use Rattle.compose_config.specs.Commands.{IsConfig, IsConfigOrRefused}

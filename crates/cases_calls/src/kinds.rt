@@ -2,6 +2,7 @@ use crate::config_call::config;
 use crate::files::reads;
 use crate::hands::{clock, hand, plug};
 use crate::lines::{say, say_if_any, write};
+use crate::load_files::load_files;
 use crate::sinks::writes;
 use crate::whole_call::call;
 use crate::whole_calls::calls;
@@ -28,6 +29,15 @@ const CONFIG: [&str; 6] = [
     "err_sink",
 ];
 
+const LOAD_FILES: [&str; 6] = [
+    "directory",
+    "files",
+    "failing_reads",
+    "environment",
+    "env_files",
+    "project_directory",
+];
+
 const READS: [&str; 2] = ["files", "failing_reads"];
 
 const SINK: [&str; 3] = ["room", "failing_writes", "pieces"];
@@ -41,6 +51,7 @@ pub fn inputs_of(call: &str) -> Option<&'static [&'static str]> {
     match call {
         "call" => Some(&CALL),
         "config" => Some(&CONFIG),
+        "load_files" => Some(&LOAD_FILES),
         "reads" => Some(&READS),
         "write" | "writes" | "say" | "say_if_any" => Some(&SINK),
         "hand" => Some(&HAND),
@@ -56,6 +67,7 @@ pub fn answer(name: &str, fields: &Fields, answers: &mut Answers) {
         "call" => call(fields, answers),
         "calls" => calls(fields, answers),
         "config" => config(fields, answers),
+        "load_files" => load_files(fields, answers),
         "reads" => reads(fields, answers),
         "write" => write(fields, answers),
         "writes" => writes(fields, answers),

@@ -23,3 +23,4 @@ pub use entries::{Entries, under_keys, variables_tree};
 pub use items::Items;
 pub use parts::{is_word, scalar_in};
 pub use paths::path_tree;
+pub use trees::tree_with_marks;

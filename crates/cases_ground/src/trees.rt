@@ -7,8 +7,8 @@ use tree_base::{Boxed, List, Map, Memory, Tree};
 
 /// `tree: TREE`: what stands under `step` or at `path`, as `child` and `found`, where they lead to something, which
 /// `leads` says; whether it is the `same` as an `other`; how many `nodes` and `text_bytes` it has, where they are at most
-/// `most_nodes` and `most_text`; and whether it `is_within_depth` of `most_levels`. In a sequence `{mark: reset}` is a
-/// `!reset`.
+/// `most_nodes` and `most_text`; and whether it `is_within_depth` of `most_levels`. `{mark: reset}` is a `!reset`,
+/// and `{mark: override, of: TREE}` an `!override`.
 pub(crate) fn tree(fields: &Fields, answers: &mut Answers) {
     if let Some(copy) = copy_with_marks(&mut answers.reading, fields) {
         put_child(&copy, fields, answers);
@@ -76,9 +76,9 @@ fn put_or_null(name: &str, number: Option<u64>, answers: &mut Answers) {
     }
 }
 
-/// The tree in which each `{mark: reset}` is a `!reset`.
+/// The tree in which each `{mark: reset}` is a `!reset`, and each `{mark: override, of: TREE}` an `!override` of that tree.
 #[cycle(marks)]
-fn tree_with_marks(reading: &mut Reading, tree: &Tree) -> Tree {
+pub fn tree_with_marks(reading: &mut Reading, tree: &Tree) -> Tree {
     match tree {
         Tree::Map(entries) => map_with_marks(reading, entries.get()),
         Tree::Seq(items) => {
@@ -109,13 +109,26 @@ fn overriding(reading: &mut Reading, inner: Tree) -> Tree {
 
 #[cycle(marks)]
 fn map_with_marks(reading: &mut Reading, entries: &Map) -> Tree {
-    if is_reset(entries) {
+    if is_marked(entries, "reset") {
         Tree::Reset
     } else {
         let values = trees_with_marks(reading, entries.values());
-        let entries = under_keys(reading, entries, values);
-        let made = Tree::mapping(reading.alloc, entries);
-        reading.given(made, Tree::Null)
+        if is_marked(entries, "override") {
+            overriding_last(reading, values)
+        } else {
+            let entries = under_keys(reading, entries, values);
+            let made = Tree::mapping(reading.alloc, entries);
+            reading.given(made, Tree::Null)
+        }
+    }
+}
+
+/// An `!override` of the last of the values, which stands under `of`.
+fn overriding_last(reading: &mut Reading, values: List<Tree>) -> Tree {
+    let mut values = values;
+    match values.pop() {
+        Some(inner) => overriding(reading, inner),
+        None => Tree::Null,
     }
 }
 
@@ -129,9 +142,9 @@ fn trees_with_marks(reading: &mut Reading, trees: &[Tree]) -> List<Tree> {
     copies
 }
 
-fn is_reset(entries: &Map) -> bool {
+fn is_marked(entries: &Map, word: &str) -> bool {
     match entries.find("mark") {
-        Some(mark) => is_word(mark, "reset"),
+        Some(mark) => is_word(mark, word),
         None => false,
     }
 }

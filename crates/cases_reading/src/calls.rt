@@ -1,4 +1,4 @@
-use crate::{env_files, forms, laws, mounts, pages, ports, projects, variables, words};
+use crate::{env_files, forms, laws, merging, mounts, pages, ports, projects, variables, words};
 use case_files::{Answers, Fields};
 
 /// The inputs of a call beside its main one; None where the call isn't one of the reading side. No memory.
@@ -11,6 +11,8 @@ pub fn inputs_of(call: &str) -> Option<&'static [&'static str]> {
         "duration" | "size" | "decimal" | "key_value" | "shell_words" | "port" | "mount" => {
             Some(&[])
         }
+        "merge" | "long_forms" => Some(&[]),
+        "overlay" => Some(&["base"]),
         "out_of_memory" | "law" => Some(&[]),
         "load" => Some(&["directory", "file", "failing", "times"]),
         _ => cases_ground::inputs_of(call),
@@ -45,6 +47,9 @@ fn answer_of_form(call: &str, fields: &Fields, answers: &mut Answers) {
         "shell_words" => forms::shell_words(fields, answers),
         "port" => ports::port(fields, answers),
         "mount" => mounts::mount(fields, answers),
+        "merge" => merging::merge(fields, answers),
+        "long_forms" => merging::in_long_forms(fields, answers),
+        "overlay" => merging::laid(fields, answers),
         "out_of_memory" => forms::out_of_memory(fields, answers),
         _ => cases_ground::answer(call, fields, answers),
     }

@@ -15,9 +15,9 @@ fn returns(name: &str) -> bool {
     match name {
         "scalars_read_back" => project_print::scalars_read_back(),
         "dollars_read_back" => project_print::dollars_read_back(),
-        "projects_read_back" => plain_services::projects_read_back(),
-        "services_read_back" => plain_services::services_read_back(),
-        "no_service_is_lost" => plain_services::no_service_is_lost(),
+        "projects_read_back" => normal_form::projects_read_back(),
+        "services_read_back" => normal_form::services_read_back(),
+        "no_service_is_lost" => normal_form::no_service_is_lost(),
         _ => return false,
     }
     true

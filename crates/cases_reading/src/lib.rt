@@ -9,6 +9,7 @@ mod calls;
 mod env_files;
 mod forms;
 mod laws;
+mod merging;
 mod mounts;
 mod options;
 mod pages;

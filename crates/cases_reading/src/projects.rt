@@ -3,11 +3,10 @@ ghost use Rattle.service_attrs.specs.Projects.{IsInOrder};
 
 use case_files::{Answers, Fields, Reading};
 use cases_ground::Entries;
-use include_extends::{LoadRefusal, Loaded};
+use include_extends::{LoadRefusal, LoadRequest, Loaded};
+use loading_words::{TreeRefusal, load_status, load_words, refusal_status, refusal_words};
+use normal_form::project_in;
 use outside_files::MemoryFiles;
-use plain_services::{
-    PlainRefusal, load_status, load_words, project_in, refusal_status, refusal_words,
-};
 use project_print::{page, page_json};
 use service_attrs::{Project, Service};
 use std::alloc::Global;
@@ -38,9 +37,14 @@ fn load_in(
     directory: &Text,
     files: &mut MemoryFiles,
 ) -> Result<Loaded, LoadRefusal> {
-    let env_files = List::new(alloc);
-    let env = Env::new(alloc);
-    include_extends::load(alloc, files, &env_files, &env, directory)
+    let request = LoadRequest {
+        files: List::new(alloc),
+        project_directory: None,
+        env_files: List::new(alloc),
+        env: Env::new(alloc),
+        cwd: directory.copy(alloc)?,
+    };
+    include_extends::load(alloc, files, &request)
 }
 
 /// What was loaded is dropped by a call: a drop in place is proved variant by variant.
@@ -58,7 +62,7 @@ fn put_project_in(loaded: &Loaded, answers: &mut Answers) {
     drop(project);
 }
 
-fn put_found(found: &Result<Project, PlainRefusal>, answers: &mut Answers)
+fn put_found(found: &Result<Project, TreeRefusal>, answers: &mut Answers)
     requires order { IfOk found.now (λ project. IsInOrder project.services) }
 {
     match found {
@@ -89,7 +93,7 @@ fn refuse_load(refusal: &LoadRefusal, answers: &mut Answers) {
     answers.put_said("refused", words);
 }
 
-fn refuse_project(refusal: &PlainRefusal, answers: &mut Answers) {
+fn refuse_project(refusal: &TreeRefusal, answers: &mut Answers) {
     answers.put_number("status", u64::from(refusal_status(refusal)));
     let words = refusal_words(answers.reading.alloc, refusal);
     answers.put_said("refused", words);

@@ -8,9 +8,10 @@ use Rattle.compose_words.specs.declared.WordsRefusal.{WordsRefusal}
 use Rattle.dotenv.specs.declared.refusal.EnvRefusal.{EnvRefusal}
 use Rattle.include_extends.specs.declared.LoadRefusal.{LoadRefusal}
 use Rattle.interpolate.specs.declared.refusal.SubstTreeRefusal.{SubstTreeRefusal}
-use Rattle.plain_services.specs.Statuses.{env_status, project_status, tree_status, yaml_status}
+use Rattle.merge_rules.specs.declared.refusal.MergeRefusal.{MergeRefusal}
+use Rattle.loading_words.specs.Statuses.{env_status, merge_status, project_status, tree_status, yaml_status}
 use Rattle.refusals.specs.Statuses.{refusal_status, status_of, words_status}
-use Rattle.plain_services.specs.declared.ProjectRefusal.{ProjectRefusal}
+use Rattle.loading_words.specs.declared.ProjectRefusal.{ProjectRefusal}
 use Rattle.refusals.specs.declared.Refusal.{Refusal}
 use Rattle.refusals.specs.declared.Unbuilt.{Unbuilt}
 use Rattle.run_model.specs.Ending.{lost_status, outcome_status, seen_status}
@@ -60,6 +61,13 @@ tree_not_zero (SubstTreeRefusal.At path cause) e = absurd (cc e)
 tree_not_zero SubstTreeRefusal.TooMuchText e = absurd (cc e)
 tree_not_zero SubstTreeRefusal.Memory e = absurd (cc e)
 
+merge_not_zero : (refusal : MergeRefusal) → merge_status refusal ≡ 0 → ⊥
+merge_not_zero (MergeRefusal.KindMismatch path) e = absurd (cc e)
+merge_not_zero (MergeRefusal.BadUniqueEntry path) e = absurd (cc e)
+merge_not_zero MergeRefusal.TooManyNodes e = absurd (cc e)
+merge_not_zero MergeRefusal.TooMuchText e = absurd (cc e)
+merge_not_zero MergeRefusal.Memory e = absurd (cc e)
+
 project_not_zero : (refusal : ProjectRefusal) → project_status refusal ≡ 0 → ⊥
 project_not_zero (ProjectRefusal.BadShape path) e = absurd (cc e)
 project_not_zero (ProjectRefusal.BadName name) e = absurd (cc e)
@@ -88,6 +96,8 @@ refusal_not_zero (Refusal.Load (LoadRefusal.NoHome path)) e = absurd (cc e)
 refusal_not_zero (Refusal.Load (LoadRefusal.Yaml path cause)) e = yaml_not_zero cause e
 refusal_not_zero (Refusal.Load (LoadRefusal.EnvFile path cause)) e = env_not_zero cause e
 refusal_not_zero (Refusal.Load (LoadRefusal.Subst path cause)) e = tree_not_zero cause e
+refusal_not_zero (Refusal.Load (LoadRefusal.Merge path cause)) e = merge_not_zero cause e
+refusal_not_zero (Refusal.Load (LoadRefusal.BadShape at)) e = absurd (cc e)
 refusal_not_zero (Refusal.Load LoadRefusal.Memory) e = absurd (cc e)
 refusal_not_zero (Refusal.Name refusal) e = project_not_zero refusal e
 refusal_not_zero (Refusal.Project refusal) e = project_not_zero refusal e

@@ -40,10 +40,11 @@ use tree_base::{Env, List, Text};
 /// Does what the words of the command line ask for, with one hand. It waits for nobody, and always returns.
 ///
 /// So far these commands are built: `config`, also with `--quiet`, which writes the project's page to `out`; and `up`
-/// and `down` with `--memory`, also with `--remove-orphans`, which bring the project of the Compose file
-/// `compose.yaml` in the working directory up, or take it down, on an Engine in memory. The file's scalars take the
-/// values of the variables `env`, and of those of the files of `--env-file`, or else of `.env`. The report of a run
-/// is written to `out`, one line for each action that ended well, and the line of a refusal to `err`.
+/// and `down` with `--memory`, also with `--remove-orphans`, which bring the project of the Compose files up, or take
+/// it down, on an Engine in memory. The files are those of `-f`, merged in their order, or else the default one of the
+/// project directory; their scalars take the values of the variables `env`, and of those of the files of `--env-file`,
+/// or else of `.env`. The report of a run is written to `out`, one line for each action that ended well, and the line of
+/// a refusal to `err`.
 pub fn serial_main<F: Files, P: Plug, O: Sink, G: Sink>(
     alloc: Global,
     words: &List<Text>,

@@ -157,6 +157,8 @@ module _ (words : List (List ℕ)) (env : Variables) where
         free (Refusal.Load (LoadRefusal.Yaml path cause)) e read = absurd (cc e)
         free (Refusal.Load (LoadRefusal.EnvFile path cause)) e read = absurd (cc e)
         free (Refusal.Load (LoadRefusal.Subst path cause)) e read = absurd (cc e)
+        free (Refusal.Load (LoadRefusal.Merge path cause)) e read = absurd (cc e)
+        free (Refusal.Load (LoadRefusal.BadShape at)) e read = absurd (cc e)
         free (Refusal.Load LoadRefusal.Memory) e read = absurd (cc e)
         free (Refusal.Words words) e read = absurd (cc e)
         free (Refusal.NotBuilt unbuilt) e read = absurd (cc e)

@@ -3,8 +3,7 @@ use Rattle.std.proofs.Common.{◌≡◌, ◌∙◌, ℕ, ◌++◌, Bool, true, f
 use Rattle.std.specs.Prelude.{All, not}
 use Rattle.std.specs.List.{list_all}
 use Rattle.std.proofs.lemmas.List.Elements.{All-head, All-tail}
-use Rattle.compose_config.specs.Laws.{PlainPagesAreFiles, service_lines, text_word}
-use Rattle.plain_services.specs.Laws.{print_of}
+use Rattle.compose_config.specs.Laws.{PlainPagesAreFiles, print_of, service_lines, text_word}
 use Rattle.service_attrs.specs.declared.Service.{Service}
 use Rattle.project_print.specs.Scalars.{begins_plain, doubled, in_quotes, is_plain, is_plain_byte, is_word, means_more, scalar}
 use Rattle.compose_config.proofs.Lines.{pages}

@@ -1,7 +1,6 @@
 -- Laws about the page of a project.
 use Rattle.std.specs.Prelude.{◌≡◌, ◌<◌, ℕ, true, List, [], ◌++◌, All, codes, flat_map, length}
 use Rattle.project_print.specs.ProjectPages.{project_page}
-use Rattle.plain_services.specs.Laws.{prints_of}
 use Rattle.service_attrs.specs.declared.Service.{Service}
 use Rattle.service_attrs.specs.declared.Project.{Project}
 use Rattle.project_print.specs.Scalars.{doubled, is_plain, scalar}
@@ -31,6 +30,16 @@ EmptyProjectsHaveTwoLines =
     (project : Project) → project.services ≡ []
     → project_page project
     ≡ codes "name: " ++ (text_word project.name ++ codes "\nservices: {}\n")
+
+-- a service as a Compose file has it, line by line
+abbrev pub print_of : Service → List ℕ
+print_of service =
+    codes "  " ++ (service.key ++ (codes ":\n    image: "
+    ++ (service.image ++ codes "\n    network_mode: none\n")))
+
+-- services as a Compose file has them, line by line
+abbrev pub prints_of : List Service → List ℕ
+prints_of services = codes "services:\n" ++ flat_map print_of services
 
 -- where no word needs quotes, the page is the line of the name above the text of a Compose file with these services
 abbrev pub PlainPagesAreFiles : Type 0

@@ -32,9 +32,10 @@ pub struct ConfigEnd {
 
 /// Prints the project that the words of the command line ask for, and always returns.
 ///
-/// The words have to be those of `config`, or of no command. The Compose file is `compose.yaml` in the working
-/// directory `cwd`, and its scalars take the values of the variables `env` and of env files. The page of its project
-/// is written to `out`, and nothing of it with `--quiet`; the line of a refusal is written to `err`.
+/// The words have to be those of `config`, or of no command. The Compose files are those of `-f`, merged in their
+/// order, or else the default one of the project directory; their scalars take the values of the variables `env` and
+/// of env files. The page of their project is written to `out`, and nothing of it with `--quiet`; the line of a refusal
+/// is written to `err`.
 pub fn config_run<F: Files, O: Sink, G: Sink>(
     alloc: Global,
     words: &List<Text>,

@@ -1,4 +1,4 @@
-//! The command `config`: it prints the page of the project that the words and the Compose file give.
+//! The command `config`: it prints the page of the project that the words and the Compose files give.
 //!
 //! The contract of `config_run` says when the call is refused and how, that at status 0 the page was written whole,
 //! and that otherwise no more than a prefix of it was. Laws say what the page is, line by line, and where it is the

@@ -1,7 +1,8 @@
 mod Faults
-mod Homes
-mod Joins
+mod Files
 mod Laid
+mod Named
+mod Placed
 pub mod Runs
 mod Steps
 mod Winning

@@ -1,18 +1,13 @@
 -- What each step of loading gives, by what its reads gave.
 use Rattle.std.proofs.Common.{◌≡◌, ℕ, List, ◌∷◌, Option, Some, Result, Ok, Err, refl, sym, ap, subst}
-use Rattle.std.specs.Prelude.{codes}
-use Rattle.include_extends.specs.declared.loading.Loaded.{Loaded}
 use Rattle.include_extends.specs.declared.reads.Seen.{Seen}
 use Rattle.include_extends.specs.declared.reads.Seen.TheVariants.{There, Longer, Missing}
 use Rattle.include_extends.specs.declared.refusal.LoadRefusal.{LoadRefusal}
-use Rattle.include_extends.specs.Loading.{compose_file, env_file_if, env_files, environment, file_tree, file_variables, found_or, found_tree, loaded_in, most_files, of_subst, of_yaml, tree_in, with_all, with_env_file, with_file}
-use Rattle.include_extends.specs.Paths.{Variables, joined}
-use Rattle.include_extends.specs.Reads.{◌>>=◌, Gives, IsGiven, Load, Ran, after, file_at, file_if_there, give, look, taken, taken_if}
+use Rattle.include_extends.specs.Loading.{env_file_if, env_files, environment, file_variables, with_all, with_env_file, with_file}
+use Rattle.include_extends.specs.Paths.{Variables}
+use Rattle.include_extends.specs.Reads.{◌>>=◌, Gives, IsGiven, Load, Ran, after, file_at, file_if_there, give, taken, taken_if}
 use Rattle.include_extends.proofs.Runs.{given_on, given_out, gives_on, gives_out, ran_on, ran_out}
 use Rattle.outside_files.specs.Files.{Contents}
-use Rattle.interpolate.specs.Walking.{substituted_tree}
-use Rattle.tree_base.specs.Entries.{value_at}
-use Rattle.tree_base.specs.declared.Tree.{Tree}
 
 -- what may be missing is taken like any other where it is there
 pub taken_there : (path : List ℕ) (seen : Seen) (left : ℕ) → (seen ≡ Missing → ⊥) → taken_if path seen left ≡ (taken path seen left >>= λ got. give (Some got.0, got.1))
@@ -20,18 +15,7 @@ taken_there path (There bytes) left n = refl
 taken_there path Longer left n = refl
 taken_there path Missing left n = absurd (n refl)
 
--- what was found
-pub found_there : (path : List ℕ) (seen : Seen) → (seen ≡ Missing → ⊥) → found_or path seen ≡ give seen
-found_there path (There bytes) n = refl
-found_there path Longer n = refl
-found_there path Missing n = absurd (n refl)
-
 module _ (told : Option Contents) where
-  -- the Compose file that was found
-  pub found_is : (path : List ℕ) (seen : Seen) → (seen ≡ Missing → ⊥) → Gives told (Ok seen) (look path) → Gives told (Ok seen) (compose_file path)
-  found_is path seen n h =
-      gives_on told (look path) (found_or path) seen (Ok seen) h (subst (λ (load : Load Seen). Gives told (Ok seen) load) (sym (found_there path seen n)) (λ q. refl))
-
   -- a file that may be missing and is there
   module _ (path : List ℕ) (seen : Seen) (left : ℕ) (n : seen ≡ Missing → ⊥) where
     abbrev taken_bytes : List ℕ × ℕ → Load (Option (List ℕ) × ℕ)
@@ -104,27 +88,6 @@ module _ (told : Option Contents) where
       at (Ok x) e = e
       at (Err x) e = e
 
-  -- the tree of a file
-  module _ (env : Variables) (path bytes : List ℕ) where
-    abbrev values_in : Tree → Load Tree
-    values_in tree = after (of_subst path (substituted_tree (value_at env) tree)) give
-
-    pub no_text : (e : LoadRefusal) → IsGiven {X = Tree} (Err e) (of_yaml path (tree_in bytes)) → Gives {X = Tree} told (Err e) (file_tree env path bytes)
-    no_text e h = given_out told (of_yaml path (tree_in bytes)) values_in e h
-
-    pub text_there : (tree : Tree) (r : Result Tree LoadRefusal) → IsGiven (Ok tree) (of_yaml path (tree_in bytes)) → IsGiven r (of_subst path (substituted_tree (value_at env) tree)) → Gives told r (file_tree env path bytes)
-    text_there tree r h k = given_on told (of_yaml path (tree_in bytes)) values_in tree r h (given_last r (of_subst path (substituted_tree (value_at env) tree)) k)
-
-  module _ (env : Variables) (path : List ℕ) (found : Seen) (left : ℕ) where
-    abbrev tree_in_file : List ℕ × ℕ → Load Tree
-    tree_in_file file = file_tree env path file.0
-
-    pub not_taken : (e : LoadRefusal) → Gives {X = List ℕ × ℕ} told (Err e) (taken path found left) → Gives {X = Tree} told (Err e) (found_tree path found left env)
-    not_taken e h = gives_out told (taken path found left) tree_in_file e h
-
-    pub taken_tree : (bytes : List ℕ) (rest : ℕ) (r : Result Tree LoadRefusal) → Gives told (Ok (bytes, rest)) (taken path found left) → Gives told r (file_tree env path bytes) → Gives told r (found_tree path found left env)
-    taken_tree bytes rest r h k = gives_on told (taken path found left) tree_in_file (bytes, rest) r h k
-
   -- the caller's variables over those of files
   module _ (directory : List ℕ) (given : List (List ℕ)) (caller : Variables) (left : ℕ) where
     abbrev under_caller : Variables × ℕ → Load (Variables × ℕ)
@@ -137,43 +100,3 @@ module _ (told : Option Contents) where
         → Gives told (Ok (all, rest)) (environment directory given caller left)
     caller_laid values all rest h e =
         gives_on told (file_variables directory given caller left) under_caller (values, rest) (Ok (all, rest)) h (λ n. ap (λ (v : Variables). Ok (v, rest)) e)
-
-  -- the Compose file under the variables
-  module _ (directory : List ℕ) (given : List (List ℕ)) (caller : Variables) (path : List ℕ) (e : path ≡ joined directory (codes "compose.yaml")) where
-    abbrev with_tree : Variables × ℕ → Tree → Load Loaded
-    with_tree got tree = give (record { tree = tree; directory = directory; env = got.0 })
-
-    abbrev with_variables : List ℕ → Seen → Variables × ℕ → Load Loaded
-    with_variables path found got = found_tree path found got.1 got.0 >>= with_tree got
-
-    abbrev with_found : List ℕ → Seen → Load Loaded
-    with_found path found = environment directory given caller most_files >>= with_variables path found
-
-    abbrev at_path : List ℕ → Load Loaded
-    at_path path = compose_file path >>= with_found path
-
-    there : (r : Result Loaded LoadRefusal) → Gives told r (at_path path) → Gives told r (loaded_in directory given caller)
-    there r h = subst (λ (p : List ℕ). Gives told r (at_path p)) e h
-
-    pub not_found : (refusal : LoadRefusal) → Gives {X = Seen} told (Err refusal) (compose_file path) → Gives {X = Loaded} told (Err refusal) (loaded_in directory given caller)
-    not_found refusal h = there (Err refusal) (gives_out told (compose_file path) (with_found path) refusal h)
-
-    module _ (found : Seen) (h : Gives told (Ok found) (compose_file path)) where
-      pub no_variables : (refusal : LoadRefusal) → Gives {X = Variables × ℕ} told (Err refusal) (environment directory given caller most_files) → Gives {X = Loaded} told (Err refusal) (loaded_in directory given caller)
-      no_variables refusal k =
-          there (Err refusal) (gives_on told (compose_file path) (with_found path) found (Err refusal) h
-          (gives_out told (environment directory given caller most_files) (with_variables path found) refusal k))
-
-      module _ (env : Variables) (left : ℕ) (k : Gives told (Ok (env, left)) (environment directory given caller most_files)) where
-        then_tree : (r : Result Loaded LoadRefusal) → Gives told r (with_variables path found (env, left)) → Gives told r (loaded_in directory given caller)
-        then_tree r t =
-            there r (gives_on told (compose_file path) (with_found path) found r h
-            (gives_on told (environment directory given caller most_files) (with_variables path found) (env, left) r k t))
-
-        pub no_tree : (refusal : LoadRefusal) → Gives {X = Tree} told (Err refusal) (found_tree path found left env) → Gives {X = Loaded} told (Err refusal) (loaded_in directory given caller)
-        no_tree refusal t = then_tree (Err refusal) (gives_out told (found_tree path found left env) (with_tree (env, left)) refusal t)
-
-        pub tree_there : (tree : Tree) → Gives told (Ok tree) (found_tree path found left env)
-            → Gives told (Ok (record { tree = tree; directory = directory; env = env })) (loaded_in directory given caller)
-        tree_there tree t =
-            then_tree (Ok (record { tree = tree; directory = directory; env = env })) (gives_on told (found_tree path found left env) (with_tree (env, left)) tree (Ok (record { tree = tree; directory = directory; env = env })) t (λ n. refl))

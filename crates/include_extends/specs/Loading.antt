@@ -1,21 +1,35 @@
--- What words, variables and files load: the tree of the Compose file under the variables of the caller and of env files
--- (the Compose Specification, interpolation; its tools' `--env-file` and `.env`).
+-- What words, variables and files load: the tree of the Compose files, merged, under the variables of the caller and
+-- of env files (the Compose Specification, "Merge", "Interpolation"; its tools' `-f`, `--project-directory`,
+-- `--env-file`, `.env`).
 use Rattle.std.specs.Prelude.{ℕ, List, [], ◌∷◌, fold, Option, Some, None, Result, Ok, Err, codes}
 use Rattle.dotenv.specs.Files.{env_file}
 use Rattle.dotenv.specs.declared.refusal.EnvRefusal.{EnvRefusal}
 use Rattle.dotenv.specs.declared.refusal.EnvRefusal.TheVariants as envs
-use Rattle.include_extends.specs.Paths.{Variables, all_homed, joined}
+use Rattle.include_extends.specs.Paths.{Variables, joined}
+use Rattle.include_extends.specs.Requests.{default_names, places_of}
 use Rattle.include_extends.specs.Reads.{◌>>=◌, Load, after, file_at, file_if_there, give, look, refuse, taken}
 use Rattle.include_extends.specs.declared.loading.Loaded.{Loaded}
+use Rattle.include_extends.specs.declared.model.Model.{Model}
+use Rattle.include_extends.specs.declared.request.LoadRequest.{LoadRequest}
+use Rattle.include_extends.specs.declared.request.Places.{Places}
 use Rattle.include_extends.specs.declared.reads.Seen.{Seen}
 use Rattle.include_extends.specs.declared.reads.Seen.TheVariants.{Missing}
 use Rattle.include_extends.specs.declared.refusal.LoadRefusal.{LoadRefusal}
-use Rattle.include_extends.specs.declared.refusal.LoadRefusal.TheVariants.{NotFound, Yaml, EnvFile, Subst, Memory}
+use Rattle.include_extends.specs.declared.refusal.LoadRefusal.TheVariants.{NotFound, NoHome, Yaml, EnvFile, Subst, Merge, BadShape, Memory}
+use Rattle.file_paths.specs.Resolving.{resolved}
+use Rattle.file_paths.specs.Shapes.{shape_fault}
+use Rattle.file_paths.specs.declared.refusal.PathRefusal.{PathRefusal}
+use Rattle.file_paths.specs.declared.refusal.PathRefusal.TheVariants as homes
 use Rattle.interpolate.specs.Walking.{substituted_tree}
 use Rattle.interpolate.specs.declared.refusal.SubstTreeRefusal.{SubstTreeRefusal}
 use Rattle.interpolate.specs.declared.refusal.SubstTreeRefusal.TheVariants as substs
+use Rattle.merge_rules.specs.LongForms.{long_forms}
+use Rattle.merge_rules.specs.Overlay.{over_files}
+use Rattle.merge_rules.specs.declared.refusal.MergeRefusal.{MergeRefusal}
+use Rattle.merge_rules.specs.declared.refusal.MergeRefusal.TheVariants as merges
 use Rattle.tree_base.specs.Entries.{value_at, with_entry}
-use Rattle.tree_base.specs.declared.Tree.{Tree}
+use Rattle.tree_base.specs.declared.Step.{Step}
+use Rattle.tree_base.specs.declared.Tree.{Tree, Null, out-Tree}
 use Rattle.yaml_lines.specs.Scan.{scan_of}
 use Rattle.yaml_lines.specs.declared.Lines.{Lines}
 use Rattle.yaml_lines.specs.declared.YamlRefusal.{YamlRefusal}
@@ -48,6 +62,18 @@ abbrev pub of_env : {A : Type 0} → List ℕ → Result A EnvRefusal → Result
 of_env path (Ok x) = Ok x
 of_env path (Err envs.Memory) = Err Memory
 of_env path (Err cause) = Err (EnvFile path cause)
+
+-- the same of trees that are merged
+abbrev pub of_merge : {A : Type 0} → List ℕ → Result A MergeRefusal → Result A LoadRefusal
+of_merge path (Ok x) = Ok x
+of_merge path (Err merges.Memory) = Err Memory
+of_merge path (Err cause) = Err (Merge path cause)
+
+-- what was made of paths, a refusal with the path that has no home
+abbrev pub of_path : {A : Type 0} → Result A PathRefusal → Result A LoadRefusal
+of_path (Ok x) = Ok x
+of_path (Err (homes.NoHome path)) = Err (NoHome path)
+of_path (Err homes.Memory) = Err Memory
 
 -- variables with those of a second list, which win
 abbrev pub with_all : Variables → Variables → Variables
@@ -94,38 +120,95 @@ abbrev pub environment : List ℕ → List (List ℕ) → Variables → ℕ → 
 environment directory paths caller left =
     file_variables directory paths caller left >>= λ got. give (with_all got.0 caller, got.1)
 
--- the tree of a file: read, and its scalars substituted
+-- the tree of a file: read, its scalars substituted, and in long forms
 abbrev pub file_tree : Variables → List ℕ → List ℕ → Load Tree
 file_tree env path bytes =
-    after (of_yaml path (tree_in bytes)) (λ tree. after (of_subst path (substituted_tree (value_at env) tree)) give)
+    after (of_yaml path (tree_in bytes)) (λ tree.
+    after (of_subst path (substituted_tree (value_at env) tree)) (λ tree.
+    after (of_merge path (long_forms tree)) give))
 
--- what was found at a path, which has to be there
-abbrev pub found_or : List ℕ → Seen → Load Seen
-found_or path Missing = refuse (NotFound path)
-found_or path seen = give seen
+-- what stands at a path, where it wasn't looked at before
+abbrev pub look_or : List ℕ → Option Seen → Load Seen
+look_or path None = look path
+look_or path (Some found) = give found
 
--- the Compose file, which is looked for before any other file is read
-abbrev pub compose_file : List ℕ → Load Seen
-compose_file path = look path >>= found_or path
+-- the tree of a file that has to be there, and how many files may still be read
+abbrev pub tree_at : Variables → List ℕ → Option Seen → ℕ → Load (Tree × ℕ)
+tree_at env path found left =
+    look_or path found >>= λ seen. taken path seen left >>= λ got.
+    file_tree env path got.0 >>= λ tree. give (tree, got.1)
 
--- the tree of a file that was found
-abbrev pub found_tree : List ℕ → Seen → ℕ → Variables → Load Tree
-found_tree path found left env = taken path found left >>= λ file. file_tree env path file.0
+-- a file's tree laid over what the files before it gave
+abbrev pub over_laid : List ℕ → Tree → Tree → ℕ → Load (Tree × ℕ)
+over_laid path base over left =
+    after (of_merge path (over_files base over)) (λ tree. give (tree, left))
+
+-- a file read and laid over what the files before it gave
+abbrev pub file_laid : Variables → List ℕ → Option Seen → Tree → ℕ → Load (Tree × ℕ)
+file_laid env path found base left =
+    tree_at env path found left >>= λ got. over_laid path base got.0 got.1
+
+-- the files of a model, each laid over those before it; the first of them may have been looked at before
+abbrev pub files_laid : Variables → List (List ℕ) → Option Seen → Tree → ℕ → Load (Tree × ℕ)
+files_laid env [] found base left = give (base, left)
+files_laid env (path ∷ more) found base left =
+    file_laid env path found base left >>= λ got. files_laid env more None got.0 got.1
+
+-- a tree, unless a part of it has another form
+abbrev pub unless_shaped : Tree → Option (List Step) → Result Tree LoadRefusal
+unless_shaped tree None = Ok tree
+unless_shaped tree (Some path) = Err (BadShape path)
+
+-- the tree that the files of a model gave: its shape is asked, and then its paths are taken against the model's
+-- directory
+abbrev pub placed : List ℕ → Variables → Tree → Load Tree
+placed directory env tree =
+    after (unless_shaped tree (shape_fault (out-Tree tree))) (λ tree.
+    after (of_path (resolved directory env tree)) give)
+
+-- a model under its variables: its files come first, then their shape and paths
+abbrev pub model_under : List (List ℕ) → List ℕ → Variables → Option Seen → ℕ → Load Model
+model_under files directory env found left =
+    files_laid env files found Null left >>= λ laid. placed directory env laid.0 >>= λ tree.
+    give (record { tree = tree; env = env; left = laid.1 })
+
+-- a model of these files in a directory, under the caller's variables and those of env files; so many files may be
+-- read, and the first one may have been looked at before
+abbrev pub model : List (List ℕ) → List ℕ → List (List ℕ) → Variables → Option Seen → ℕ → Load Model
+model files directory env_paths caller found left =
+    environment directory env_paths caller left >>= λ got.
+    model_under files directory got.0 found got.1
 
 -- the files that are read in one load
 abbrev pub most_files : ℕ
 most_files = 64
 
--- what is loaded in a project directory: the Compose file is looked for, then come the variables, then its tree
-abbrev pub loaded_in : List ℕ → List (List ℕ) → Variables → Load Loaded
-loaded_in directory env_paths caller =
-    let path = joined directory (codes "compose.yaml") in
-    compose_file path >>= λ found.
-    environment directory env_paths caller most_files >>= λ got.
-    found_tree path found got.1 got.0 >>= λ tree.
-    give (record { tree = tree; directory = directory; env = got.0 })
+-- what was found at a path, or what follows where nothing is there
+abbrev pub found_or : List ℕ → Load (List ℕ × Seen) → Seen → Load (List ℕ × Seen)
+found_or path later Missing = later
+found_or path later found = give (path, found)
 
--- what a call loads: the project directory is the working directory, and each env file's path is taken against it
-abbrev pub loading : List (List ℕ) → Variables → List ℕ → Load Loaded
-loading env_paths caller cwd =
-    after (all_homed cwd caller env_paths) (λ env_paths. loaded_in (joined cwd []) env_paths caller)
+-- the first of these names under which a file is in a directory; where there is none, `compose.yaml` is what is
+-- missing
+abbrev pub default_file : List ℕ → List (List ℕ) → Load (List ℕ × Seen)
+default_file directory [] = refuse (NotFound (joined directory (codes "compose.yaml")))
+default_file directory (name ∷ names) =
+    look (joined directory name) >>= found_or (joined directory name) (default_file directory names)
+
+-- the files of a call, and what was seen of the first one: those that are given, which aren't looked at yet, or the
+-- default one
+abbrev pub files_found : List ℕ → List (List ℕ) → Load (List (List ℕ) × Option Seen)
+files_found directory [] =
+    default_file directory default_names >>= λ got. give (got.0 ∷ [], Some got.1)
+files_found directory (path ∷ paths) = give (path ∷ paths, None)
+
+-- what is loaded at these places under the caller's variables: the files are found, and make one model
+abbrev pub loaded_at : Places → Variables → Load Loaded
+loaded_at places caller =
+    files_found places.directory places.files >>= λ found.
+    model found.0 places.directory places.env_files caller found.1 most_files >>= λ whole.
+    give (record { tree = whole.tree; directory = places.directory; env = whole.env })
+
+-- what a request loads: its places come first, and then what stands there
+abbrev pub loading : LoadRequest → Load Loaded
+loading request = after (of_path (places_of request)) (λ places. loaded_at places request.env)

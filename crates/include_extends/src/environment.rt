@@ -6,10 +6,10 @@ ghost use Rattle.include_extends.specs.declared.refusal.LoadRefusal.{LoadRefusal
 ghost use Rattle.outside_files.specs.Counts.{Rose};
 ghost use Rattle.tree_base.specs.Entries.{with_entry};
 
-use crate::paths::joined;
 use crate::reads::{file_at, file_if_there};
 use crate::refusal::LoadRefusal;
 use dotenv::{EnvRefusal, read_env};
+use file_paths::joined;
 use outside_files::Files;
 use std::alloc::Global;
 use tree_base::{Env, List, Memory, Text, TryCopy};

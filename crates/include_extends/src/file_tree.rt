@@ -1,19 +1,21 @@
 ghost use Rattle.std.specs.Prelude.{◌≡◌, ℕ, Err, List, Option};
-ghost use Rattle.include_extends.specs.Loading.{file_tree, of_subst, of_yaml, tree_in};
+ghost use Rattle.include_extends.specs.Loading.{file_tree, of_merge, of_subst, of_yaml, tree_in};
 ghost use Rattle.include_extends.specs.Reads.{Gives, IsGiven};
 ghost use Rattle.include_extends.specs.declared.refusal.LoadRefusal.{LoadRefusal};
 ghost use Rattle.interpolate.specs.Walking.{substituted_tree};
+ghost use Rattle.merge_rules.specs.LongForms.{long_forms};
 ghost use Rattle.outside_files.specs.Files.{Contents};
 ghost use Rattle.tree_base.specs.Entries.{value_at};
 ghost use Rattle.yaml_lines.specs.Answers as yaml_answers;
 
 use crate::refusal::LoadRefusal;
 use interpolate::{SubstTreeRefusal, subst_tree};
+use merge_rules::{MergeRefusal, long_forms};
 use std::alloc::Global;
 use tree_base::{Env, Text, Tree};
 use yaml_lines::{YamlRefusal, scan};
 
-/// The tree of a file, with the values of its scalars.
+/// The tree of a file, with the values of its scalars, in long forms.
 pub(crate) fn file_tree(
     alloc: Global,
     path: &Text,
@@ -25,7 +27,9 @@ pub(crate) fn file_tree(
     ensures fault { (at : List ℕ) → result ≡ Err (LoadRefusal.ReadFault at) → ⊥ }
 {
     let tree = tree_of(alloc, path, bytes)?;
-    substituted(alloc, path, &tree, env)
+    let valued = substituted(alloc, path, &tree, env)?;
+    drop(tree);
+    long(alloc, path, valued)
 }
 
 /// The tree that the bytes of a file spell.
@@ -60,6 +64,21 @@ fn substituted(alloc: Global, path: &Text, tree: &Tree, env: &Env) -> Result<Tre
         Ok(tree) => Ok(tree),
         Err(SubstTreeRefusal::Memory) => Err(LoadRefusal::Memory),
         Err(cause) => Err(LoadRefusal::Subst {
+            path: path.copy(alloc)?,
+            cause,
+        }),
+    }
+}
+
+/// A tree in long forms.
+fn long(alloc: Global, path: &Text, tree: Tree) -> Result<Tree, LoadRefusal>
+    ensures given { IsGiven result (of_merge path.now (long_forms tree)) }
+    ensures fault { (at : List ℕ) → result ≡ Err (LoadRefusal.ReadFault at) → ⊥ }
+{
+    match long_forms(alloc, tree) {
+        Ok(tree) => Ok(tree),
+        Err(MergeRefusal::Memory) => Err(LoadRefusal::Memory),
+        Err(cause) => Err(LoadRefusal::Merge {
             path: path.copy(alloc)?,
             cause,
         }),

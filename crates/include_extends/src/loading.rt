@@ -1,18 +1,16 @@
-ghost use Rattle.std.specs.Prelude.{◌≡◌, ◌≤◌, ℕ, Err, List, Option};
-ghost use Rattle.include_extends.specs.Loading.{compose_file, found_tree, loaded_in, loading};
+ghost use Rattle.std.specs.Prelude.{◌≡◌, ℕ, Err, List};
+ghost use Rattle.include_extends.specs.Loading.{loaded_at, loading};
 ghost use Rattle.include_extends.specs.Reads.{Gives};
 ghost use Rattle.include_extends.specs.declared.refusal.LoadRefusal.{LoadRefusal};
 ghost use Rattle.outside_files.specs.Counts.{Rose};
-ghost use Rattle.outside_files.specs.Files.{Contents};
 
-use crate::environment::environment;
-use crate::file_tree::file_tree;
-use crate::paths::{all_homed, joined};
-use crate::reads::{Seen, look, taken};
+use crate::default_file::files_found;
+use crate::model::model_of;
 use crate::refusal::LoadRefusal;
+use crate::request::{LoadRequest, Places, places_of};
 use outside_files::Files;
 use std::alloc::Global;
-use tree_base::{Env, List, Text, Tree};
+use tree_base::{Env, Text, Tree};
 
 /// How many files are read in one load.
 const MOST_FILES: u32 = 64;
@@ -25,81 +23,58 @@ pub struct Loaded {
     pub env: Env,
 }
 
-/// Loads the Compose file `compose.yaml` in the working directory `cwd`, under the variables of the caller and of the
-/// env files that were given, or else of `.env`.
+/// Loads the Compose files of a request, merged in their order, under the variables of the caller and of the env files.
 ///
-/// The refusals, in their order: `NoHome` for the path of an env file; `NotFound` for the Compose file; `NotFound`,
-/// `TooManyFiles`, `FileTooLarge` and `EnvFile` for each env file; then `TooManyFiles`, `FileTooLarge`, `Yaml` and
-/// `Subst` for the Compose file. `ReadFault` comes where a read failed, and `Memory` where memory was wanted.
+/// The refusals, in their order: `NoHome` for the path of a file, of an env file, and of the project directory;
+/// `NotFound` where no file is given and the default one isn't there; `NotFound`, `TooManyFiles`, `FileTooLarge` and
+/// `EnvFile` for each env file; `NotFound`, `TooManyFiles`, `FileTooLarge`, `Yaml`, `Subst` and `Merge` for each file;
+/// then `BadShape` for what they give, and `NoHome` for the first of its paths. `ReadFault` comes where a read failed,
+/// and `Memory` where memory was wanted.
 pub fn load<F: Files>(
     alloc: Global,
     files: &mut F,
-    env_files: &List<Text>,
-    caller: &Env,
-    cwd: &Text,
+    request: &LoadRequest,
 ) -> Result<Loaded, LoadRefusal>
-    ensures given { Gives (F.told files.old) result (loading env_files.now caller.now cwd.now) }
+    ensures given { Gives (F.told files.old) result (loading request.now) }
     ensures fault { (at : List ℕ) → result ≡ Err (LoadRefusal.ReadFault at)
         → Rose (F.faults files.old) (F.faults files.new) }
     ensures kept { F.told files.new ≡ F.told files.old }
 {
-    let directory = joined(alloc, cwd, "")?;
-    let env_files = all_homed(alloc, cwd, caller, env_files.as_slice())?;
-    loaded_in(alloc, files, directory, env_files.as_slice(), caller)
+    let places = places_of(alloc, request)?;
+    loaded_at(alloc, files, places, &request.env)
 }
 
-/// Loads the Compose file of a project directory, where the paths of the env files are known.
-fn loaded_in<F: Files>(
+/// Loads the files of a request, where their places are known.
+fn loaded_at<F: Files>(
     alloc: Global,
     files: &mut F,
-    directory: Text,
-    env_files: &[Text],
+    places: Places,
     caller: &Env,
 ) -> Result<Loaded, LoadRefusal>
-    ensures given { Gives (F.told files.old) result (loaded_in directory env_files.now caller.now) }
+    ensures given { Gives (F.told files.old) result (loaded_at places caller.now) }
     ensures fault { (at : List ℕ) → result ≡ Err (LoadRefusal.ReadFault at)
         → Rose (F.faults files.old) (F.faults files.new) }
     ensures kept { F.told files.new ≡ F.told files.old }
 {
-    let path = joined(alloc, &directory, "compose.yaml")?;
-    let found = found(alloc, files, &path)?;
-    let (env, left) = environment(alloc, files, &directory, env_files, caller, MOST_FILES)?;
-    let tree = found_tree(alloc, &path, found, left, &env)?;
-    Ok(Loaded {
-        tree,
+    let Places {
+        files: given,
+        env_files,
         directory,
-        env,
+    } = places;
+    let (paths, found) = files_found(alloc, files, &directory, given)?;
+    let whole = model_of(
+        alloc,
+        files,
+        paths.as_slice(),
+        &directory,
+        env_files.as_slice(),
+        caller,
+        found,
+        MOST_FILES,
+    )?;
+    Ok(Loaded {
+        tree: whole.tree,
+        directory,
+        env: whole.env,
     })
-}
-
-/// What stands at the path of the Compose file, which has to be there.
-fn found<F: Files>(alloc: Global, files: &mut F, path: &Text) -> Result<Seen, LoadRefusal>
-    ensures given { Gives (F.told files.old) result (compose_file path.now) }
-    ensures fault { (at : List ℕ) → result ≡ Err (LoadRefusal.ReadFault at)
-        → Rose (F.faults files.old) (F.faults files.new) }
-    ensures counted { F.faults files.old ≤ F.faults files.new }
-    ensures kept { F.told files.new ≡ F.told files.old }
-{
-    match look(alloc, files, path)? {
-        Seen::Missing => Err(LoadRefusal::NotFound {
-            path: path.copy(alloc)?,
-        }),
-        found => Ok(found),
-    }
-}
-
-/// The tree of a file that was found, where so many files may still be read.
-fn found_tree(
-    alloc: Global,
-    path: &Text,
-    found: Seen,
-    left: u32,
-    env: &Env,
-) -> Result<Tree, LoadRefusal>
-    ensures given { (told : Option Contents)
-        → Gives told result (found_tree path.now found left env.now) }
-    ensures fault { (at : List ℕ) → result ≡ Err (LoadRefusal.ReadFault at) → ⊥ }
-{
-    let (bytes, _) = taken(alloc, path, found, left)?;
-    file_tree(alloc, path, bytes.as_slice(), env)
 }

@@ -3,10 +3,11 @@ ghost use Rattle.include_extends.specs.declared.refusal.LoadRefusal.TheVariants 
 
 use dotenv::EnvRefusal;
 use interpolate::SubstTreeRefusal;
-use tree_base::{Memory, Text};
+use merge_rules::MergeRefusal;
+use tree_base::{Memory, Path, Text};
 use yaml_lines::YamlRefusal;
 
-/// Why nothing is loaded, with the path of the file.
+/// Why nothing is loaded, with the path of the file, or the place in the tree of several.
 #[derive(Drop)]
 pub enum LoadRefusal {
     NotFound { path: Text },
@@ -23,6 +24,11 @@ pub enum LoadRefusal {
     EnvFile { path: Text, cause: EnvRefusal },
     /// A scalar of the file's tree has no value.
     Subst { path: Text, cause: SubstTreeRefusal },
+    /// The file's tree has an entry that isn't of its form, doesn't fit what the files before it gave, or passes a
+    /// limit with it.
+    Merge { path: Text, cause: MergeRefusal },
+    /// A part of the merged tree has another form than it has to have.
+    BadShape { at: Path },
     Memory,
 }
 

@@ -1,4 +1,7 @@
 pub mod Loads
+pub mod Merging
+pub mod Placing
 pub mod Projects
+pub mod Sizes
 pub mod Texts
 pub mod Values

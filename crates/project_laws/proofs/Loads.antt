@@ -1,26 +1,52 @@
 -- The page of a project, as the Compose file of a directory, is what is loaded there.
-use Rattle.std.proofs.Common.{◌≡◌, ◌∙◌, ℕ, false, List, [], Option, Result, Ok, codes, length, refl, ap}
+use Rattle.std.proofs.Common.{◌≡◌, ◌∙◌, ◌≤◌, ℕ, false, List, [], ◌∷◌, Option, None, Some, Result, Ok, codes, length, refl, ap, arith}
 use Rattle.std.proofs.lemmas.Bool.{le-ltb}
 use Rattle.std.specs.Prelude.{nat_lt}
-use Rattle.include_extends.specs.Loading.{env_file_if, environment, found_or, found_tree, loading, most_files, of_subst, of_yaml, with_all}
+use Rattle.file_paths.specs.Resolving.{resolved}
+use Rattle.file_paths.specs.declared.refusal.PathRefusal.{PathRefusal}
+use Rattle.include_extends.specs.Loading.{default_file, env_file_if, file_tree, files_laid, found_or, loading, model, model_under, most_files, of_merge, of_path, of_subst, of_yaml, over_laid, placed, unless_shaped, with_all}
 use Rattle.include_extends.specs.Paths.{Variables, joined}
 use Rattle.include_extends.specs.Reads.{◌>>=◌, Load, after, file_limit, give, loaded_from, seen_of, taken_if}
-use Rattle.include_extends.specs.declared.Loaded.{Loaded}
+use Rattle.include_extends.specs.declared.loading.Loaded.{Loaded}
+use Rattle.include_extends.specs.declared.model.Model.{Model}
 use Rattle.include_extends.specs.declared.reads.Seen.{Seen}
-use Rattle.include_extends.specs.declared.reads.Seen.TheVariants.{Missing, There}
+use Rattle.include_extends.specs.declared.reads.Seen.TheVariants.{There}
 use Rattle.interpolate.specs.Walking.{substituted_tree}
 use Rattle.interpolate.specs.declared.refusal.SubstTreeRefusal.{SubstTreeRefusal}
+use Rattle.merge_rules.specs.LongForms.{long_forms}
+use Rattle.merge_rules.specs.declared.refusal.MergeRefusal.{MergeRefusal}
+use Rattle.normal_form.proofs.ReadBack.{project_back}
+use Rattle.normal_form.specs.Laws.{tree_of_project}
+use Rattle.normal_form.specs.ProjectNames.{base_name}
 use Rattle.outside_files.specs.Files.{Contents}
-use Rattle.plain_services.specs.Laws.{tree_of_project}
-use Rattle.plain_services.specs.ProjectNames.{base_name}
-use Rattle.plain_services.proofs.ReadBack.{project_back}
-use Rattle.project_laws.proofs.Projects.{page_read, page_valued}
-use Rattle.project_laws.specs.Projects.{HasPage, IsReadable, ProjectPagesReadBack}
-use Rattle.project_print.specs.ProjectPages.{project_page}
+use Rattle.project_laws.proofs.Merging.{page_alone, page_long}
+use Rattle.project_laws.proofs.Placing.{page_paths, page_shaped}
+use Rattle.project_laws.proofs.Projects.{page_read, page_valued, value_of_project}
+use Rattle.project_laws.proofs.Sizes.{no_larger}
+use Rattle.project_laws.specs.Projects.{HasPage, IsReadable, ProjectPagesReadBack, plain_request}
+use Rattle.project_print.specs.ProjectPages.{node_of, project_page}
 use Rattle.service_attrs.specs.declared.Project.{Project}
 use Rattle.tree_base.specs.Entries.{value_at}
+use Rattle.tree_base.specs.Trees.{node_count, text_size}
+use Rattle.tree_base.specs.declared.Step.{Step}
 use Rattle.tree_base.specs.declared.tree.Tree.{Tree}
+use Rattle.tree_base.specs.declared.tree.Tree.TheVariants.{Null}
 use Rattle.yaml_lines.specs.declared.YamlRefusal.{YamlRefusal}
+
+-- the tree of a project is within the limits where that of its page is
+few_nodes : (project : Project) → IsReadable project → node_count (tree_of_project project) ≤ 200000
+few_nodes project is =
+    let same = ap node_count (value_of_project project) in
+    let nodes = (no_larger (node_of project)).nodes in
+    let few = is.tree.nodes in
+    omega (arith, same, nodes, few)
+
+short_text : (project : Project) → IsReadable project → text_size (tree_of_project project) ≤ 16777216
+short_text project is =
+    let same = ap text_size (value_of_project project) in
+    let fewer = (no_larger (node_of project)).text in
+    let short = is.tree.text in
+    omega (arith, same, fewer, short)
 
 module _ (project : Project) (caller : Variables) (cwd : List ℕ) (held : Contents) (is : IsReadable project) (has : HasPage held (joined cwd []) project) where
   abbrev directory : List ℕ
@@ -35,18 +61,70 @@ module _ (project : Project) (caller : Variables) (cwd : List ℕ) (held : Conte
   abbrev env : Variables
   env = with_all [] caller
 
+  abbrev tree : Tree
+  tree = tree_of_project project
+
+  abbrev page : Seen
+  page = There (project_page project)
+
   abbrev loaded : Loaded
-  loaded = record { tree = tree_of_project project; directory = directory; env = env }
+  loaded = record { tree = tree; directory = directory; env = env }
 
-  -- what follows the Compose file, then the variables, then the tree
-  abbrev with_tree : Variables → Tree → Load Loaded
-  with_tree env tree = give (record { tree = tree; directory = directory; env = env })
+  -- what follows the files, then what they give, then the tree of the page
+  abbrev whole : Model → Load Loaded
+  whole made = give (record { tree = made.tree; directory = directory; env = made.env })
 
-  abbrev with_variables : Seen → Variables × ℕ → Load Loaded
-  with_variables found got = found_tree path found got.1 got.0 >>= with_tree got.0
+  abbrev with_tree : ℕ → Tree → Load Model
+  with_tree left tree = give (record { tree = tree; env = env; left = left })
 
-  abbrev after_file : Seen → Load Loaded
-  after_file seen = found_or path seen >>= λ found. environment directory [] caller most_files >>= with_variables found
+  abbrev with_files : Tree × ℕ → Load Model
+  with_files laid = placed directory env laid.0 >>= with_tree laid.1
+
+  abbrev with_file : Tree × ℕ → Load (Tree × ℕ)
+  with_file got = files_laid env [] None got.0 got.1
+
+  abbrev after_file : Tree → Load Loaded
+  after_file tree = over_laid path Null tree 63 >>= with_file >>= with_files >>= whole
+
+  abbrev counted : Tree → Load (Tree × ℕ)
+  counted tree = give (tree, 63)
+
+  abbrev over_nothing : Tree × ℕ → Load (Tree × ℕ)
+  over_nothing got = over_laid path Null got.0 got.1
+
+  abbrev after_read : Load Tree → Load Loaded
+  after_read read = read >>= counted >>= over_nothing >>= with_file >>= with_files >>= whole
+
+  placed_there : loaded_from held (placed directory env tree >>= with_tree 63 >>= whole) ≡ Ok loaded
+  placed_there =
+      ap (λ (o : Option (List Step)). loaded_from held (after (unless_shaped tree o) (λ tree. after (of_path (resolved directory env tree)) give) >>= with_tree 63 >>= whole)) (page_shaped project)
+      ∙ ap (λ (r : Result Tree PathRefusal). loaded_from held (after (of_path r) give >>= with_tree 63 >>= whole)) (page_paths directory env project)
+
+  alone_there : loaded_from held (after_file tree) ≡ Ok loaded
+  alone_there =
+      ap (λ (r : Result Tree MergeRefusal). loaded_from held (after (of_merge path r) counted >>= with_file >>= with_files >>= whole))
+      (page_alone project (few_nodes project is) (short_text project is) is.order)
+      ∙ placed_there
+
+  tree_there : loaded_from held (after_read (file_tree env path (project_page project))) ≡ Ok loaded
+  tree_there =
+      ap (λ (r : Result Tree YamlRefusal). loaded_from held (after_read (after (of_yaml path r) (λ tree. after (of_subst path (substituted_tree (value_at env) tree)) (λ tree. after (of_merge path (long_forms tree)) give))))) (page_read project is)
+      ∙ ap (λ (r : Result Tree SubstTreeRefusal). loaded_from held (after_read (after (of_subst path r) (λ tree. after (of_merge path (long_forms tree)) give)))) (page_valued (value_at env) project is)
+      ∙ ap (λ (r : Result Tree MergeRefusal). loaded_from held (after_read (after (of_merge path r) give))) (page_long project (few_nodes project is) (short_text project is))
+      ∙ alone_there
+
+  -- what follows the Compose file, then its variables
+  abbrev later : Load (List ℕ × Seen)
+  later = default_file directory (codes "compose.yml" ∷ codes "docker-compose.yml" ∷ codes "docker-compose.yaml" ∷ [])
+
+  abbrev of_first : List ℕ × Seen → Load (List (List ℕ) × Option Seen)
+  of_first got = give (got.0 ∷ [], Some got.1)
+
+  abbrev of_files : List (List ℕ) × Option Seen → Load Loaded
+  of_files found = model found.0 directory [] caller found.1 most_files >>= whole
+
+  abbrev after_found : Seen → Load Loaded
+  after_found seen = found_or path later seen >>= of_first >>= of_files
 
   abbrev values_given : Option (List ℕ) × ℕ → Load (Variables × ℕ)
   values_given got = after (env_file_if caller env_path got.0) (λ values. give (values, got.1))
@@ -54,24 +132,22 @@ module _ (project : Project) (caller : Variables) (cwd : List ℕ) (held : Conte
   abbrev over_values : Variables × ℕ → Load (Variables × ℕ)
   over_values got = give (with_all got.0 caller, got.1)
 
-  abbrev after_env : Seen → Load Loaded
-  after_env seen = taken_if env_path seen most_files >>= values_given >>= over_values >>= with_variables (There (project_page project))
+  abbrev under_values : Variables × ℕ → Load Model
+  under_values got = model_under (path ∷ []) directory got.0 (Some page) got.1
 
-  there : seen_of (value_at held path) ≡ There (project_page project)
+  abbrev after_env : Seen → Load Loaded
+  after_env seen = taken_if env_path seen most_files >>= values_given >>= over_values >>= under_values >>= whole
+
+  there : seen_of (value_at held path) ≡ page
   there =
       let short : nat_lt file_limit (length (project_page project)) ≡ false = le-ltb file_limit (length (project_page project)) is.page in
       ap seen_of has.page ∙ rw short refl
 
-  tree_there : loaded_from held (after_env Missing) ≡ Ok loaded
-  tree_there =
-      ap (λ (r : Result Tree YamlRefusal). loaded_from held (after (of_yaml path r) (λ tree. after (of_subst path (substituted_tree (value_at env) tree)) give) >>= with_tree env)) (page_read project is)
-      ∙ ap (λ (r : Result Tree SubstTreeRefusal). loaded_from held (after (of_subst path r) give >>= with_tree env)) (page_valued (value_at env) project is)
-
-  env_there : loaded_from held (after_file (There (project_page project))) ≡ Ok loaded
+  env_there : loaded_from held (after_found page) ≡ Ok loaded
   env_there = ap (λ seen. loaded_from held (after_env seen)) (ap seen_of has.alone) ∙ tree_there
 
-  loaded_there : loaded_from held (loading [] caller cwd) ≡ Ok loaded
-  loaded_there = ap (λ seen. loaded_from held (after_file seen)) there ∙ env_there
+  loaded_there : loaded_from held (loading (plain_request caller cwd)) ≡ Ok loaded
+  loaded_there = ap (λ seen. loaded_from held (after_found seen)) there ∙ env_there
 
 pub page_back : ProjectPagesReadBack
 page_back project caller cwd held is has =

@@ -14,9 +14,9 @@ use Rattle.std.specs.declared.cmp.Ordering.TheVariants.{Less, Equal, Greater}
 use Rattle.include_extends.specs.Loading.{file_tree, loading, of_yaml, tree_in}
 use Rattle.include_extends.specs.Loading as files
 use Rattle.interpolate.specs.Walking.{substituted_tree}
-use Rattle.plain_services.specs.Laws.{tree_of_project}
-use Rattle.plain_services.specs.Laws as trees_of
-use Rattle.plain_services.specs.ProjectNames.{is_mark, is_name, is_name_character}
+use Rattle.normal_form.specs.Laws.{tree_of_project}
+use Rattle.normal_form.specs.Laws as trees_of
+use Rattle.normal_form.specs.ProjectNames.{is_mark, is_name, is_name_character}
 use Rattle.project_laws.proofs.Values.{printable_text_is, printed_value, value_map, value_text}
 use Rattle.project_laws.specs.Projects.{IsReadable}
 use Rattle.project_laws.specs.Values.{value_of}
@@ -52,7 +52,7 @@ values_of_services [] = refl
 values_of_services (service ∷ services) = λ i. (service.key, value_of_service service i) ∷ values_of_services services i
 
 -- and that of a project the project
-value_of_project : (project : Project) → value_of (node_of project) ≡ tree_of_project project
+pub value_of_project : (project : Project) → value_of (node_of project) ≡ tree_of_project project
 value_of_project project =
     let services : List (List ℕ × Node) = map entry_of project.services in
     value_map ((codes "name", Text project.name) ∷ (codes "services", Map services) ∷ [])
@@ -87,7 +87,7 @@ itself Less e = absurd (cc e)
 itself Equal e = refl
 itself Greater e = refl
 
-not_before_itself : (text : List ℕ) → is_before text text ≡ false
+pub not_before_itself : (text : List ℕ) → is_before text text ≡ false
 not_before_itself text = itself (slice_cmp nat_cmp text text) (nat_list_cmp_total.antisymm text text)
 
 -- what is before another differs from it

@@ -32,31 +32,31 @@ use Rattle.yaml_print_laws.proofs.PrintedPages.{printed_back}
 use Rattle.yaml_print_laws.specs.Printed.{is_printable, tree_of}
 
 -- entries with the trees of their values, as they are printed and as they are meant
-abbrev tree_entry : List ℕ × Node → List ℕ × Tree
+abbrev pub tree_entry : List ℕ × Node → List ℕ × Tree
 tree_entry e = (e.0, tree_of e.1)
 
-abbrev value_entry : List ℕ × Node → List ℕ × Tree
+abbrev pub value_entry : List ℕ × Node → List ℕ × Tree
 value_entry e = (e.0, value_of e.1)
 
-tree_null : tree_of Null ≡ trees.Null
+pub tree_null : tree_of Null ≡ trees.Null
 tree_null = search (rules, nodes.the_lemmas)
 
-tree_word : (text : List ℕ) → tree_of (Word text) ≡ trees.Scalar text
+pub tree_word : (text : List ℕ) → tree_of (Word text) ≡ trees.Scalar text
 tree_word text = search (rules, nodes.the_lemmas)
 
-tree_text : (text : List ℕ) → tree_of (Text text) ≡ trees.Scalar (doubled text)
+pub tree_text : (text : List ℕ) → tree_of (Text text) ≡ trees.Scalar (doubled text)
 tree_text text = search (rules, nodes.the_lemmas)
 
-tree_map : (es : List (List ℕ × Node)) → tree_of (Map es) ≡ trees.Map (map tree_entry es)
+pub tree_map : (es : List (List ℕ × Node)) → tree_of (Map es) ≡ trees.Map (map tree_entry es)
 tree_map es = search (rules, nodes.the_lemmas)
 
-tree_seq : (xs : List Node) → tree_of (Seq xs) ≡ trees.Seq (map tree_of xs)
+pub tree_seq : (xs : List Node) → tree_of (Seq xs) ≡ trees.Seq (map tree_of xs)
 tree_seq xs = search (rules, nodes.the_lemmas)
 
-value_null : value_of Null ≡ trees.Null
+pub value_null : value_of Null ≡ trees.Null
 value_null = search (rules, nodes.the_lemmas)
 
-value_word : (text : List ℕ) → value_of (Word text) ≡ trees.Scalar text
+pub value_word : (text : List ℕ) → value_of (Word text) ≡ trees.Scalar text
 value_word text = search (rules, nodes.the_lemmas)
 
 pub value_text : (text : List ℕ) → value_of (Text text) ≡ trees.Scalar text
@@ -65,7 +65,7 @@ value_text text = search (rules, nodes.the_lemmas)
 pub value_map : (es : List (List ℕ × Node)) → value_of (Map es) ≡ trees.Map (map value_entry es)
 value_map es = search (rules, nodes.the_lemmas)
 
-value_seq : (xs : List Node) → value_of (Seq xs) ≡ trees.Seq (map value_of xs)
+pub value_seq : (xs : List Node) → value_of (Seq xs) ≡ trees.Seq (map value_of xs)
 value_seq xs = search (rules, nodes.the_lemmas)
 
 pub printable_text_is : (text : List ℕ) → is_printable (Text text) ≡ is_utf8 text

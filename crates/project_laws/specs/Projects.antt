@@ -5,10 +5,11 @@ use Rattle.std.specs.Str.{is_utf8}
 use Rattle.include_extends.specs.Loading.{loading}
 use Rattle.include_extends.specs.Paths.{Variables, joined}
 use Rattle.include_extends.specs.Reads.{file_limit, loaded_from}
+use Rattle.include_extends.specs.declared.LoadRequest.{LoadRequest}
 use Rattle.include_extends.specs.declared.Loaded.{Loaded}
 use Rattle.outside_files.specs.Files.{Contents}
-use Rattle.plain_services.specs.ProjectNames.{base_name, is_name}
-use Rattle.plain_services.specs.Projects.{project_of}
+use Rattle.normal_form.specs.ProjectNames.{base_name, is_name}
+use Rattle.normal_form.specs.Projects.{project_of}
 use Rattle.project_print.specs.ProjectPages.{node_of, project_page}
 use Rattle.service_attrs.specs.Projects.{IsInOrder}
 use Rattle.service_attrs.specs.declared.Project.{Project}
@@ -32,10 +33,15 @@ pub record HasPage (files : Contents) (directory : List ℕ) (project : Project)
   pub page : value_at files (joined directory (codes "compose.yaml")) ≡ Some (project_page project)
   pub alone : value_at files (joined directory (codes ".env")) ≡ None
 
+-- a call that names no files, no project directory and no env files
+abbrev pub plain_request : Variables → List ℕ → LoadRequest
+plain_request caller cwd =
+    record { files = []; project_directory = None; env_files = []; env = caller; cwd = cwd }
+
 -- where the page of a project is the Compose file, what is loaded there is that project: in every directory, and whatever the
 -- caller's variables are
 abbrev pub ProjectPagesReadBack : Type 0
 ProjectPagesReadBack = (project : Project) (caller : Variables) (cwd : List ℕ) (files : Contents)
     → IsReadable project → HasPage files (joined cwd []) project
-    → (loaded : Loaded) × (loaded_from files (loading [] caller cwd) ≡ Ok loaded)
+    → (loaded : Loaded) × (loaded_from files (loading (plain_request caller cwd)) ≡ Ok loaded)
     × (project_of (base_name loaded.directory) loaded.tree ≡ Ok project)

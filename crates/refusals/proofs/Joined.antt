@@ -18,6 +18,8 @@ comes_back (LoadRefusal.NoHome path) = refl
 comes_back (LoadRefusal.Yaml path cause) = refl
 comes_back (LoadRefusal.EnvFile path cause) = refl
 comes_back (LoadRefusal.Subst path cause) = refl
+comes_back (LoadRefusal.Merge path cause) = refl
+comes_back (LoadRefusal.BadShape at) = refl
 comes_back LoadRefusal.Memory = refl
 
 -- two refusals of files that a call is refused with alike are the same

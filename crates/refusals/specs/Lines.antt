@@ -3,7 +3,7 @@ use Rattle.std.specs.Prelude.{ℕ, List, ◌++◌, codes}
 use Rattle.compose_words.specs.Printed.{refusal_text}
 use Rattle.run_model.specs.Lines.{line, fault_words}
 use Rattle.engine_types.specs.declared.RunFault.{RunFault}
-use Rattle.plain_services.specs.Messages as projects
+use Rattle.loading_words.specs.Messages as projects
 use Rattle.refusals.specs.declared.refusal.Part.{Part}
 use Rattle.refusals.specs.declared.refusal.Refusal.{Refusal}
 use Rattle.refusals.specs.declared.refusal.Unbuilt.{Unbuilt}

@@ -3,7 +3,7 @@ use Rattle.std.specs.Prelude.{Bool, true, false, Option, Some}
 use Rattle.compose_words.specs.declared.WordsRefusal.{WordsRefusal}
 use Rattle.engine_types.specs.declared.RunFault.{RunFault}
 use Rattle.include_extends.specs.declared.LoadRefusal.{LoadRefusal}
-use Rattle.plain_services.specs.declared.PlainRefusal.{PlainRefusal}
+use Rattle.loading_words.specs.declared.TreeRefusal.{TreeRefusal}
 use Rattle.refusals.specs.declared.refusal.Part.{Part}
 use Rattle.refusals.specs.declared.refusal.Refusal.{Refusal}
 use Rattle.refusals.specs.declared.refusal.Unbuilt.{Unbuilt}
@@ -54,11 +54,11 @@ load_refusal LoadRefusal.Memory = Refusal.Memory
 load_refusal refusal = Refusal.Load refusal
 
 -- what a call is refused with whose tree gives no project
-abbrev pub project_refusal : PlainRefusal → Refusal
-project_refusal (PlainRefusal.NotBuilt path) = Refusal.NotBuilt (Unbuilt.Attribute path)
-project_refusal (PlainRefusal.Name refusal) = Refusal.Name refusal
-project_refusal (PlainRefusal.Project refusal) = Refusal.Project refusal
-project_refusal PlainRefusal.Memory = Refusal.Memory
+abbrev pub project_refusal : TreeRefusal → Refusal
+project_refusal (TreeRefusal.NotBuilt path) = Refusal.NotBuilt (Unbuilt.Attribute path)
+project_refusal (TreeRefusal.Name refusal) = Refusal.Name refusal
+project_refusal (TreeRefusal.Project refusal) = Refusal.Project refusal
+project_refusal TreeRefusal.Memory = Refusal.Memory
 
 -- what a call is refused with where its run is refused so
 abbrev pub run_refusal : RunFault → Refusal

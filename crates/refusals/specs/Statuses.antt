@@ -2,7 +2,7 @@
 use Rattle.std.specs.Prelude.{ℕ, Option, Some, None}
 use Rattle.compose_words.specs.declared.WordsRefusal.{WordsRefusal}
 use Rattle.run_model.specs.Ending.{seen_status, outcome_status}
-use Rattle.plain_services.specs.Statuses.{load_status, project_status}
+use Rattle.loading_words.specs.Statuses.{load_status, project_status}
 use Rattle.refusals.specs.declared.refusal.Refusal.{Refusal}
 use Rattle.refusals.specs.declared.refusal.Unbuilt.{Unbuilt}
 

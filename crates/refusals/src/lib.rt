@@ -18,7 +18,7 @@ mod words_refusal;
 pub use compose_words::WordsRefusal;
 pub use include_extends::LoadRefusal;
 pub use line::refusal_line;
-pub use plain_services::ProjectRefusal;
+pub use loading_words::ProjectRefusal;
 pub use refusal::{Part, Refusal, Unbuilt};
 pub use run_refusal::refusal_of;
 pub use saying::{say, say_if_any};

@@ -9,7 +9,7 @@ use crate::condition::failed_words;
 use crate::refusal::{Part, Refusal, Unbuilt};
 use compose_words::WordsRefusal;
 use engine_types::{Kind, Outcome, Reply, Request, SeenFault, WireEnd};
-use plain_services::{load_words, project_words};
+use loading_words::{load_words, project_words};
 use std::alloc::Global;
 use tree_base::{Memory, Text};
 
@@ -58,7 +58,7 @@ fn unbuilt_words(alloc: Global, unbuilt: &Unbuilt) -> Result<Text, Memory>
     match unbuilt {
         Unbuilt::Words => Text::from_str(alloc, "not built: words"),
         Unbuilt::Variable { name } => before_text(alloc, "not built: ", name),
-        Unbuilt::Attribute { path } => plain_services::unbuilt_words(alloc, path),
+        Unbuilt::Attribute { path } => loading_words::unbuilt_words(alloc, path),
     }
 }
 

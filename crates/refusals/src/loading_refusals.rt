@@ -1,13 +1,13 @@
 ghost use Rattle.std.specs.Prelude.{◌≡◌};
-ghost use Rattle.plain_services.specs.Messages as loading;
-ghost use Rattle.plain_services.specs.Statuses as ending;
+ghost use Rattle.loading_words.specs.Messages as loading;
+ghost use Rattle.loading_words.specs.Statuses as ending;
 ghost use Rattle.refusals.specs.Lines.{refusal_words};
 ghost use Rattle.refusals.specs.Origins.{IsBeforeDial, load_refusal, project_refusal};
 ghost use Rattle.refusals.specs.Statuses.{refusal_status};
 
 use crate::refusal::{Refusal, Unbuilt};
 use include_extends::LoadRefusal;
-use plain_services::PlainRefusal;
+use loading_words::TreeRefusal;
 
 impl From<LoadRefusal> for Refusal {
     ghost from_gives = { λ refusal joined. joined ≡ load_refusal refusal };
@@ -27,22 +27,22 @@ impl From<LoadRefusal> for Refusal {
     }
 }
 
-impl From<PlainRefusal> for Refusal {
+impl From<TreeRefusal> for Refusal {
     ghost from_gives = { λ refusal joined. joined ≡ project_refusal refusal };
 
     /// What a call is refused with whose tree gives no project: it has the same status and words, and comes before
     /// the dial. No memory.
-    fn from(refusal: PlainRefusal) -> Refusal
+    fn from(refusal: TreeRefusal) -> Refusal
         ensures refusal { result ≡ project_refusal refusal }
         ensures status { refusal_status result ≡ ending.refusal_status refusal }
         ensures words { refusal_words result ≡ loading.refusal_words refusal }
         ensures kind { IsBeforeDial result }
     {
         match refusal {
-            PlainRefusal::NotBuilt { path } => Refusal::NotBuilt(Unbuilt::Attribute { path }),
-            PlainRefusal::Name(refusal) => Refusal::Name(refusal),
-            PlainRefusal::Project(refusal) => Refusal::Project(refusal),
-            PlainRefusal::Memory => Refusal::Memory,
+            TreeRefusal::NotBuilt { path } => Refusal::NotBuilt(Unbuilt::Attribute { path }),
+            TreeRefusal::Name(refusal) => Refusal::Name(refusal),
+            TreeRefusal::Project(refusal) => Refusal::Project(refusal),
+            TreeRefusal::Memory => Refusal::Memory,
         }
     }
 }

@@ -1,7 +1,7 @@
 use compose_words::WordsRefusal;
 use engine_types::{Condition, LateWhy, Outcome, Report, Request, SeenFault};
 use include_extends::LoadRefusal;
-use plain_services::ProjectRefusal;
+use loading_words::ProjectRefusal;
 use tree_base::{Path, Text};
 
 /// Why a call ended otherwise than well. Each has its exit status and the line that it prints.

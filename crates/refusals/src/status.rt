@@ -5,7 +5,7 @@ ghost use Rattle.refusals.specs.Statuses.{refusal_status, status_of, unbuilt_sta
 use crate::refusal::{Refusal, Unbuilt};
 use compose_words::WordsRefusal;
 use engine_types::{Outcome, SeenFault, WireEnd};
-use plain_services::{load_status, project_status};
+use loading_words::{load_status, project_status};
 
 /// The exit status of a call: 0 where nothing is refused.
 pub fn status_of(refusal: &Option<Refusal>) -> u8

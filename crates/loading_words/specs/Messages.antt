@@ -1,0 +1,77 @@
+-- What each refusal of a file or of a project says, behind the program's name.
+use Rattle.std.specs.Prelude.{ℕ, List, ◌++◌, codes, decimal}
+use Rattle.dotenv.specs.declared.refusal.EnvRefusal.{EnvRefusal}
+use Rattle.include_extends.specs.declared.refusal.LoadRefusal.{LoadRefusal}
+use Rattle.interpolate.specs.declared.refusal.SubstRefusal.{SubstRefusal}
+use Rattle.interpolate.specs.declared.refusal.SubstTreeRefusal.{SubstTreeRefusal}
+use Rattle.merge_rules.specs.declared.refusal.MergeRefusal.{MergeRefusal}
+use Rattle.loading_words.specs.Paths.{path_words}
+use Rattle.loading_words.specs.declared.refusal.TreeRefusal.{TreeRefusal}
+use Rattle.loading_words.specs.declared.refusal.ProjectRefusal.{ProjectRefusal}
+use Rattle.tree_base.specs.declared.Step.{Step}
+use Rattle.yaml_lines.specs.Printed.{refusal_text}
+
+-- what isn't built is named by its path
+abbrev pub unbuilt_words : List Step → List ℕ
+unbuilt_words path = path_words path ++ codes ": not built"
+
+-- a line that is refused: its number, and the name of the fault
+abbrev pub line_words : ℕ → List ℕ → List ℕ
+line_words line name = decimal line ++ codes ": " ++ name
+
+-- why an env file isn't read
+abbrev pub env_words : EnvRefusal → List ℕ
+env_words (EnvRefusal.BadLine line) = line_words line (codes "BadLine")
+env_words (EnvRefusal.BadQuote line) = line_words line (codes "BadQuote")
+env_words (EnvRefusal.Subst line cause) = line_words line (codes "Subst")
+env_words EnvRefusal.Memory = codes "memory"
+
+-- why a scalar has no value; a variable that is required is named, with the message of the form that requires it
+abbrev pub value_words : SubstRefusal → List ℕ
+value_words (SubstRefusal.Unclosed at) = codes "Unclosed"
+value_words (SubstRefusal.BadForm at) = codes "BadForm"
+value_words (SubstRefusal.RequiredVariable name message) =
+    codes "required " ++ name ++ codes ": " ++ message
+value_words SubstRefusal.Memory = codes "memory"
+
+-- why the scalars of a tree have no values: the path of the first, and its fault
+abbrev pub tree_words : SubstTreeRefusal → List ℕ
+tree_words (SubstTreeRefusal.At path cause) = path_words path ++ codes ": " ++ value_words cause
+tree_words SubstTreeRefusal.TooMuchText = codes "TooMuchText"
+tree_words SubstTreeRefusal.Memory = codes "memory"
+
+-- why trees aren't merged: the path of the first part that doesn't fit, or the limit
+abbrev pub merge_words : MergeRefusal → List ℕ
+merge_words (MergeRefusal.KindMismatch path) = path_words path ++ codes ": KindMismatch"
+merge_words (MergeRefusal.BadUniqueEntry path) = path_words path ++ codes ": BadUniqueEntry"
+merge_words MergeRefusal.TooManyNodes = codes "TooManyNodes"
+merge_words MergeRefusal.TooMuchText = codes "TooMuchText"
+merge_words MergeRefusal.Memory = codes "memory"
+
+-- a file is named by its path; where its text is refused, the place and the name of the fault follow;
+-- a part of the files' tree is named by its path in the tree
+abbrev pub load_words : LoadRefusal → List ℕ
+load_words (LoadRefusal.NotFound path) = path ++ codes ": NotFound"
+load_words (LoadRefusal.ReadFault path) = path ++ codes ": ReadFault"
+load_words (LoadRefusal.FileTooLarge path) = path ++ codes ": FileTooLarge"
+load_words (LoadRefusal.TooManyFiles path) = path ++ codes ": TooManyFiles"
+load_words (LoadRefusal.NoHome path) = path ++ codes ": NoHome"
+load_words (LoadRefusal.Yaml path cause) = path ++ codes ":" ++ refusal_text cause
+load_words (LoadRefusal.EnvFile path cause) = path ++ codes ":" ++ env_words cause
+load_words (LoadRefusal.Subst path cause) = path ++ codes ": " ++ tree_words cause
+load_words (LoadRefusal.Merge path cause) = path ++ codes ": " ++ merge_words cause
+load_words (LoadRefusal.BadShape at) = path_words at ++ codes ": BadShape"
+load_words LoadRefusal.Memory = codes "memory"
+
+-- a name that is none stands as it is, and a number past its limit behind the limit's name
+abbrev pub project_words : ProjectRefusal → List ℕ
+project_words (ProjectRefusal.BadShape path) = path_words path ++ codes ": BadShape"
+project_words (ProjectRefusal.BadName name) = codes "bad project name: " ++ name
+project_words (ProjectRefusal.TooManyServices count) = codes "TooManyServices: " ++ decimal count
+
+-- what a refusal of a tree says
+abbrev pub refusal_words : TreeRefusal → List ℕ
+refusal_words (TreeRefusal.NotBuilt path) = unbuilt_words path
+refusal_words (TreeRefusal.Name refusal) = project_words refusal
+refusal_words (TreeRefusal.Project refusal) = project_words refusal
+refusal_words TreeRefusal.Memory = codes "memory"

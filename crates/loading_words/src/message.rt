@@ -1,0 +1,90 @@
+ghost use Rattle.std.specs.Prelude.{◌≡◌, ◌++◌, IfOk};
+ghost use Rattle.loading_words.specs.Messages.{load_words, project_words, refusal_words, unbuilt_words};
+ghost use Rattle.loading_words.specs.Paths.{path_words};
+ghost use Rattle.loading_words.specs.declared.refusal.ProjectRefusal.{ProjectRefusal};
+
+use crate::load_message;
+use crate::path::path_words;
+use crate::refusal::{ProjectRefusal, TreeRefusal};
+use include_extends::LoadRefusal;
+use std::alloc::Global;
+use tree_base::{Memory, Path, Text};
+
+/// What a refusal of a tree says. Memory where there is no memory for it.
+pub fn refusal_words(alloc: Global, refusal: &TreeRefusal) -> Result<Text, Memory>
+    ensures { IfOk result (λ words. words ≡ refusal_words refusal.now) }
+{
+    match refusal {
+        TreeRefusal::NotBuilt { path } => unbuilt_words(alloc, path),
+        TreeRefusal::Name(refusal) => project_words(alloc, refusal),
+        TreeRefusal::Project(refusal) => project_words(alloc, refusal),
+        TreeRefusal::Memory => Text::from_str(alloc, "memory"),
+    }
+}
+
+/// What is said of what isn't built at a path. Memory where there is no memory for it.
+pub fn unbuilt_words(alloc: Global, path: &Path) -> Result<Text, Memory>
+    ensures { IfOk result (λ words. words ≡ unbuilt_words path.now) }
+{
+    behind_path(alloc, path, ": not built")
+}
+
+/// What is said of a file that isn't loaded. Memory where there is no memory for it.
+pub fn load_words(alloc: Global, refusal: &LoadRefusal) -> Result<Text, Memory>
+    ensures { IfOk result (λ words. words ≡ load_words refusal.now) }
+{
+    match refusal {
+        LoadRefusal::NotFound { path } => behind(alloc, path, ": NotFound"),
+        LoadRefusal::ReadFault { path } => behind(alloc, path, ": ReadFault"),
+        LoadRefusal::FileTooLarge { path } => behind(alloc, path, ": FileTooLarge"),
+        LoadRefusal::TooManyFiles { path } => behind(alloc, path, ": TooManyFiles"),
+        LoadRefusal::NoHome { path } => behind(alloc, path, ": NoHome"),
+        LoadRefusal::Yaml { path, cause } => load_message::yaml_words(alloc, path, cause),
+        LoadRefusal::EnvFile { path, cause } => load_message::env_words(alloc, path, cause),
+        LoadRefusal::Subst { path, cause } => load_message::tree_words(alloc, path, cause),
+        LoadRefusal::Merge { path, cause } => load_message::merge_words(alloc, path, cause),
+        LoadRefusal::BadShape { at } => behind_path(alloc, at, ": BadShape"),
+        LoadRefusal::Memory => Text::from_str(alloc, "memory"),
+    }
+}
+
+/// What is said of a project that is wrong. Memory where there is no memory for it.
+pub fn project_words(alloc: Global, refusal: &ProjectRefusal) -> Result<Text, Memory>
+    ensures { IfOk result (λ words. words ≡ project_words refusal.now) }
+{
+    match refusal {
+        ProjectRefusal::BadShape { path } => behind_path(alloc, path, ": BadShape"),
+        ProjectRefusal::BadName { name } => name_words(alloc, name),
+        ProjectRefusal::TooManyServices { count } => services_words(alloc, *count),
+    }
+}
+
+fn name_words(alloc: Global, name: &Text) -> Result<Text, Memory>
+    ensures { IfOk result (λ words. words ≡ project_words (ProjectRefusal.BadName name.now)) }
+{
+    let words = format!(in alloc; "bad project name: {name}")?;
+    Ok(Text::from_string(words))
+}
+
+fn services_words(alloc: Global, count: u32) -> Result<Text, Memory>
+    ensures { IfOk result (λ words. words ≡ project_words (ProjectRefusal.TooManyServices count)) }
+{
+    let words = format!(in alloc; "TooManyServices: {count}")?;
+    Ok(Text::from_string(words))
+}
+
+/// Words behind a path of a tree, as it is printed.
+pub(crate) fn behind_path(alloc: Global, path: &Path, words: &str) -> Result<Text, Memory>
+    ensures { IfOk result (λ all. all ≡ path_words path.now ++ words.now) }
+{
+    let path = path_words(alloc, path)?;
+    behind(alloc, &path, words)
+}
+
+/// Words behind a text.
+pub(crate) fn behind(alloc: Global, text: &Text, words: &str) -> Result<Text, Memory>
+    ensures { IfOk result (λ all. all ≡ text.now ++ words.now) }
+{
+    let all = format!(in alloc; "{text}{words}")?;
+    Ok(Text::from_string(all))
+}

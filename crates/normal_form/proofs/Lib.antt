@@ -1,0 +1,9 @@
+pub mod EntryOrder
+pub mod KeptKeys
+pub mod Names
+pub mod NoneLost
+pub mod Opened
+pub mod Ordering
+pub mod ReadBack
+pub mod Shapes
+pub mod Walks

@@ -1,0 +1,6 @@
+pub mod Answers
+pub mod Laws
+pub mod Parts
+pub mod ProjectNames
+pub mod Projects
+pub mod Shape

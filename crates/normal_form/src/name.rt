@@ -1,0 +1,110 @@
+ghost use Rattle.std.specs.Prelude.{◌≡◌, IfOk, codes};
+ghost use Rattle.std.specs.List.{list_all};
+ghost use Rattle.std.specs.Option.{option_map};
+ghost use Rattle.normal_form.specs.Answers.{Gives};
+ghost use Rattle.normal_form.specs.ProjectNames.{base_name, begins_well, is_name, is_name_character, name_from};
+ghost use Rattle.normal_form.specs.Projects.{bad_shape, checked, name_by, name_in, named};
+ghost use Rattle.tree_base.specs.Entries.{value_at};
+ghost use Rattle.tree_base.specs.declared.Tree.{out-Tree};
+
+use crate::directory::{base_name, is_mark, is_name_character, name_from};
+use crate::entries::value_under;
+use crate::unbuilt::below_key;
+use loading_words::{ProjectRefusal, TreeRefusal};
+use std::alloc::Global;
+use tree_base::{List, Map, Memory, Text, Tree};
+
+/// The name of the project of a tree: the one that stands at `name`, or else the one that the directory's base name
+/// gives.
+pub(crate) fn name_in(alloc: Global, directory: &Text, tree: &Tree) -> Result<Text, TreeRefusal>
+    ensures { Gives result (name_in (base_name directory.now) (out-Tree tree.now)) }
+{
+    match tree {
+        Tree::Map(entries) => name_by(alloc, directory, entries.get()),
+        _ => of_directory(alloc, directory),
+    }
+}
+
+fn name_by(alloc: Global, directory: &Text, entries: &Map) -> Result<Text, TreeRefusal>
+    ensures { Gives result (name_by (base_name directory.now)
+        (option_map out-Tree (value_at entries.now (codes "name")))) }
+{
+    match value_under(alloc, entries, "name") {
+        Ok(Some(Tree::Scalar(name))) => checked(alloc, name),
+        Ok(Some(Tree::Map(_))) => bad_shape(alloc),
+        Ok(Some(Tree::Seq(_))) => bad_shape(alloc),
+        Ok(_) => of_directory(alloc, directory),
+        Err(Memory) => Err(TreeRefusal::Memory),
+    }
+}
+
+/// The name that a directory gives.
+fn of_directory(alloc: Global, directory: &Text) -> Result<Text, TreeRefusal>
+    ensures { Gives result (named (name_from (base_name directory.now))) }
+{
+    match name_of_directory(alloc, directory) {
+        Ok(name) => whole(name),
+        Err(Memory) => Err(TreeRefusal::Memory),
+    }
+}
+
+fn name_of_directory(alloc: Global, directory: &Text) -> Result<Text, Memory>
+    ensures { IfOk result (λ name. name ≡ name_from (base_name directory.now)) }
+{
+    let base = base_name(alloc, directory)?;
+    name_from(alloc, base)
+}
+
+fn whole(name: Text) -> Result<Text, TreeRefusal>
+    ensures { Gives result (named name) }
+{
+    if name.is_empty() {
+        Err(TreeRefusal::Name(ProjectRefusal::BadName { name }))
+    } else {
+        Ok(name)
+    }
+}
+
+/// A name as it is given, which has to be one.
+fn checked(alloc: Global, name: &Text) -> Result<Text, TreeRefusal>
+    ensures { Gives result (checked name.now) }
+{
+    let is_name = is_name(name);
+    match name.copy(alloc) {
+        Ok(name) if is_name => Ok(name),
+        Ok(name) => Err(TreeRefusal::Name(ProjectRefusal::BadName { name })),
+        Err(Memory) => Err(TreeRefusal::Memory),
+    }
+}
+
+fn is_name(name: &Text) -> bool
+    ensures { result ≡ is_name name.now }
+{
+    let bytes = name.as_str().as_bytes();
+    begins_well(bytes) && are_name_characters(bytes)
+}
+
+fn are_name_characters(bytes: &[u8]) -> bool
+    ensures { result ≡ list_all is_name_character bytes.now }
+{
+    bytes.iter().all(|byte| is_name_character(*byte))
+}
+
+fn begins_well(bytes: &[u8]) -> bool
+    ensures { result ≡ begins_well bytes.now }
+{
+    match bytes {
+        [first, ..] => !is_mark(*first),
+        [] => false,
+    }
+}
+
+/// What a name is refused with that is neither null nor a scalar.
+fn bad_shape(alloc: Global) -> Result<Text, TreeRefusal>
+    ensures { Gives result bad_shape }
+{
+    match below_key(alloc, "name", List::new(alloc)) {
+        Ok(path) => Err(TreeRefusal::Project(ProjectRefusal::BadShape { path })),
+        Err(Memory) => Err(TreeRefusal::Memory),
+    }
+}

@@ -1,7 +1,0 @@
-use Rattle.std.proofs.Common.{◌≡◌, ◌++◌, take}
-use Rattle.std.specs.List.{flat_map}
-use Rattle.plain_services.specs.Paths.{step_words}
-use Rattle.plain_services.proofs.path.push_steps.Given as goal
-
-abbrev pub invariant-loop-step : goal.invariant-loop-step
-invariant-loop-step l = l.words ≡ l.fn.words ++ flat_map step_words (take l.step-index l.steps)
