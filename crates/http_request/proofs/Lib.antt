@@ -1,0 +1,6 @@
+mod EscapeSets
+mod Filters
+mod Grammar
+mod Lines
+mod Tags
+mod Targets

@@ -1,0 +1,5 @@
+pub mod Escapes
+pub mod Heads
+pub mod Images
+pub mod Laws
+pub mod Requests

@@ -1,0 +1,17 @@
+//! The bytes of a request to the Docker Engine API v1.43 over HTTP/1.1 (RFC 9112), with the body that goes with it.
+//!
+//! The contract pins the bytes exactly: request line, header lines and body. Want of memory is the one refusal.
+#![tactic(auto)]
+
+mod escaping;
+mod fields;
+mod images;
+mod laws;
+mod method;
+mod paths;
+mod queries;
+mod request;
+
+pub use laws::bytes_are_one_request;
+pub use method::Method;
+pub use request::request_with;
