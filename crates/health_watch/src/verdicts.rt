@@ -1,0 +1,63 @@
+ghost use Rattle.std.specs.Prelude.{◌≡◌};
+ghost use Rattle.run_model.specs.Conditions.{judge, judge_completion, judge_health, judge_running};
+
+use engine_types::{Condition, ContainerState, Health, Report};
+use run_model::Verdict;
+
+/// What a report on a slot's container says of a condition: it is met, it has failed, or neither yet. Started is met by
+/// every report. No memory.
+pub fn judge(condition: Condition, report: &Report) -> Verdict
+    ensures { result ≡ judge condition report.now }
+{
+    match condition {
+        Condition::Started => Verdict::Met,
+        Condition::Healthy => judge_health(report.state, report.health),
+        Condition::Completed => judge_completion(report.state, report.exit_code),
+        Condition::Running => judge_running(report.state),
+    }
+}
+
+/// A running and healthy container meets `service_healthy`. One that is unhealthy, runs without a health check, has exited,
+/// is dead or is being removed fails it.
+fn judge_health(state: ContainerState, health: Health) -> Verdict
+    ensures { result ≡ judge_health state health }
+{
+    match (state, health) {
+        (ContainerState::Running, Health::Healthy) => Verdict::Met,
+        (ContainerState::Running, Health::Absent) => Verdict::Failed,
+        (ContainerState::Exited, _) => Verdict::Failed,
+        (ContainerState::Dead, _) => Verdict::Failed,
+        (ContainerState::Removing, _) => Verdict::Failed,
+        (_, Health::Unhealthy) => Verdict::Failed,
+        _ => Verdict::NotYet,
+    }
+}
+
+/// An exit with code 0 meets `service_completed_successfully`. An exit with another code, a dead container, and one that is
+/// being removed fail it.
+fn judge_completion(state: ContainerState, exit_code: i64) -> Verdict
+    ensures { result ≡ judge_completion state exit_code }
+{
+    match state {
+        ContainerState::Exited => {
+            if exit_code == 0 {
+                Verdict::Met
+            } else {
+                Verdict::Failed
+            }
+        }
+        ContainerState::Dead | ContainerState::Removing => Verdict::Failed,
+        _ => Verdict::NotYet,
+    }
+}
+
+/// A running container meets Running. One that has exited, is dead or is being removed fails it.
+fn judge_running(state: ContainerState) -> Verdict
+    ensures { result ≡ judge_running state }
+{
+    match state {
+        ContainerState::Running => Verdict::Met,
+        ContainerState::Exited | ContainerState::Dead | ContainerState::Removing => Verdict::Failed,
+        _ => Verdict::NotYet,
+    }
+}

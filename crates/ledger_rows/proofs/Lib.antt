@@ -1,0 +1,16 @@
+pub mod Fixed
+pub mod Finding
+pub mod Steps
+pub mod Changes
+pub mod Falling
+pub mod Losing
+pub mod Marking
+pub mod Carrying
+pub mod Watching
+pub mod Askers
+pub mod Adding
+pub mod Entering
+pub mod Turns
+pub mod Meeting
+pub mod Failing
+pub mod Inverting
