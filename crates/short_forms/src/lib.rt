@@ -18,7 +18,9 @@ mod ports;
 mod sizes;
 mod words;
 
+pub use cuts::cut_text;
 pub use decimals::decimal;
+pub use digits::number;
 pub use durations::duration;
 pub use form::{Form, FormRefusal};
 pub use laws::{
@@ -28,6 +30,6 @@ pub use laws::{
 };
 pub use mounts::{Mount, MountKind, read_mount};
 pub use pairs::key_value;
-pub use ports::{Port, read_port};
+pub use ports::{Port, port_number, published_as, read_port};
 pub use sizes::size;
 pub use words::shell_words;

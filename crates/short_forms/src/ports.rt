@@ -5,6 +5,7 @@ ghost use Rattle.std.specs.Option.{option_map};
 ghost use Rattle.short_forms.specs.Answers.{Gives, answer_of};
 ghost use Rattle.short_forms.specs.Cuts.{parts_at};
 ghost use Rattle.short_forms.specs.Digits.{number_up_to};
+ghost use Rattle.short_forms.specs.PortLaws.{published_in};
 ghost use Rattle.short_forms.specs.Ports.{IsSpan, first_of, host_text, is_address, is_octet, is_protocol, port_at, ports_by, ports_from, ports_in, ports_of, published, published_of, range, span_of, target_of, unpublished};
 
 use crate::cuts::cut_text;
@@ -233,6 +234,18 @@ fn published(
     }
 }
 
+/// What the host's port or range of ports is published as: a number without leading zeros, or a range as it is spelled; None
+/// where a text is neither.
+pub fn published_as(alloc: Global, text: &str) -> Result<Option<Text>, Memory>
+    ensures { IfOk result (λ host. host ≡ published_in text.now) }
+{
+    match span_of(text) {
+        Some(Span::One(port)) => Ok(Some(number_text(alloc, port)?)),
+        Some(Span::Range(_, _)) => Ok(Some(Text::from_str(alloc, text)?)),
+        None => Ok(None),
+    }
+}
+
 /// One port or a range of ports up to 65,535.
 fn span_of(text: &str) -> Option<Span>
     ensures value { result ≡ span_of text.now }
@@ -273,7 +286,8 @@ fn first_of(span: Span) -> u32
     }
 }
 
-fn port_number(text: &str) -> Option<u32>
+/// The number of a port, at most 65,535; None where a text is none. No memory.
+pub fn port_number(text: &str) -> Option<u32>
     ensures value { result ≡ number_up_to 65535 text.now }
     ensures range { IfSome result (λ port. port ≤ 65535) }
 {
