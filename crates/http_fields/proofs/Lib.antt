@@ -1,0 +1,2 @@
+mod FieldValues
+mod Numbers

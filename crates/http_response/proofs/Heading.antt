@@ -1,0 +1,130 @@
+-- Heads that are skipped, the head behind them, and the ways in which they are broken.
+use Rattle.std.proofs.Common.{◌≡◌, ◌⊎◌, ℕ, ◌+◌, ◌<◌, ◌≤◌, Bool, true, false, nat_lt, if◌then◌else◌, List, [], ◌∷◌, ◌++◌, length, take, drop, Option, Some, None, refl, sym, ap, ◌∙◌, subst, inl, inr, arith, append_assoc}
+use Rattle.std.proofs.lemmas.List.{append-nil, length-append, take-append-drop}
+use Rattle.std.proofs.lemmas.List.Elements.{All-push}
+use Rattle.std.specs.Prelude.{Err}
+use Rattle.engine_types.specs.declared.WireEnd.{WireEnd}
+use Rattle.httparse.specs.Grammar.{HasNoResponse, IsResponseHead, NeverHasResponse, ResponseHead, print_response}
+use Rattle.httparse.specs.Spans.{ResponseExceeds}
+use Rattle.response_rules.specs.Heads.{Framing, chunked, fault_by, framing_of, head_fault, is_encoded, sized, to_end}
+use Rattle.response_rules.specs.Lines.{Part, body_limit, ends, head_limit, head_part, line_limit, passed}
+use Rattle.response_rules.specs.Responses.{BeginsWithHead, Breaks, IsSkipped, Skips, bad_fields, bad_head, long_head, no_head, print_heads}
+use Rattle.http_response.specs.Found.{BreaksBehind, ParsedBy}
+use Rattle.http_response.specs.Stocks.{MissesEnd}
+use Rattle.http_response.proofs.Overflowing.{head_over}
+
+-- ---- skipped heads
+
+pub skips_more : (read tail more : List ℕ) (heads : List ResponseHead) → Skips read heads tail → Skips (read ++ more) heads (tail ++ more)
+skips_more read tail more heads s = record {
+  each = s.each;
+  within = s.within;
+  reads = ap (λ (r : List ℕ). r ++ more) s.reads ∙ append_assoc (print_heads heads) tail more;
+}
+
+heads_join : (heads : List ResponseHead) (h : ResponseHead) → print_heads (heads ++ h ∷ []) ≡ print_heads heads ++ print_response h
+heads_join [] h = append-nil (print_response h)
+heads_join (g ∷ heads) h = ap (λ (m : List ℕ). print_response g ++ m) (heads_join heads h) ∙ sym (append_assoc (print_response g) (print_heads heads) (print_response h))
+
+pub skips_nothing : (read : List ℕ) → Skips read [] read
+skips_nothing read = record { each = λ (k : ℕ) (d : ResponseHead) (l : k < 0). absurd (omega arith); within = omega arith; reads = refl }
+
+pub skips_on : (read tail rest : List ℕ) (heads : List ResponseHead) (h : ResponseHead) → Skips read heads tail → IsSkipped h → tail ≡ print_response h ++ rest
+    → length (print_heads heads) + length (print_response h) ≤ head_limit
+    → Skips read (heads ++ h ∷ []) rest × (length (print_heads (heads ++ h ∷ [])) ≡ length (print_heads heads) + length (print_response h))
+skips_on read tail rest heads h s is e within =
+    let long : length (print_heads (heads ++ h ∷ [])) ≡ length (print_heads heads) + length (print_response h) =
+    ap length (heads_join heads h) ∙ length-append (print_heads heads) (print_response h) in (
+      record {
+        each = All-push IsSkipped heads h s.each is;
+        within = omega (arith, long, within);
+        reads =
+            s.reads ∙ ap (λ (t : List ℕ). print_heads heads ++ t) e ∙ sym (append_assoc (print_heads heads) (print_response h) rest)
+            ∙ ap (λ (p : List ℕ). p ++ rest) (sym (heads_join heads h));
+      },
+      long,
+    )
+
+-- the head stands behind the skipped ones
+pub begins : (read tail rest : List ℕ) (heads : List ResponseHead) (h : ResponseHead) (before : ℕ) → Skips read heads tail → length (print_heads heads) ≡ before
+    → IsResponseHead h → tail ≡ print_response h ++ rest → length h.fields ≤ line_limit → before + length (print_response h) ≤ head_limit
+    → BeginsWithHead read heads h rest
+begins read tail rest heads h before s l is e few within = record {
+  skips = subst (λ (t : List ℕ). Skips read heads t) e s;
+  is_head = is;
+  few = few;
+  within = omega (arith, l, within);
+}
+
+pub head_some : (h : ResponseHead) → 0 < length (print_response h)
+unfolding print_response
+head_some h = simp length-append (omega arith)
+
+-- ---- refusals
+
+-- the end of a head isn't there
+pub misses : (before : ℕ) (bytes : List ℕ) (ended : Bool) (cause : WireEnd) → MissesEnd (head_part before bytes) ended cause → BreaksBehind before bytes ended cause
+misses before bytes ended WireEnd.Ended m = λ (read : List ℕ) (heads : List ResponseHead) (s : Skips read heads bytes) (l : length (print_heads heads) ≡ before).
+    no_head read bytes ended heads s (ap (λ (n : ℕ). head_part n bytes) l ∙ m.0) m.1
+misses before bytes ended WireEnd.TooLarge m = λ (read : List ℕ) (heads : List ResponseHead) (s : Skips read heads bytes) (l : length (print_heads heads) ≡ before).
+    long_head read bytes ended heads s (ap (λ (n : ℕ). head_part n bytes) l ∙ m)
+misses before bytes ended (WireEnd.Malformed at) m = absurd m
+misses before bytes ended WireEnd.Encoded m = absurd m
+misses before bytes ended WireEnd.Fault m = absurd m
+misses before bytes ended WireEnd.BadBody m = absurd m
+
+-- bytes up to the end of a head that are no head
+pub no_head_there : (tail bytes : List ℕ) (before n : ℕ) → head_part before tail ≡ ends n → bytes ≡ take n tail → HasNoResponse bytes → ParsedBy tail before (Err (WireEnd.Malformed before))
+no_head_there tail bytes before n part is none =
+    λ (ended : Bool) (read : List ℕ) (heads : List ResponseHead) (s : Skips read heads tail) (l : length (print_heads heads) ≡ before).
+    subst (λ (m : ℕ). Breaks read ended (WireEnd.Malformed m)) l
+    (bad_head read tail ended heads n s (ap (λ (m : ℕ). head_part m tail) l ∙ part) (subst HasNoResponse is none))
+
+pub never_there : (bytes : List ℕ) → NeverHasResponse bytes → HasNoResponse bytes
+never_there bytes never = subst HasNoResponse (append-nil bytes) (never [])
+
+ends_passed : (part : Part) (n : ℕ) → part ≡ ends n → part ≡ passed → ⊥
+ends_passed part n e f = let other : ends n ≡ passed = sym e ∙ f in cc other
+
+-- more header lines than there is room for never come
+pub not_too_many : (tail bytes : List ℕ) (before n : ℕ) → head_part before tail ≡ ends n → bytes ≡ take n tail → ResponseExceeds line_limit bytes → ⊥
+not_too_many tail bytes before n part is (front, rest, cut, h, reads, many) =
+    let whole : tail ≡ (front ++ rest) ++ drop n tail = sym (take-append-drop n tail) ∙ ap (λ (b : List ℕ). b ++ drop n tail) (sym is ∙ cut) in
+    ends_passed (head_part before tail) n part (ap (head_part before) whole ∙ head_over h front rest (drop n tail) before reads.0 many reads.1)
+
+-- ---- the head that was read
+
+long_by : (v : Bool) (cause : WireEnd) → (if v then Some WireEnd.TooLarge else None) ≡ Some cause → cause ≡ WireEnd.TooLarge
+long_by true cause e = let back : Some cause ≡ Some WireEnd.TooLarge = sym e in cc back
+long_by false cause e = absurd (cc e)
+
+pub sound_anywhere : (at : ℕ) (f : Option Framing) (encoded : Bool) → fault_by at f encoded ≡ None → fault_by 0 f encoded ≡ None
+sound_anywhere at None encoded e = absurd (cc e)
+sound_anywhere at (Some f) true e = absurd (cc e)
+sound_anywhere at (Some to_end) false e = refl
+sound_anywhere at (Some (sized n)) false e = e
+sound_anywhere at (Some chunked) false e = refl
+
+no_such_fault : (at : ℕ) (f : Option Framing) (encoded : Bool) (cause : WireEnd) → (cause ≡ WireEnd.Fault) ⊎ (cause ≡ WireEnd.BadBody) → fault_by at f encoded ≡ Some cause → ⊥
+no_such_fault at None encoded cause (inl c) e = let f : Some (WireEnd.Malformed at) ≡ Some WireEnd.Fault = e ∙ ap Some c in cc f
+no_such_fault at None encoded cause (inr c) e = let f : Some (WireEnd.Malformed at) ≡ Some WireEnd.BadBody = e ∙ ap Some c in cc f
+no_such_fault at (Some g) true cause (inl c) e = let f : Some WireEnd.Encoded ≡ Some WireEnd.Fault = e ∙ ap Some c in cc f
+no_such_fault at (Some g) true cause (inr c) e = let f : Some WireEnd.Encoded ≡ Some WireEnd.BadBody = e ∙ ap Some c in cc f
+no_such_fault at (Some to_end) false cause c e = cc e
+no_such_fault at (Some chunked) false cause c e = cc e
+no_such_fault at (Some (sized n)) false cause (inl c) e = let f : WireEnd.Fault ≡ WireEnd.TooLarge = sym c ∙ long_by (nat_lt body_limit n) cause e in cc f
+no_such_fault at (Some (sized n)) false cause (inr c) e = let f : WireEnd.BadBody ≡ WireEnd.TooLarge = sym c ∙ long_by (nat_lt body_limit n) cause e in cc f
+
+module _ (tail rest : List ℕ) (before : ℕ) (h : ResponseHead) (is : IsResponseHead h) (e : tail ≡ print_response h ++ rest) (few : length h.fields ≤ line_limit) (within : before + length (print_response h) ≤ head_limit) where
+  faulty : (cause : WireEnd) → head_fault before h.fields ≡ Some cause → (ended : Bool) → BreaksBehind before tail ended cause
+  faulty cause f ended = λ (read : List ℕ) (heads : List ResponseHead) (s : Skips read heads tail) (l : length (print_heads heads) ≡ before).
+      bad_fields read rest ended heads h cause (begins read tail rest heads h before s l is e few within)
+      (ap (λ (n : ℕ). head_fault n h.fields) l ∙ f)
+
+  pub bad_fields_there : (cause : WireEnd) → head_fault before h.fields ≡ Some cause → ParsedBy tail before (Err cause)
+  bad_fields_there WireEnd.Fault f = no_such_fault before (framing_of h.fields) (is_encoded h.fields) WireEnd.Fault (inl refl) f
+  bad_fields_there WireEnd.BadBody f = no_such_fault before (framing_of h.fields) (is_encoded h.fields) WireEnd.BadBody (inr refl) f
+  bad_fields_there WireEnd.Ended f = faulty WireEnd.Ended f
+  bad_fields_there (WireEnd.Malformed at) f = faulty (WireEnd.Malformed at) f
+  bad_fields_there WireEnd.Encoded f = faulty WireEnd.Encoded f
+  bad_fields_there WireEnd.TooLarge f = faulty WireEnd.TooLarge f

@@ -1,0 +1,8 @@
+mod Heading
+mod Limits
+mod Listening
+mod Opening
+mod Overflowing
+mod Parsing
+mod Searching
+mod Skipping
