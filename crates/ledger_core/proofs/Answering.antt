@@ -1,0 +1,36 @@
+-- Each answer of a ledger keeps its journal legal.
+use Rattle.std.proofs.Common.{◌≡◌, ◌⊎◌, ℕ, ◌<◌, ◌≤◌, Bool, true, false, List, [], length, Option, refl, sym, ap, ◌∙◌, subst, inl, inr}
+use Rattle.std.proofs.lemmas.Bool.{cases_lt, le-leb}
+use Rattle.std.specs.Prelude.{nat_le}
+use Rattle.engine_types.specs.declared.Entry.{Entry}
+use Rattle.run_model.specs.Journals.{Setup, is_ending}
+use Rattle.run_model.specs.Legal.{Decision, Full, Go, Look, Pause, Take, answer_to, decision, entries_limit, is_other_out, next_action, next_poll}
+use Rattle.run_model.specs.Plans.{Aim}
+use Rattle.journal_laws.specs.Courses.{Course, MayAsk, entries, grown, setup_of}
+use Rattle.journal_laws.specs.Laws.{IsLegalRun, decided, decided_entry}
+use Rattle.journal_laws.proofs.Following.{answers, shorts}
+use Rattle.ledger_core.specs.Answers.{Answers, answer_entry}
+use Rattle.ledger_core.specs.declared.asked.Asked.{Asked}
+
+-- a journal that isn't full
+below : (setup : Setup) (past : List Entry) (w : ℕ) → (decision setup past w ≡ Full → ⊥) → length past < entries_limit
+below setup past w not_full = on (cases_lt (length past) entries_limit)
+  where
+    on : (length past < entries_limit) ⊎ (entries_limit ≤ length past) → length past < entries_limit
+    on (inl l) = l
+    on (inr l) = absurd (not_full (ap (λ (t : Bool). answer_to t (is_ending past) (next_action setup past) (next_poll setup past) (is_other_out setup past w)) (le-leb entries_limit (length past) l)))
+
+not_full : (w : ℕ) (d : Decision) → Answers w d Asked.Short → d ≡ Full → ⊥
+not_full w Full h e = h
+not_full w Go h e = cc e
+not_full w (Take a) h e = cc e
+not_full w (Look s) h e = cc e
+not_full w Pause h e = cc e
+
+pub answered : (aim : Aim) (run : Course) (w : ℕ) (answer : Asked) → IsLegalRun aim run → MayAsk run w → Answers w (decided run w) answer
+    → IsLegalRun aim (grown run (answer_entry w (decided run w) answer))
+answered aim run w Asked.Short legal ready h = shorts aim run w legal ready (below (setup_of run) (entries run) w (not_full w (decided run w) h))
+answered aim run w (Asked.Work permit request) legal ready h = answers aim run w legal ready
+answered aim run w (Asked.Watch permit request) legal ready h = answers aim run w legal ready
+answered aim run w Asked.Idle legal ready h = answers aim run w legal ready
+answered aim run w Asked.Leave legal ready h = answers aim run w legal ready

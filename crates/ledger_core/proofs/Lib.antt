@@ -1,0 +1,7 @@
+pub mod Answering
+pub mod Asking
+pub mod Deciding
+pub mod Ending
+pub mod Entries
+pub mod FirstFaults
+pub mod Stopping

@@ -1,0 +1,5 @@
+pub mod Answers
+pub mod Beginning
+pub mod Ledgers
+pub mod Laws
+pub mod Statuses
