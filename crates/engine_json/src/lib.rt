@@ -1,0 +1,14 @@
+//! What the Docker Engine API v1.43 answers in JSON: the reply that a response's status and body are, for each request. The
+//! contract of `reply_of` says that it is exactly the one that `response_rules` defines, and that a body which has another form
+//! is refused.
+#![tactic(auto)]
+
+mod fields;
+mod parsing;
+mod pulls;
+mod replies;
+mod reports;
+mod rows;
+mod words;
+
+pub use replies::{ReplyRefusal, reply_of};
