@@ -7,11 +7,11 @@ use Rattle.asked_project.specs.Parts.{IsOfProject, MeansFor, asked_with}
 use Rattle.asked_project.specs.declared.asking.Asked.{Asked}
 use Rattle.asked_project.proofs.Refusing.{words_no_memory}
 use Rattle.compose_words.specs.declared.Options.{Options}
-use Rattle.include_extends.proofs.Runs.{ran_told}
-use Rattle.include_extends.specs.Reads.{Load, Ran, loaded_from}
-use Rattle.include_extends.specs.Reads as reads
-use Rattle.include_extends.specs.declared.LoadRefusal.{LoadRefusal}
-use Rattle.include_extends.specs.declared.Loaded.{Loaded}
+use Rattle.loaded_files.proofs.Runs.{ran_told}
+use Rattle.loaded_files.specs.Reads.{Load, Ran, loaded_from}
+use Rattle.loaded_files.specs.Reads as reads
+use Rattle.loaded_files.specs.declared.LoadRefusal.{LoadRefusal}
+use Rattle.loaded_files.specs.declared.Loaded.{Loaded}
 use Rattle.outside_files.specs.Counts.{Rose}
 use Rattle.outside_files.specs.Files.{Contents}
 use Rattle.refusals.proofs.Joined.{one_load}
@@ -56,20 +56,20 @@ module _ (options : Options) (env : Variables) (cwd : List ℕ) where
 
   module _ (files : Contents) where
     -- what was loaded means its project
-    loaded_means : (loaded : Loaded) → Ran (Some files) load (Ok loaded) → project_for options env cwd files ≡ project_loaded loaded
+    loaded_means : (loaded : Loaded) → Ran (Some files) load (Ok loaded) → project_for options env cwd files ≡ project_loaded options loaded
     loaded_means loaded h = at (ran_told files load (Ok loaded) h)
       where
-        at : (Ok loaded ≡ loaded_from files load) ⊎ ((path : List ℕ) × (Ok loaded ≡ Err (LoadRefusal.ReadFault path))) → project_for options env cwd files ≡ project_loaded loaded
-        at (inl e) = ap (λ (r : Result Loaded LoadRefusal). loaded_or_refused r >>= project_loaded) (sym e)
+        at : (Ok loaded ≡ loaded_from files load) ⊎ ((path : List ℕ) × (Ok loaded ≡ Err (LoadRefusal.ReadFault path))) → project_for options env cwd files ≡ project_loaded options loaded
+        at (inl e) = ap (λ (r : Result Loaded LoadRefusal). loaded_or_refused r >>= project_loaded options) (sym e)
         at (inr failed) = absurd (cc (failed.1))
 
     as_asked : (meant project : Result Project Refusal) → Gives wants_memory project meant → MeansAs meant (asked_with options project)
     as_asked meant (Ok project) h = h
     as_asked meant (Err refusal) h = unless_free refusal (meant ≡ Err refusal) (meant ≡ Err refusal) h (λ e. e)
 
-    means_project : (loaded : Loaded) (project : Result Project Refusal) → reads.Gives (Some files) (Ok loaded) load → Gives wants_memory project (project_loaded loaded) → MeansFor options env cwd files (asked_with options project)
+    means_project : (loaded : Loaded) (project : Result Project Refusal) → reads.Gives (Some files) (Ok loaded) load → Gives wants_memory project (project_loaded options loaded) → MeansFor options env cwd files (asked_with options project)
     means_project loaded project h k =
-        subst (λ (meant : Result Project Refusal). MeansAs meant (asked_with options project)) (sym (loaded_means loaded (ran_loaded (Some files) load loaded h))) (as_asked (project_loaded loaded) project k)
+        subst (λ (meant : Result Project Refusal). MeansAs meant (asked_with options project)) (sym (loaded_means loaded (ran_loaded (Some files) load loaded h))) (as_asked (project_loaded options loaded) project k)
 
     -- a refusal of loading means what a call is refused with
     refused_means : (refusal : LoadRefusal) → (refusal ≡ LoadRefusal.Memory → ⊥) → ((path : List ℕ) → refusal ≡ LoadRefusal.ReadFault path → ⊥) → reads.Gives (Some files) (unloaded refusal) load
@@ -78,7 +78,7 @@ module _ (options : Options) (env : Variables) (cwd : List ℕ) where
         at (ran_told files load (unloaded refusal) (h (λ e. let same : refusal ≡ LoadRefusal.Memory = cc e in wanted same)))
       where
         at : (unloaded refusal ≡ loaded_from files load) ⊎ ((path : List ℕ) × (unloaded refusal ≡ unloaded (LoadRefusal.ReadFault path))) → project_for options env cwd files ≡ Err (load_refusal refusal)
-        at (inl e) = ap (λ (r : Result Loaded LoadRefusal). loaded_or_refused r >>= project_loaded) (sym e)
+        at (inl e) = ap (λ (r : Result Loaded LoadRefusal). loaded_or_refused r >>= project_loaded options) (sym e)
         at (inr found) = let same : refusal ≡ LoadRefusal.ReadFault found.0 = cc found.1 in absurd (failed found.0 same)
 
     means_refusal : (refusal : LoadRefusal) → reads.Gives (Some files) (unloaded refusal) load → MeansFor options env cwd files (Err (load_refusal refusal))
@@ -92,11 +92,15 @@ module _ (options : Options) (env : Variables) (cwd : List ℕ) where
     means_refusal (LoadRefusal.Subst path cause) h = refused_means (LoadRefusal.Subst path cause) (λ e. cc e) (λ path e. cc e) h
     means_refusal (LoadRefusal.Merge path cause) h = refused_means (LoadRefusal.Merge path cause) (λ e. cc e) (λ path e. cc e) h
     means_refusal (LoadRefusal.BadShape at) h = refused_means (LoadRefusal.BadShape at) (λ e. cc e) (λ path e. cc e) h
+    means_refusal (LoadRefusal.ExtendsCycle services) h = refused_means (LoadRefusal.ExtendsCycle services) (λ e. cc e) (λ path e. cc e) h
+    means_refusal (LoadRefusal.NoSuchBase file service) h = refused_means (LoadRefusal.NoSuchBase file service) (λ e. cc e) (λ path e. cc e) h
+    means_refusal (LoadRefusal.IncludeCycle paths) h = refused_means (LoadRefusal.IncludeCycle paths) (λ e. cc e) (λ path e. cc e) h
+    means_refusal (LoadRefusal.Conflict kind key file) h = refused_means (LoadRefusal.Conflict kind key file) (λ e. cc e) (λ path e. cc e) h
     means_refusal LoadRefusal.Memory h = tt
 
   module _ (told : Option Contents) where
     -- the same where files tell what they hold
-    pub loads_project : (loaded : Loaded) (project : Result Project Refusal) → reads.Gives told (Ok loaded) load → Gives wants_memory project (project_loaded loaded)
+    pub loads_project : (loaded : Loaded) (project : Result Project Refusal) → reads.Gives told (Ok loaded) load → Gives wants_memory project (project_loaded options loaded)
         → IfSome told (λ contents. MeansFor options env cwd contents (asked_with options project))
     loads_project loaded project h k = at told h
       where
@@ -112,7 +116,7 @@ module _ (options : Options) (env : Variables) (cwd : List ℕ) where
         at (Some contents) h = means_refusal contents refusal h
 
     -- a project that was loaded is one that some answers of reads give
-    pub is_loaded : (loaded : Loaded) (project : Result Project Refusal) → reads.Gives told (Ok loaded) load → Gives wants_memory project (project_loaded loaded)
+    pub is_loaded : (loaded : Loaded) (project : Result Project Refusal) → reads.Gives told (Ok loaded) load → Gives wants_memory project (project_loaded options loaded)
         → IfOk (asked_with options project) (λ asked. IsLoaded options env cwd told asked.project)
     is_loaded loaded (Err refusal) h k = tt
     is_loaded loaded (Ok project) h k = (loaded, ran_loaded told load loaded h, k)
@@ -137,16 +141,20 @@ load_no_words (LoadRefusal.EnvFile path cause) h = cc h
 load_no_words (LoadRefusal.Subst path cause) h = cc h
 load_no_words (LoadRefusal.Merge path cause) h = cc h
 load_no_words (LoadRefusal.BadShape at) h = cc h
+load_no_words (LoadRefusal.ExtendsCycle services) h = cc h
+load_no_words (LoadRefusal.NoSuchBase file service) h = cc h
+load_no_words (LoadRefusal.IncludeCycle files) h = cc h
+load_no_words (LoadRefusal.Conflict kind key file) h = cc h
 load_no_words LoadRefusal.Memory h = cc h
 
 -- what holds of refusals of a project
 project_no_words : (refusal : Refusal) → IsOfProject refusal → IsTrue (is_of_words refusal) → ⊥
 project_no_words (Refusal.NotBuilt Unbuilt.Words) k h = k
-project_no_words (Refusal.NotBuilt (Unbuilt.Variable name)) k h = cc h
 project_no_words (Refusal.NotBuilt (Unbuilt.Attribute path)) k h = cc h
 project_no_words (Refusal.Words words) k h = k
 project_no_words (Refusal.Load refusal) k h = k
 project_no_words (Refusal.Name name) k h = cc h
+project_no_words (Refusal.Active active) k h = cc h
 project_no_words (Refusal.Project project) k h = cc h
 project_no_words (Refusal.Seen fault) k h = k
 project_no_words (Refusal.Request request outcome) k h = k
@@ -161,6 +169,7 @@ project_before_dial (Refusal.NotBuilt unbuilt) k = tt
 project_before_dial (Refusal.Words words) k = tt
 project_before_dial (Refusal.Load refusal) k = tt
 project_before_dial (Refusal.Name name) k = tt
+project_before_dial (Refusal.Active active) k = tt
 project_before_dial (Refusal.Project project) k = tt
 project_before_dial (Refusal.Seen fault) k = absurd k
 project_before_dial (Refusal.Request request outcome) k = absurd k

@@ -1,23 +1,32 @@
 -- Refusals of words.
-use Rattle.std.proofs.Common.{◌≡◌, ℕ, false, ◌||◌, List, Ok, Err, refl, sym, ap, subst}
+use Rattle.std.proofs.Common.{◌≡◌, ℕ, Bool, true, false, ◌||◌, List, Ok, Err, refl, sym, ap, subst}
 use Rattle.std.specs.Prelude.{Result, IsTrue}
 use Rattle.asked_project.specs.Asking.{Variables, built_or_not, options_asked, read_or_refused}
 use Rattle.compose_words.specs.Reading.{IsUnlessMemory, options_of}
 use Rattle.compose_words.specs.declared.Options.{Options}
 use Rattle.compose_words.specs.declared.WordsRefusal.{WordsRefusal}
-use Rattle.include_extends.specs.declared.LoadRefusal.{LoadRefusal}
+use Rattle.loaded_files.specs.declared.LoadRefusal.{LoadRefusal}
 use Rattle.refusals.specs.Origins.{IsBeforeDial, is_of_words, words_refusal}
 use Rattle.refusals.specs.Refused.{wants_memory}
 use Rattle.refusals.specs.declared.Refusal.{Refusal}
-use Rattle.tree_base.specs.Answers.{◌>>=◌, Fails, Gives}
+use Rattle.tree_base.specs.Answers.{◌>>=◌, Fails, Gives, Unless}
+
+-- a call that answers exactly gives the answer
+pub exactly : {X : Type 0} (given answer : Result X Refusal) → given ≡ answer → Gives wants_memory given answer
+exactly (Ok x) answer e = sym e
+exactly {X} (Err refusal) answer e = at (wants_memory refusal)
+  where
+    at : (wants : Bool) → Unless wants (answer ≡ Err refusal)
+    at true = tt
+    at false = sym e
 
 -- words that read well go on to what is built
-pub words_read : (words : List (List ℕ)) (env : Variables) (options : Options) (answer : Result Options Refusal) → options_of words ≡ Ok options → Gives wants_memory answer (built_or_not env options)
+pub words_read : (words : List (List ℕ)) (env : Variables) (options : Options) (answer : Result Options Refusal) → options_of words ≡ Ok options → Gives wants_memory answer (built_or_not options)
     → Gives wants_memory answer (options_asked words env)
-words_read words env options answer e h = subst (λ (read : Result Options WordsRefusal). Gives wants_memory answer (read_or_refused read >>= built_or_not env)) (sym e) h
+words_read words env options answer e h = subst (λ (read : Result Options WordsRefusal). Gives wants_memory answer (read_or_refused read >>= built_or_not)) (sym e) h
 
 abbrev further : Variables → Result Options WordsRefusal → Result Options Refusal
-further env read = read_or_refused read >>= built_or_not env
+further env read = read_or_refused read >>= built_or_not
 
 -- what words are refused with, unless memory was wanted
 pub words_refused : (words : List (List ℕ)) (env : Variables) (refusal : WordsRefusal) (joined : Refusal) → joined ≡ words_refusal refusal → IsUnlessMemory (Err refusal) (options_of words)
@@ -53,6 +62,7 @@ words_before_dial (Refusal.Words words) h = tt
 words_before_dial (Refusal.NotBuilt unbuilt) h = tt
 words_before_dial (Refusal.Load load) h = tt
 words_before_dial (Refusal.Name name) h = tt
+words_before_dial (Refusal.Active active) h = tt
 words_before_dial (Refusal.Project project) h = tt
 words_before_dial (Refusal.Seen fault) h = absurd (cc h)
 words_before_dial (Refusal.Request request outcome) h = absurd (cc h)
@@ -71,6 +81,7 @@ words_no_memory (Refusal.Words words) h = refl
 words_no_memory (Refusal.NotBuilt unbuilt) h = refl
 words_no_memory (Refusal.Load load) h = refl
 words_no_memory (Refusal.Name name) h = refl
+words_no_memory (Refusal.Active active) h = refl
 words_no_memory (Refusal.Project project) h = refl
 words_no_memory (Refusal.Seen fault) h = refl
 words_no_memory (Refusal.Request request outcome) h = refl

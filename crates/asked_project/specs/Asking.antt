@@ -1,6 +1,5 @@
 -- What the words of a call ask for, of what is built so far.
-use Rattle.std.specs.Prelude.{ℕ, ◌==◌, Bool, false, not, ◌&&◌, if◌then◌else◌, List, Option, Some, None, Result, Ok, Err, codes, is_none, is_some, length}
-use Rattle.std.specs.Option.{option_map_or}
+use Rattle.std.specs.Prelude.{ℕ, ◌==◌, Bool, false, not, ◌&&◌, if◌then◌else◌, List, Option, Some, None, Result, Ok, Err, is_none, length}
 use Rattle.compose_words.specs.Reading.{options_of}
 use Rattle.compose_words.specs.declared.Command.{Command}
 use Rattle.compose_words.specs.declared.Options.{Options}
@@ -9,7 +8,6 @@ use Rattle.refusals.specs.Origins.{words_refusal}
 use Rattle.refusals.specs.declared.Refusal.{Refusal}
 use Rattle.refusals.specs.declared.Unbuilt.{Unbuilt}
 use Rattle.tree_base.specs.Answers.{◌>>=◌}
-use Rattle.tree_base.specs.Entries.{value_at}
 
 -- variables by their names
 abbrev pub Variables : Type 0
@@ -19,23 +17,9 @@ Variables = List (List ℕ × List ℕ)
 abbrev pub is_empty : {X : Type 0} → List X → Bool
 is_empty xs = length xs == 0
 
--- a variable has a value that isn't empty
-abbrev pub is_nonempty_in : Variables → List ℕ → Bool
-is_nonempty_in env name = option_map_or (λ value. not (is_empty value)) (value_at env name) false
-
--- the first variable that isn't built, of those that docker compose reads for itself: a project's name, where it
--- isn't empty, and then profiles
-abbrev pub unbuilt_variable : Variables → Option (List ℕ)
-unbuilt_variable env =
-    if is_nonempty_in env (codes "COMPOSE_PROJECT_NAME") then Some (codes "COMPOSE_PROJECT_NAME")
-    else (if is_some (value_at env (codes "COMPOSE_PROFILES"))
-    then Some (codes "COMPOSE_PROFILES") else None)
-
--- no option is given that isn't built for any command: names, profiles, sockets and stop files
+-- no option is given that isn't built for any command: sockets and stop files
 abbrev pub has_only_built : Options → Bool
-has_only_built options =
-    is_none options.project && (is_empty options.profiles
-    && (is_none options.socket && is_none options.stop_file))
+has_only_built options = is_none options.socket && is_none options.stop_file
 
 -- a command that is built, with its own options, on an Engine in memory or not
 abbrev pub is_built_command : Bool → Command → Bool
@@ -53,24 +37,24 @@ is_built_command memory (Command.EngineSim connections) = false
 abbrev pub has_built_command : Options → Bool
 has_built_command options = is_built_command options.in_memory options.command
 
--- all is built that options and variables ask for
-abbrev pub are_built : Variables → Options → Bool
-are_built env options =
-    has_only_built options && (has_built_command options && is_none (unbuilt_variable env))
+-- all is built that options ask for
+abbrev pub are_built : Options → Bool
+are_built options = has_only_built options && has_built_command options
 
 -- options, unless something of them isn't built
-abbrev pub built_or_not : Variables → Options → Result Options Refusal
-built_or_not env options =
-    if are_built env options then Ok options else Err (Refusal.NotBuilt Unbuilt.Words)
+abbrev pub built_or_not : Options → Result Options Refusal
+built_or_not options =
+    if are_built options then Ok options else Err (Refusal.NotBuilt Unbuilt.Words)
 
 -- the options of words, or what a call is refused with where these are none
 abbrev pub read_or_refused : Result Options WordsRefusal → Result Options Refusal
 read_or_refused (Ok options) = Ok options
 read_or_refused (Err refusal) = Err (words_refusal refusal)
 
--- the command with its options that words ask for: first the words are read, and then it is asked what is built
+-- the command with its options that words ask for, under the caller's variables: first the words are read, and then
+-- it is asked what is built; no variable has a say in either
 abbrev pub options_asked : List (List ℕ) → Variables → Result Options Refusal
-options_asked words env = read_or_refused (options_of words) >>= built_or_not env
+options_asked words env = read_or_refused (options_of words) >>= built_or_not
 
 -- the command of options, where there are such
 abbrev pub command_in : Result Options Refusal → Option Command

@@ -1,22 +1,21 @@
 -- What a call's words, variables, working directory and files mean: a project, or the first refusal.
-use Rattle.std.specs.Prelude.{◌≡◌, ℕ, List, Option, Some, None, Result, Ok, Err}
-use Rattle.asked_project.specs.Asking.{Variables, options_asked, unbuilt_variable}
+use Rattle.std.specs.Prelude.{◌≡◌, ℕ, List, Option, Result, Ok, Err}
+use Rattle.active_services.specs.Profiles.{profiles_given}
+use Rattle.asked_project.specs.Asking.{Variables, options_asked}
 use Rattle.asked_project.specs.declared.asking.Asked.{Asked}
 use Rattle.compose_words.specs.declared.Options.{Options}
 use Rattle.include_extends.specs.Loading.{loading}
-use Rattle.include_extends.specs.Reads.{Load, Ran, loaded_from}
-use Rattle.include_extends.specs.declared.LoadRefusal.{LoadRefusal}
+use Rattle.loaded_files.specs.Reads.{Load, Ran, loaded_from}
+use Rattle.loaded_files.specs.declared.LoadRefusal.{LoadRefusal}
 use Rattle.include_extends.specs.declared.LoadRequest.{LoadRequest}
-use Rattle.include_extends.specs.declared.Loaded.{Loaded}
+use Rattle.loaded_files.specs.declared.Loaded.{Loaded}
 use Rattle.outside_files.specs.Counts.{Rose}
 use Rattle.outside_files.specs.Files.{Contents}
-use Rattle.normal_form.specs.ProjectNames.{base_name}
 use Rattle.normal_form.specs.Projects.{project_of}
 use Rattle.loading_words.specs.declared.TreeRefusal.{TreeRefusal}
 use Rattle.refusals.specs.Origins.{load_refusal, project_refusal}
 use Rattle.refusals.specs.Refused.{is_free}
 use Rattle.refusals.specs.declared.Refusal.{Refusal}
-use Rattle.refusals.specs.declared.Unbuilt.{Unbuilt}
 use Rattle.service_attrs.specs.declared.Project.{Project}
 use Rattle.tree_base.specs.Answers.{◌>>=◌, Unless}
 
@@ -30,16 +29,12 @@ abbrev pub project_or_refused : Result Project TreeRefusal → Result Project Re
 project_or_refused (Ok project) = Ok project
 project_or_refused (Err refusal) = Err (project_refusal refusal)
 
--- what is given, unless a variable isn't built
-abbrev pub unless_variable : {X : Type 0} → Option (List ℕ) → Result X Refusal → Result X Refusal
-unless_variable None given = given
-unless_variable (Some name) given = Err (Refusal.NotBuilt (Unbuilt.Variable name))
-
--- the project of what was loaded: first the variables of env files are asked, and then the tree in its directory
-abbrev pub project_loaded : Loaded → Result Project Refusal
-project_loaded loaded =
-    unless_variable (unbuilt_variable loaded.env)
-    (project_or_refused (project_of (base_name loaded.directory) loaded.tree))
+-- the project of what was loaded for options: by the name of `-p`, and by the profiles of `--profile` and of the
+-- variables, those of env files among them
+abbrev pub project_loaded : Options → Loaded → Result Project Refusal
+project_loaded options loaded =
+    project_or_refused
+    (project_of options.project (profiles_given options.profiles loaded.env) loaded)
 
 -- what options, variables and a working directory ask to be loaded
 abbrev pub request_for : Options → Variables → List ℕ → LoadRequest
@@ -59,7 +54,7 @@ load_for options env cwd = loading (request_for options env cwd)
 -- the project that options, variables, a working directory and files give, or the first refusal
 abbrev pub project_for : Options → Variables → List ℕ → Contents → Result Project Refusal
 project_for options env cwd files =
-    loaded_or_refused (loaded_from files (load_for options env cwd)) >>= project_loaded
+    loaded_or_refused (loaded_from files (load_for options env cwd)) >>= project_loaded options
 
 -- the project that words, variables, a working directory and files give, or the first refusal: that of the words,
 -- then of loading, then of what was loaded
@@ -77,7 +72,7 @@ MeansAs meant (Err refusal) = Unless (is_free refusal) (meant ≡ Err refusal)
 abbrev pub IsLoaded : Options → Variables → List ℕ → Option Contents → Project → Type 0
 IsLoaded options env cwd told project =
     (loaded : Loaded) × Ran told (load_for options env cwd) (Ok loaded)
-    × (project_loaded loaded ≡ Ok project)
+    × (project_loaded options loaded ≡ Ok project)
 
 -- the same for the options that words ask for
 abbrev pub IsSpelled : List (List ℕ) → Variables → List ℕ → Option Contents → Project → Type 0

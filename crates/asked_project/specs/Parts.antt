@@ -18,12 +18,12 @@ abbrev pub asked_with : Options → Result Project Refusal → Result Asked Refu
 asked_with options (Ok project) = Ok (record { options = options; project = project })
 asked_with options (Err refusal) = Err refusal
 
--- a refusal of what was loaded: of what isn't built of it, of the project's name, of what it declares, or a want of
--- memory
+-- a refusal of what was loaded: of what isn't built of it, of the project's name, of its active services, of what it
+-- declares, or a want of memory
 abbrev pub IsOfProject : Refusal → Type 0
-IsOfProject (Refusal.NotBuilt (Unbuilt.Variable name)) = Unit {0}
 IsOfProject (Refusal.NotBuilt (Unbuilt.Attribute path)) = Unit {0}
 IsOfProject (Refusal.Name refusal) = Unit {0}
+IsOfProject (Refusal.Active refusal) = Unit {0}
 IsOfProject (Refusal.Project refusal) = Unit {0}
 IsOfProject Refusal.Memory = Unit {0}
 IsOfProject _ = ⊥

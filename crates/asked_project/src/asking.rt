@@ -2,8 +2,8 @@ ghost use Rattle.std.specs.Prelude.{◌≡◌, ◌<◌, ◌^◌, Err, Ok, IfErr,
 ghost use Rattle.asked_project.specs.Asking.{options_asked};
 ghost use Rattle.asked_project.specs.Meaning.{IsFailedLoad, IsFailedRead, IsLoaded, IsSpelled, MeansAs, load_for, meaning, request_for};
 ghost use Rattle.asked_project.specs.Parts.{MeansFor, asked_with};
-ghost use Rattle.include_extends.specs.Reads as loads;
-ghost use Rattle.include_extends.specs.declared.LoadRefusal.{LoadRefusal};
+ghost use Rattle.loaded_files.specs.Reads as loads;
+ghost use Rattle.loaded_files.specs.declared.LoadRefusal.{LoadRefusal};
 ghost use Rattle.outside_files.specs.Counts.{Rose};
 ghost use Rattle.refusals.specs.Origins.{IsBeforeDial, is_of_words};
 ghost use Rattle.refusals.specs.Refused.{wants_memory};
@@ -29,9 +29,9 @@ pub struct Asked {
 }
 
 /// The command with its options that words ask for, and the project that the variables, the working directory `cwd`
-/// and the files give. The refusals, in their order: `Words` where the words are none; `NotBuilt(Words)` where they,
-/// or the variables, ask for what isn't built yet; those of loading; `NotBuilt(Variable)` for a variable of an env
-/// file; and those of the project.
+/// and the files give. The refusals, in their order: `Words` where the words are none; `NotBuilt(Words)` where they
+/// ask for what isn't built yet; those of loading; and those of the project: of its name, of its active services, and
+/// of what these declare.
 pub fn project_asked<F: Files>(
     alloc: Global,
     words: &List<Text>,
@@ -62,7 +62,7 @@ pub fn project_asked<F: Files>(
     ensures kind { IfErr result IsBeforeDial }
     ensures kept { F.told files.new ≡ F.told files.old }
 {
-    match options_asked(alloc, words, env) {
+    match options_asked(alloc, words) {
         Ok(options) => project_for(alloc, options, env, cwd, files),
         Err(refusal) => Err(refusal),
     }
@@ -91,7 +91,7 @@ fn project_for<F: Files>(
 {
     match load_for(alloc, &options, env, cwd, files) {
         Ok(loaded) => {
-            let project = project_loaded(alloc, &loaded);
+            let project = project_loaded(alloc, &options, &loaded);
             // By calls, here and below: else the drop of each text would be proved at this place.
             drop(loaded);
             asked_with(options, project)

@@ -5,6 +5,7 @@
 //! answered. An input that isn't of its form is a fault of the case.
 #![tactic(auto)]
 
+mod active;
 mod calls;
 mod env_files;
 mod forms;

@@ -5,7 +5,7 @@ use case_files::{Answers, Fields, Reading};
 use cases_ground::Entries;
 use include_extends::{LoadRefusal, LoadRequest, Loaded};
 use loading_words::{TreeRefusal, load_status, load_words, refusal_status, refusal_words};
-use normal_form::project_in;
+use normal_form::project_of;
 use outside_files::MemoryFiles;
 use project_print::{page, page_json};
 use service_attrs::{Project, Service};
@@ -57,7 +57,8 @@ fn put_loaded(loaded: Result<Loaded, LoadRefusal>, answers: &mut Answers) {
 }
 
 fn put_project_in(loaded: &Loaded, answers: &mut Answers) {
-    let project = project_in(answers.reading.alloc, &loaded.directory, &loaded.tree);
+    let alloc = answers.reading.alloc;
+    let project = project_of(alloc, None, &List::new(alloc), loaded);
     put_found(&project, answers);
     drop(project);
 }

@@ -2,7 +2,8 @@ use crate::ending::put_refusal_line;
 use case_files::{Answers, Fields, Reading};
 use cases_values::run_fault_of;
 use refusals::{
-    LoadRefusal, Part, ProjectRefusal, Refusal, Unbuilt, WordsRefusal, refusal_of, status_of,
+    ActiveRefusal, LoadRefusal, Part, ProjectRefusal, Refusal, Unbuilt, WordsRefusal, refusal_of,
+    status_of,
 };
 use tree_base::{List, Path, Place, Step, Text, Tree};
 use yaml_lines::{YamlFault, YamlRefusal};
@@ -10,8 +11,8 @@ use yaml_lines::{YamlFault, YamlRefusal};
 /// What a refusal prints, `line`, and its exit `status`; `none: true` is no refusal. It is that of a run's fault, by the
 /// keys of `run_fault_of`, or another one: `words` with the name of their refusal, and its place `at` where it has one;
 /// `not_built: words`, or `not_built` with the steps of a path, `[12]` for a place; `load` with the fault's name and a
-/// `path`, and `line` and `column` where it is one of a text; `name`, a project's name that is none; `services`, how many
-/// there are too many; `outside: Plug` or `Out`.
+/// `path`, and `line` and `column` where it is one of a text; `name`, a project's name that is none; `disabled`, a
+/// dependency of a `service` that isn't enabled; `services`, how many there are too many; `outside: Plug` or `Out`.
 pub(crate) fn refusal(fields: &Fields, answers: &mut Answers) {
     if let Some(fields) = answers.reading.fields_at(fields, "refusal") {
         let refusal = refusal_where(&mut answers.reading, &fields);
@@ -54,6 +55,11 @@ fn other_refusal(reading: &mut Reading, fields: &Fields) -> Refusal {
     } else if fields.has("name") {
         Refusal::Name(ProjectRefusal::BadName {
             name: reading.text_at(fields, "name"),
+        })
+    } else if fields.has("disabled") {
+        Refusal::Active(ActiveRefusal::DependencyDisabled {
+            service: reading.text_at(fields, "service"),
+            dependency: reading.text_at(fields, "disabled"),
         })
     } else if fields.has("services") {
         Refusal::Project(ProjectRefusal::TooManyServices {

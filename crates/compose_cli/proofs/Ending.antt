@@ -9,7 +9,7 @@ use Rattle.compose_cli.specs.declared.ended.Ended.{Ended}
 use Rattle.compose_config.proofs.Loads.{answered, loads_weaker, not_loaded, said_refusal}
 use Rattle.compose_config.specs.Commands.{IfLoads, IsConfig, IsReadFault}
 use Rattle.compose_words.specs.declared.Command.{Command}
-use Rattle.include_extends.specs.declared.LoadRefusal.{LoadRefusal}
+use Rattle.loaded_files.specs.declared.LoadRefusal.{LoadRefusal}
 use Rattle.outside_files.specs.Files.{Contents}
 use Rattle.refusals.proofs.Said.{said}
 use Rattle.refusals.specs.Origins.{IsBeforeDial, IsOfLoading, is_of_words}
@@ -63,6 +63,7 @@ before_unbegun refusal found before is_said = said refusal found is_said IsUnbeg
     at (Refusal.NotBuilt unbuilt) h = tt
     at (Refusal.Load load) h = tt
     at (Refusal.Name name) h = tt
+    at (Refusal.Active active) h = tt
     at (Refusal.Project project) h = tt
     at (Refusal.Seen fault) h = absurd h
     at (Refusal.Request request outcome) h = absurd h
@@ -91,6 +92,7 @@ no_words refusal words none h e = none (subst IsOfLoading (sym e) (at words h))
     at (Refusal.NotBuilt unbuilt) h = tt
     at (Refusal.Load load) h = tt
     at (Refusal.Name name) h = tt
+    at (Refusal.Active active) h = tt
     at (Refusal.Project project) h = tt
     at (Refusal.Seen fault) h = absurd (cc h)
     at (Refusal.Request request outcome) h = absurd (cc h)

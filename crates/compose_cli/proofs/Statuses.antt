@@ -4,12 +4,13 @@ use Rattle.std.specs.Prelude.{Option}
 use Rattle.engine_types.specs.declared.Outcome.{Outcome}
 use Rattle.engine_types.specs.declared.SeenFault.{SeenFault}
 use Rattle.engine_types.specs.declared.WireEnd.{WireEnd}
+use Rattle.active_services.specs.declared.ActiveRefusal.{ActiveRefusal}
 use Rattle.compose_words.specs.declared.WordsRefusal.{WordsRefusal}
 use Rattle.dotenv.specs.declared.refusal.EnvRefusal.{EnvRefusal}
-use Rattle.include_extends.specs.declared.LoadRefusal.{LoadRefusal}
+use Rattle.loaded_files.specs.declared.LoadRefusal.{LoadRefusal}
 use Rattle.interpolate.specs.declared.refusal.SubstTreeRefusal.{SubstTreeRefusal}
 use Rattle.merge_rules.specs.declared.refusal.MergeRefusal.{MergeRefusal}
-use Rattle.loading_words.specs.Statuses.{env_status, merge_status, project_status, tree_status, yaml_status}
+use Rattle.loading_words.specs.Statuses.{active_status, env_status, merge_status, project_status, tree_status, yaml_status}
 use Rattle.refusals.specs.Statuses.{refusal_status, status_of, words_status}
 use Rattle.loading_words.specs.declared.ProjectRefusal.{ProjectRefusal}
 use Rattle.refusals.specs.declared.Refusal.{Refusal}
@@ -68,6 +69,10 @@ merge_not_zero MergeRefusal.TooManyNodes e = absurd (cc e)
 merge_not_zero MergeRefusal.TooMuchText e = absurd (cc e)
 merge_not_zero MergeRefusal.Memory e = absurd (cc e)
 
+active_not_zero : (refusal : ActiveRefusal) → active_status refusal ≡ 0 → ⊥
+active_not_zero (ActiveRefusal.DependencyDisabled service dependency) e = absurd (cc e)
+active_not_zero ActiveRefusal.Memory e = absurd (cc e)
+
 project_not_zero : (refusal : ProjectRefusal) → project_status refusal ≡ 0 → ⊥
 project_not_zero (ProjectRefusal.BadShape path) e = absurd (cc e)
 project_not_zero (ProjectRefusal.BadName name) e = absurd (cc e)
@@ -86,7 +91,6 @@ words_not_zero WordsRefusal.Memory e = absurd (cc e)
 refusal_not_zero : (refusal : Refusal) → refusal_status refusal ≡ 0 → ⊥
 refusal_not_zero (Refusal.Words refusal) e = words_not_zero refusal e
 refusal_not_zero (Refusal.NotBuilt Unbuilt.Words) e = absurd (cc e)
-refusal_not_zero (Refusal.NotBuilt (Unbuilt.Variable name)) e = absurd (cc e)
 refusal_not_zero (Refusal.NotBuilt (Unbuilt.Attribute path)) e = absurd (cc e)
 refusal_not_zero (Refusal.Load (LoadRefusal.NotFound path)) e = absurd (cc e)
 refusal_not_zero (Refusal.Load (LoadRefusal.ReadFault path)) e = absurd (cc e)
@@ -98,8 +102,13 @@ refusal_not_zero (Refusal.Load (LoadRefusal.EnvFile path cause)) e = env_not_zer
 refusal_not_zero (Refusal.Load (LoadRefusal.Subst path cause)) e = tree_not_zero cause e
 refusal_not_zero (Refusal.Load (LoadRefusal.Merge path cause)) e = merge_not_zero cause e
 refusal_not_zero (Refusal.Load (LoadRefusal.BadShape at)) e = absurd (cc e)
+refusal_not_zero (Refusal.Load (LoadRefusal.ExtendsCycle services)) e = absurd (cc e)
+refusal_not_zero (Refusal.Load (LoadRefusal.NoSuchBase file service)) e = absurd (cc e)
+refusal_not_zero (Refusal.Load (LoadRefusal.IncludeCycle files)) e = absurd (cc e)
+refusal_not_zero (Refusal.Load (LoadRefusal.Conflict kind key file)) e = absurd (cc e)
 refusal_not_zero (Refusal.Load LoadRefusal.Memory) e = absurd (cc e)
 refusal_not_zero (Refusal.Name refusal) e = project_not_zero refusal e
+refusal_not_zero (Refusal.Active refusal) e = active_not_zero refusal e
 refusal_not_zero (Refusal.Project refusal) e = project_not_zero refusal e
 refusal_not_zero (Refusal.Seen fault) e = seen_not_zero fault e
 refusal_not_zero (Refusal.Request request outcome) e = outcome_not_zero outcome e

@@ -97,6 +97,7 @@ IsUnbegun (Some (Refusal.Words refusal)) = Unit {0}
 IsUnbegun (Some (Refusal.NotBuilt unbuilt)) = Unit {0}
 IsUnbegun (Some (Refusal.Load refusal)) = Unit {0}
 IsUnbegun (Some (Refusal.Name refusal)) = Unit {0}
+IsUnbegun (Some (Refusal.Active refusal)) = Unit {0}
 IsUnbegun (Some (Refusal.Project refusal)) = Unit {0}
 IsUnbegun (Some (Refusal.Outside Part.Plug)) = Unit {0}
 IsUnbegun (Some Refusal.Memory) = Unit {0}

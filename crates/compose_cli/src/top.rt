@@ -5,7 +5,7 @@ ghost use Rattle.asked_project.specs.Meaning.{IsFailedRead, meaning};
 ghost use Rattle.compose_cli.specs.Ends.{CountsHands, IsRefusedWith, SendsNothing};
 ghost use Rattle.compose_cli.specs.Runs.{ForTask, HoldsExactly, HoldsNone, IfRuns, IsCausedAnew, IsRefusalOf, IsStatusOf, IsUnbegun, LeadsOn, MovesEngine, Reports, RunsTask, aim_asked, aim_for, first_reading, task_for};
 ghost use Rattle.compose_config.specs.Commands.{ForProject, GrewByPrefix, IfLoads, IsConfig, IsOfConfig, IsReadFault, OnlyOutsideFails, page_asked};
-ghost use Rattle.include_extends.specs.declared.LoadRefusal.{LoadRefusal};
+ghost use Rattle.loaded_files.specs.declared.LoadRefusal.{LoadRefusal};
 ghost use Rattle.outside_api.specs.Accounts.{account};
 ghost use Rattle.outside_files.specs.Counts.{Rose};
 ghost use Rattle.outside_files.specs.Sinks.{GrewBy};
@@ -43,8 +43,9 @@ use tree_base::{Env, List, Text};
 /// and `down` with `--memory`, also with `--remove-orphans`, which bring the project of the Compose files up, or take
 /// it down, on an Engine in memory. The files are those of `-f`, merged in their order, or else the default one of the
 /// project directory; their scalars take the values of the variables `env`, and of those of the files of `--env-file`,
-/// or else of `.env`. The report of a run is written to `out`, one line for each action that ended well, and the line of
-/// a refusal to `err`.
+/// or else of `.env`. Services may extend others and name env files, files may include models, `-p` or
+/// `COMPOSE_PROJECT_NAME` may name the project, and `--profile` or `COMPOSE_PROFILES` enable services. The report of a
+/// run is written to `out`, one line for each action that ended well, and the line of a refusal to `err`.
 pub fn serial_main<F: Files, P: Plug, O: Sink, G: Sink>(
     alloc: Global,
     words: &List<Text>,

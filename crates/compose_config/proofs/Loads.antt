@@ -6,7 +6,7 @@ use Rattle.asked_project.specs.Meaning.{IsFailedRead, IsSpelled, MeansAs, meanin
 use Rattle.asked_project.specs.declared.Asked.{Asked}
 use Rattle.compose_config.specs.Commands.{ForProject, IfLoads, IsOfConfig, IsReadFault, OnlyOutsideFails}
 use Rattle.compose_words.specs.declared.Options.{Options}
-use Rattle.include_extends.specs.declared.LoadRefusal.{LoadRefusal}
+use Rattle.loaded_files.specs.declared.LoadRefusal.{LoadRefusal}
 use Rattle.outside_files.specs.Files.{Contents}
 use Rattle.refusals.proofs.Said.{said}
 use Rattle.refusals.specs.Origins.{IsBeforeDial, is_of_words}
@@ -60,6 +60,7 @@ memory_said (Refusal.Words words) expected found wants s = absurd (cc wants)
 memory_said (Refusal.NotBuilt unbuilt) expected found wants s = absurd (cc wants)
 memory_said (Refusal.Load load) expected found wants s = absurd (cc wants)
 memory_said (Refusal.Name name) expected found wants s = absurd (cc wants)
+memory_said (Refusal.Active active) expected found wants s = absurd (cc wants)
 memory_said (Refusal.Project project) expected found wants s = absurd (cc wants)
 memory_said (Refusal.Seen fault) expected found wants s = absurd (cc wants)
 memory_said (Refusal.Request request outcome) expected found wants s = absurd (cc wants)
@@ -159,10 +160,15 @@ module _ (words : List (List ℕ)) (env : Variables) where
         free (Refusal.Load (LoadRefusal.Subst path cause)) e read = absurd (cc e)
         free (Refusal.Load (LoadRefusal.Merge path cause)) e read = absurd (cc e)
         free (Refusal.Load (LoadRefusal.BadShape at)) e read = absurd (cc e)
+        free (Refusal.Load (LoadRefusal.ExtendsCycle services)) e read = absurd (cc e)
+        free (Refusal.Load (LoadRefusal.NoSuchBase file service)) e read = absurd (cc e)
+        free (Refusal.Load (LoadRefusal.IncludeCycle files)) e read = absurd (cc e)
+        free (Refusal.Load (LoadRefusal.Conflict kind key file)) e read = absurd (cc e)
         free (Refusal.Load LoadRefusal.Memory) e read = absurd (cc e)
         free (Refusal.Words words) e read = absurd (cc e)
         free (Refusal.NotBuilt unbuilt) e read = absurd (cc e)
         free (Refusal.Name name) e read = absurd (cc e)
+        free (Refusal.Active active) e read = absurd (cc e)
         free (Refusal.Project project) e read = absurd (cc e)
         free (Refusal.Seen fault) e read = absurd (cc e)
         free (Refusal.Request request outcome) e read = absurd (cc e)
@@ -196,6 +202,7 @@ before_kind refusal found before is_said = said refusal found is_said IsOfConfig
     at (Refusal.NotBuilt unbuilt) h = tt
     at (Refusal.Load load) h = tt
     at (Refusal.Name name) h = tt
+    at (Refusal.Active active) h = tt
     at (Refusal.Project project) h = tt
     at (Refusal.Seen fault) h = absurd h
     at (Refusal.Request request outcome) h = absurd h

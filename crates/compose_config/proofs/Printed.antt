@@ -6,7 +6,7 @@ use Rattle.compose_config.specs.Commands.{GrewByPrefix, IsOfConfig, OnlyOutsideF
 use Rattle.compose_words.specs.declared.Command.{Command}
 use Rattle.outside_files.specs.Counts.{Rose}
 use Rattle.outside_files.specs.Sinks.{GrewBy}
-use Rattle.include_extends.specs.declared.LoadRefusal.{LoadRefusal}
+use Rattle.loaded_files.specs.declared.LoadRefusal.{LoadRefusal}
 use Rattle.refusals.proofs.Said.{said_if_any}
 use Rattle.refusals.specs.Origins.{IsOfLoading, is_of_words}
 use Rattle.refusals.specs.Saying.{IsSaidIfAny}
@@ -36,6 +36,7 @@ module _ (page : List ℕ) (old new : Option (List ℕ)) (faults_old faults_new 
   page_prefix (Some (Refusal.NotBuilt unbuilt)) prints = absurd prints
   page_prefix (Some (Refusal.Load load)) prints = absurd prints
   page_prefix (Some (Refusal.Name name)) prints = absurd prints
+  page_prefix (Some (Refusal.Active active)) prints = absurd prints
   page_prefix (Some (Refusal.Project refusal)) prints = absurd prints
   page_prefix (Some (Refusal.Seen fault)) prints = absurd prints
   page_prefix (Some (Refusal.Request request outcome)) prints = absurd prints
@@ -66,6 +67,7 @@ module _ (page : List ℕ) (old new : Option (List ℕ)) (faults_old faults_new 
   of_page (Some (Refusal.NotBuilt unbuilt)) prints = absurd prints
   of_page (Some (Refusal.Load load)) prints = absurd prints
   of_page (Some (Refusal.Name name)) prints = absurd prints
+  of_page (Some (Refusal.Active active)) prints = absurd prints
   of_page (Some (Refusal.Project refusal)) prints = absurd prints
   of_page (Some (Refusal.Seen fault)) prints = absurd prints
   of_page (Some (Refusal.Request request outcome)) prints = absurd prints
@@ -86,6 +88,7 @@ module _ (page : List ℕ) (old new : Option (List ℕ)) (faults_old faults_new 
       at (Some (Refusal.NotBuilt unbuilt)) h = absurd h
       at (Some (Refusal.Load load)) h = absurd h
       at (Some (Refusal.Name name)) h = absurd h
+      at (Some (Refusal.Active active)) h = absurd h
       at (Some (Refusal.Project refusal)) h = absurd h
       at (Some (Refusal.Seen fault)) h = absurd h
       at (Some (Refusal.Request request outcome)) h = absurd h
@@ -105,6 +108,7 @@ module _ (page : List ℕ) (old new : Option (List ℕ)) (faults_old faults_new 
       at (Some (Refusal.NotBuilt unbuilt)) h = tt
       at (Some (Refusal.Load load)) h = tt
       at (Some (Refusal.Name name)) h = tt
+      at (Some (Refusal.Active active)) h = tt
       at (Some (Refusal.Project refusal)) h = tt
       at (Some (Refusal.Seen fault)) h = absurd h
       at (Some (Refusal.Request request outcome)) h = absurd h
@@ -124,6 +128,7 @@ module _ (page : List ℕ) (old new : Option (List ℕ)) (faults_old faults_new 
       at (Some (Refusal.NotBuilt unbuilt)) h l = h
       at (Some (Refusal.Load load)) h l = h
       at (Some (Refusal.Name name)) h l = h
+      at (Some (Refusal.Active active)) h l = h
       at (Some (Refusal.Project refusal)) h l = h
       at (Some (Refusal.Seen fault)) h l = h
       at (Some (Refusal.Request request outcome)) h l = h
@@ -148,6 +153,7 @@ module _ (page : List ℕ) (old new : Option (List ℕ)) (faults_old faults_new 
       at (Refusal.NotBuilt unbuilt) h p = p
       at (Refusal.Load load) h p = p
       at (Refusal.Name name) h p = p
+      at (Refusal.Active active) h p = p
       at (Refusal.Project refusal) h p = p
       at (Refusal.Seen fault) h p = p
       at (Refusal.Request request outcome) h p = p

@@ -5,7 +5,7 @@ use Rattle.asked_project.specs.Meaning.{IsFailedRead, IsSpelled, meaning}
 use Rattle.compose_words.specs.declared.Command.{Command}
 use Rattle.compose_words.specs.declared.Options.{Options}
 use Rattle.compose_words.specs.declared.WordsRefusal.{WordsRefusal}
-use Rattle.include_extends.specs.declared.LoadRefusal.{LoadRefusal}
+use Rattle.loaded_files.specs.declared.LoadRefusal.{LoadRefusal}
 use Rattle.project_print.specs.ProjectPages.{project_page}
 use Rattle.outside_files.specs.Counts.{Rose}
 use Rattle.outside_files.specs.Files.{Contents}
@@ -52,14 +52,15 @@ abbrev pub IfLoads : List (List ℕ) → Variables → List ℕ → Option Conte
 IfLoads words env cwd told Fact =
     IfSome told (λ contents. IfOk (meaning words env cwd contents) (λ _. Fact))
 
--- what `config` may be refused with: the words, loading, the project's name, what it declares, a fault of the output,
--- or a want of memory
+-- what `config` may be refused with: the words, loading, the project's name, its active services, what it declares, a
+-- fault of the output, or a want of memory
 abbrev pub IsOfConfig : Option Refusal → Type 0
 IsOfConfig None = Unit {0}
 IsOfConfig (Some (Refusal.Words refusal)) = Unit {0}
 IsOfConfig (Some (Refusal.NotBuilt unbuilt)) = Unit {0}
 IsOfConfig (Some (Refusal.Load refusal)) = Unit {0}
 IsOfConfig (Some (Refusal.Name refusal)) = Unit {0}
+IsOfConfig (Some (Refusal.Active refusal)) = Unit {0}
 IsOfConfig (Some (Refusal.Project refusal)) = Unit {0}
 IsOfConfig (Some (Refusal.Outside Part.Out)) = Unit {0}
 IsOfConfig (Some Refusal.Memory) = Unit {0}

@@ -3,7 +3,7 @@ ghost use Rattle.asked_project.specs.Asking.{command_of, options_asked};
 ghost use Rattle.asked_project.specs.Meaning.{IsFailedRead, meaning};
 ghost use Rattle.compose_config.specs.Commands.{ForProject, GrewByPrefix, IfLoads, IsConfigOrRefused, IsOfConfig, IsReadFault, OnlyOutsideFails, PrintsPage, is_quiet, page_asked, page_for};
 ghost use Rattle.compose_words.specs.Reading.{options_of};
-ghost use Rattle.include_extends.specs.declared.LoadRefusal.{LoadRefusal};
+ghost use Rattle.loaded_files.specs.declared.LoadRefusal.{LoadRefusal};
 ghost use Rattle.project_print.specs.ProjectPages.{project_page};
 ghost use Rattle.outside_files.specs.Counts.{Rose};
 ghost use Rattle.outside_files.specs.Sinks.{GrewBy};

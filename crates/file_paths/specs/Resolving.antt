@@ -7,6 +7,7 @@ use Rattle.std.specs.Str.{bytes_eq}
 use Rattle.attribute_paths.specs.Patterns.{below_item, below_key, here}
 use Rattle.file_paths.specs.PathRules.{PathRules, path_rules}
 use Rattle.file_paths.specs.Paths.{Variables, homed}
+use Rattle.file_paths.specs.Spots.{service_rules}
 use Rattle.file_paths.specs.declared.refusal.PathRefusal.{PathRefusal}
 use Rattle.file_paths.specs.declared.spot.PathKind.{PathKind}
 use Rattle.file_paths.specs.declared.spot.PathKind.TheVariants.{Text, Context, Bind}
@@ -106,3 +107,7 @@ resolved_by home = fold-Tree Homed (resolve_step home)
 -- path without a home, in the tree's order, is refused
 unfoldable pub resolved : List ℕ → Variables → Tree → Result Tree PathRefusal
 resolved directory env tree = resolved_by (homed directory env) tree path_rules
+
+-- one service of a file, its paths taken against a directory in the same way
+unfoldable pub resolved_service : List ℕ → Variables → Tree → Result Tree PathRefusal
+resolved_service directory env service = resolved_by (homed directory env) service service_rules

@@ -20,6 +20,6 @@ pub use home::{all_homed, homed};
 pub use laws::taken_paths_stay;
 pub use path::{directory_of, joined};
 pub use refusal::PathRefusal;
-pub use resolve::resolved;
+pub use resolve::{resolved, resolved_service};
 pub use shape::shape_fault;
 pub use spot::PathKind;

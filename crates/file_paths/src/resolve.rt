@@ -2,7 +2,7 @@ ghost use Rattle.std.specs.Prelude.{◌≡◌, [], IfOk, length, map};
 ghost use Rattle.std.specs.List.{zip};
 ghost use Rattle.file_paths.specs.Answers.{Gives};
 ghost use Rattle.file_paths.specs.Paths.{homed};
-ghost use Rattle.file_paths.specs.Resolving.{entries_homed, items_homed, resolved, resolved_by, values_homed};
+ghost use Rattle.file_paths.specs.Resolving.{entries_homed, items_homed, resolved, resolved_by, resolved_service, values_homed};
 ghost use Rattle.file_paths.specs.Spots.{rules_of};
 ghost use Rattle.tree_base.specs.declared.Tree.{Tree};
 
@@ -24,6 +24,18 @@ pub fn resolved(
     ensures { Gives result (resolved directory.now env.now tree.now) }
 {
     resolve(tree, PathSpot::Root, directory, env, alloc)
+}
+
+/// One service of a file with its paths taken against a directory, and what is refused, as `resolved` does it.
+pub fn resolved_service(
+    alloc: Global,
+    directory: &Text,
+    env: &Env,
+    service: &Tree,
+) -> Result<Tree, PathRefusal>
+    ensures { Gives result (resolved_service directory.now env.now service.now) }
+{
+    resolve(service, PathSpot::Service, directory, env, alloc)
 }
 
 /// A tree whose paths are absolute. Where it has none, it shares what it holds.

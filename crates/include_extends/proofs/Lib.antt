@@ -1,8 +1,7 @@
-mod Faults
+mod Added
+mod Completed
 mod Files
-mod Laid
+mod Included
 mod Named
 mod Placed
-pub mod Runs
-mod Steps
-mod Winning
+pub mod PlainModels

@@ -1,24 +1,26 @@
 -- What the places of a request give: the default file under its names, and then the model that is loaded there.
-use Rattle.std.proofs.Common.{◌≡◌, ℕ, List, [], ◌∷◌, None, Option, Some, Result, Ok, Err, refl, sym, subst}
-use Rattle.include_extends.specs.declared.loading.Loaded.{Loaded}
+use Rattle.std.proofs.Common.{◌≡◌, ℕ, suc, List, [], ◌∷◌, None, Option, Some, Result, Ok, Err, refl, sym, subst}
+use Rattle.include_extends.specs.Includes.{model}
+use Rattle.include_extends.specs.Loading.{default_file, files_found, found_or, loaded_at, loaded_of, loading, most_files, with_files}
+use Rattle.loaded_files.specs.Refusing.{of_path}
+use Rattle.loaded_files.specs.declared.outcome.Loaded.{Loaded}
 use Rattle.include_extends.specs.declared.model.Model.{Model}
-use Rattle.include_extends.specs.declared.reads.Seen.{Seen}
-use Rattle.include_extends.specs.declared.reads.Seen.TheVariants.{There, Longer, Missing}
-use Rattle.include_extends.specs.declared.refusal.LoadRefusal.{LoadRefusal}
+use Rattle.loaded_files.specs.declared.reads.Seen.{Seen}
+use Rattle.loaded_files.specs.declared.reads.Seen.TheVariants.{There, Longer, Missing}
+use Rattle.loaded_files.specs.declared.refusal.LoadRefusal.{LoadRefusal}
 use Rattle.include_extends.specs.declared.request.LoadRequest.{LoadRequest}
 use Rattle.include_extends.specs.declared.request.Places.{Places}
-use Rattle.include_extends.specs.Loading.{default_file, files_found, found_or, loaded_at, loading, model, most_files, of_path}
-use Rattle.include_extends.specs.Paths.{Variables, joined}
-use Rattle.include_extends.specs.Reads.{◌>>=◌, Gives, IsGiven, Load, Ran, give, look}
+use Rattle.loaded_files.specs.Paths.{Variables, joined}
+use Rattle.loaded_files.specs.Reads.{Gives, IsGiven, Load, Ran, give, look}
 use Rattle.include_extends.specs.Requests.{default_names, places_of}
-use Rattle.include_extends.proofs.Runs.{given_on, given_out, gives_on, gives_out, ran_on}
+use Rattle.loaded_files.proofs.Runs.{given_on, given_out, gives_on, gives_out, ran_on}
 use Rattle.outside_files.specs.Files.{Contents}
 
 -- what was found is given, and nothing more is looked at
-found_there : (path : List ℕ) (later : Load (List ℕ × Seen)) (seen : Seen) → (seen ≡ Missing → ⊥) → found_or path later seen ≡ give (path, seen)
-found_there path later (There bytes) n = refl
-found_there path later Longer n = refl
-found_there path later Missing n = absurd (n refl)
+seen_there : (path : List ℕ) (later : Load (List ℕ × Seen)) (seen : Seen) → (seen ≡ Missing → ⊥) → found_or path later seen ≡ give (path, seen)
+seen_there path later (There bytes) n = refl
+seen_there path later Longer n = refl
+seen_there path later Missing n = absurd (n refl)
 
 module _ (told : Option Contents) where
   -- one name of the default file
@@ -38,7 +40,7 @@ module _ (told : Option Contents) where
     pub name_found : (seen : Seen) → (seen ≡ Missing → ⊥) → Gives told (Ok seen) (look path) → Gives told (Ok (path, seen)) (default_file directory (name ∷ names))
     name_found seen n h =
         gives_on told (look path) then_later seen (Ok (path, seen)) h
-        (subst (λ (load : Load (List ℕ × Seen)). Gives told (Ok (path, seen)) load) (sym (found_there path (default_file directory names) seen n)) (λ q. refl))
+        (subst (λ (load : Load (List ℕ × Seen)). Gives told (Ok (path, seen)) load) (sym (seen_there path (default_file directory names) seen n)) (λ q. refl))
 
   -- the files of a call
   module _ (directory : List ℕ) where
@@ -55,29 +57,32 @@ module _ (told : Option Contents) where
     given_there [] n = absurd (n refl)
     given_there (file ∷ more) n = λ q. refl
 
-  -- what is loaded at the places of a request
-  module _ (places : Places) (caller : Variables) where
-    abbrev pub model_of : List (List ℕ) × Option Seen → Load Model
-    model_of found = model found.0 places.directory places.env_files caller found.1 most_files
+  -- what is loaded at places whose files are known
+  module _ (places : Places) (caller : Variables) (found : Option Seen) where
+    abbrev pub whole_model : Load Model
+    whole_model = model (suc most_files) places caller places.files found most_files
 
-    abbrev as_loaded : Model → Load Loaded
+    abbrev pub as_loaded : Model → Load Loaded
     as_loaded whole = give (record { tree = whole.tree; directory = places.directory; env = whole.env })
 
-    abbrev then_model : List (List ℕ) × Option Seen → Load Loaded
-    then_model found = model_of found >>= as_loaded
+    pub not_loaded : (e : LoadRefusal) → Gives {X = Model} told (Err e) whole_model → Gives {X = Loaded} told (Err e) (loaded_of places caller found)
+    not_loaded e h = gives_out told whole_model as_loaded e h
+
+    pub loaded_there : (whole : Model) → Gives told (Ok whole) whole_model
+        → Gives told (Ok (record { tree = whole.tree; directory = places.directory; env = whole.env })) (loaded_of places caller found)
+    loaded_there whole h = gives_on told whole_model as_loaded whole (Ok (record { tree = whole.tree; directory = places.directory; env = whole.env })) h (λ n. refl)
+
+  -- what is loaded at the places of a request, whose files are found first
+  module _ (places : Places) (caller : Variables) where
+    abbrev then_loaded : List (List ℕ) × Option Seen → Load Loaded
+    then_loaded found = loaded_of (with_files places found.0) caller found.1
 
     pub not_found : (e : LoadRefusal) → Gives {X = List (List ℕ) × Option Seen} told (Err e) (files_found places.directory places.files) → Gives {X = Loaded} told (Err e) (loaded_at places caller)
-    not_found e h = gives_out told (files_found places.directory places.files) then_model e h
+    not_found e h = gives_out told (files_found places.directory places.files) then_loaded e h
 
-    module _ (paths : List (List ℕ)) (found : Option Seen) (h : Gives told (Ok (paths, found)) (files_found places.directory places.files)) where
-      pub not_loaded : (e : LoadRefusal) → Gives {X = Model} told (Err e) (model_of (paths, found)) → Gives {X = Loaded} told (Err e) (loaded_at places caller)
-      not_loaded e k = gives_on told (files_found places.directory places.files) then_model (paths, found) (Err e) h (gives_out told (model_of (paths, found)) as_loaded e k)
-
-      pub loaded_there : (whole : Model) → Gives told (Ok whole) (model_of (paths, found))
-          → Gives told (Ok (record { tree = whole.tree; directory = places.directory; env = whole.env })) (loaded_at places caller)
-      loaded_there whole k =
-          gives_on told (files_found places.directory places.files) then_model (paths, found) (Ok (record { tree = whole.tree; directory = places.directory; env = whole.env })) h
-          (gives_on told (model_of (paths, found)) as_loaded whole (Ok (record { tree = whole.tree; directory = places.directory; env = whole.env })) k (λ n. refl))
+    pub found_there : (paths : List (List ℕ)) (found : Option Seen) (r : Result Loaded LoadRefusal) → Gives told (Ok (paths, found)) (files_found places.directory places.files)
+        → Gives told r (loaded_of (with_files places paths) caller found) → Gives told r (loaded_at places caller)
+    found_there paths found r h k = gives_on told (files_found places.directory places.files) then_loaded (paths, found) r h k
 
   -- a request, whose places come first
   module _ (request : LoadRequest) where

@@ -3,8 +3,8 @@ use Rattle.std.proofs.Common.{◌≡◌, ◌∙◌, ℕ, List, Result, Ok, sym, 
 use Rattle.file_paths.specs.Answers.{Fails}
 use Rattle.file_paths.specs.declared.refusal.PathRefusal.{PathRefusal}
 use Rattle.file_paths.specs.declared.refusal.PathRefusal.TheVariants.{NoHome, Memory}
-use Rattle.include_extends.specs.Paths.{all_homed}
-use Rattle.include_extends.specs.Requests.{places_of, project_directory}
+use Rattle.loaded_files.specs.Paths.{all_homed}
+use Rattle.include_extends.specs.Requests.{given_paths, places_of, project_directory}
 use Rattle.include_extends.specs.declared.request.LoadRequest.{LoadRequest}
 use Rattle.include_extends.specs.declared.request.Places.{Places}
 use Rattle.tree_base.specs.Answers.{◌>>=◌}
@@ -31,7 +31,7 @@ module _ (request : LoadRequest) where
   directory_with files = project_directory request.cwd request.env files request.project_directory
 
   abbrev as_places : List (List ℕ) → List (List ℕ) → List ℕ → Result Places PathRefusal
-  as_places files env_files directory = Ok (record { files = files; env_files = env_files; directory = directory })
+  as_places files env_files directory = Ok (record { files = files; env_files = given_paths env_files; directory = directory })
 
   abbrev then_directory : List (List ℕ) → List (List ℕ) → Result Places PathRefusal
   then_directory files env_files = directory_with files >>= as_places files env_files
@@ -56,5 +56,5 @@ module _ (request : LoadRequest) where
       pub no_directory : (e : PathRefusal) → Fails e (directory_with files) → Fails e (places_of request)
       no_directory e l = same_fails e _ _ (sym on_env_files) (fails_on e (directory_with files) (as_places files env_files) l)
 
-      pub all_there : (directory : List ℕ) → directory_with files ≡ Ok directory → places_of request ≡ Ok (record { files = files; env_files = env_files; directory = directory })
+      pub all_there : (directory : List ℕ) → directory_with files ≡ Ok directory → places_of request ≡ Ok (record { files = files; env_files = given_paths env_files; directory = directory })
       all_there directory l = on_env_files ∙ goes_on (directory_with files) (as_places files env_files) directory l

@@ -1,5 +1,7 @@
+pub mod Includes
 pub mod Laws
 pub mod Loading
-pub mod Paths
-pub mod Reads
+pub mod Merged
 pub mod Requests
+pub mod Sections
+pub mod Services

@@ -1,12 +1,11 @@
 ghost use Rattle.std.specs.Prelude.{◌≡◌, ◌≤◌, ℕ, Err, List, map};
 ghost use Rattle.include_extends.specs.Loading.{default_file, files_found};
-ghost use Rattle.include_extends.specs.Reads.{Gives};
-ghost use Rattle.include_extends.specs.declared.refusal.LoadRefusal.{LoadRefusal};
+ghost use Rattle.loaded_files.specs.Reads.{Gives};
+ghost use Rattle.loaded_files.specs.declared.refusal.LoadRefusal.{LoadRefusal};
 ghost use Rattle.outside_files.specs.Counts.{Rose};
 
-use crate::reads::{Seen, look};
-use crate::refusal::LoadRefusal;
 use file_paths::joined;
+use loaded_files::{LoadRefusal, Seen, look};
 use outside_files::Files;
 use std::alloc::Global;
 use tree_base::{List, Text};

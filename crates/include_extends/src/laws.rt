@@ -1,12 +1,12 @@
-ghost use Rattle.include_extends.specs.Laws.{ToldFilesAreLoaded, UpperVariablesWin};
-
-/// The law that the caller's variables win over those of env files, and those of a later file over those of earlier
-/// ones. Nothing runs.
-pub fn upper_variables_win()
-    ensures { UpperVariablesWin }
-{}
+ghost use Rattle.include_extends.specs.Laws.{PlainModelsAreTheirFiles, ToldFilesAreLoaded};
 
 /// The law that files that tell what they hold give one answer, unless a read failed. Nothing runs.
 pub fn told_files_are_loaded()
     ensures { ToldFilesAreLoaded }
+{}
+
+/// The law that a model whose services extend nothing and say nothing of their environments, and that includes nothing,
+/// is what its files give, merged. Nothing runs.
+pub fn plain_models_are_their_files()
+    ensures { PlainModelsAreTheirFiles }
 {}

@@ -1,5 +1,5 @@
-//! Loads the Compose files of a call: their trees, whose scalars are substituted under the variables of the caller and
-//! of env files, laid over one another into one tree, whose shape is asked and whose paths are absolute.
+//! Loads the Compose files of a call: their trees, merged under the variables of the caller and of env files, with all
+//! that their services extend, with the environments of their services, and with the models that they include.
 //!
 //! The contract of `load` says what is loaded as a run of reads: which path is read next, and what follows what is
 //! seen there. Where files tell what they hold, that is one tree or the first refusal; where they don't, some contents
@@ -7,16 +7,16 @@
 #![tactic(auto)]
 
 mod default_file;
-mod environment;
-mod file_tree;
+mod include_item;
+mod includes;
 mod laws;
 mod loading;
 mod model;
-mod reads;
-mod refusal;
 mod request;
+mod sections;
+mod services;
 
-pub use laws::{told_files_are_loaded, upper_variables_win};
-pub use loading::{Loaded, load};
-pub use refusal::LoadRefusal;
+pub use laws::{plain_models_are_their_files, told_files_are_loaded};
+pub use loaded_files::{Kind, LoadRefusal, Loaded, ServiceAt, upper_variables_win};
+pub use loading::load;
 pub use request::LoadRequest;

@@ -1,12 +1,12 @@
 ghost use Rattle.std.specs.Prelude.{◌≡◌, ℕ, Err, List};
 ghost use Rattle.file_paths.specs.Answers as path_answers;
-ghost use Rattle.include_extends.specs.Loading.{of_path};
-ghost use Rattle.include_extends.specs.Reads.{IsGiven};
-ghost use Rattle.include_extends.specs.Requests.{places_of, project_directory};
-ghost use Rattle.include_extends.specs.declared.refusal.LoadRefusal.{LoadRefusal};
+ghost use Rattle.loaded_files.specs.Refusing.{of_path};
+ghost use Rattle.loaded_files.specs.Reads.{IsGiven};
+ghost use Rattle.include_extends.specs.Requests.{given_paths, places_of, project_directory};
+ghost use Rattle.loaded_files.specs.declared.refusal.LoadRefusal.{LoadRefusal};
 
-use crate::refusal::LoadRefusal;
 use file_paths::{PathRefusal, all_homed, directory_of, homed, joined};
+use loaded_files::LoadRefusal;
 use std::alloc::Global;
 use tree_base::{Env, List, Text};
 
@@ -26,11 +26,12 @@ pub struct LoadRequest {
     pub cwd: Text,
 }
 
-/// The places that a request names, as absolute paths.
+/// The places of a model, as absolute paths.
 #[derive(Drop)]
 pub struct Places {
     pub files: List<Text>,
-    pub env_files: List<Text>,
+    /// The env files, of which there may be none; where they aren't given, `.env` of the directory, if it is there.
+    pub env_files: Option<List<Text>>,
     pub directory: Text,
 }
 
@@ -59,9 +60,21 @@ fn named_places(alloc: Global, request: &LoadRequest) -> Result<Places, PathRefu
     let directory = project_directory(alloc, request, files.as_slice())?;
     Ok(Places {
         files,
-        env_files,
+        env_files: given_paths(env_files),
         directory,
     })
+}
+
+/// Some paths, or None where there is none.
+fn given_paths(paths: List<Text>) -> Option<List<Text>>
+    ensures { result ≡ given_paths paths }
+{
+    if paths.is_empty() {
+        drop(paths);
+        None
+    } else {
+        Some(paths)
+    }
 }
 
 /// The project directory of a request with these files.

@@ -1,7 +1,12 @@
 -- What each refusal of a file or of a project says, behind the program's name.
-use Rattle.std.specs.Prelude.{ℕ, List, ◌++◌, codes, decimal}
+use Rattle.std.specs.Prelude.{ℕ, List, [], ◌∷◌, ◌++◌, codes, decimal, map}
+use Rattle.std.specs.List.{flat_map}
+use Rattle.active_services.specs.declared.ActiveRefusal.{ActiveRefusal}
 use Rattle.dotenv.specs.declared.refusal.EnvRefusal.{EnvRefusal}
-use Rattle.include_extends.specs.declared.refusal.LoadRefusal.{LoadRefusal}
+use Rattle.loaded_files.specs.declared.refusal.Kind.{Kind}
+use Rattle.loaded_files.specs.declared.refusal.Kind.TheVariants as kinds
+use Rattle.loaded_files.specs.declared.refusal.LoadRefusal.{LoadRefusal}
+use Rattle.loaded_files.specs.declared.refusal.ServiceAt.{ServiceAt}
 use Rattle.interpolate.specs.declared.refusal.SubstRefusal.{SubstRefusal}
 use Rattle.interpolate.specs.declared.refusal.SubstTreeRefusal.{SubstTreeRefusal}
 use Rattle.merge_rules.specs.declared.refusal.MergeRefusal.{MergeRefusal}
@@ -48,8 +53,26 @@ merge_words MergeRefusal.TooManyNodes = codes "TooManyNodes"
 merge_words MergeRefusal.TooMuchText = codes "TooMuchText"
 merge_words MergeRefusal.Memory = codes "memory"
 
+-- texts behind one another, with commas between them
+abbrev pub listed : List (List ℕ) → List ℕ
+listed [] = []
+listed (text ∷ texts) = text ++ flat_map (λ later. codes ", " ++ later) texts
+
+-- a service of a file
+abbrev pub service_words : ServiceAt → List ℕ
+service_words at = at.file ++ codes " " ++ at.service
+
+-- what a file declares, in the singular
+abbrev pub kind_words : Kind → List ℕ
+kind_words kinds.Service = codes "service"
+kind_words kinds.Network = codes "network"
+kind_words kinds.Volume = codes "volume"
+kind_words kinds.Secret = codes "secret"
+kind_words kinds.Config = codes "config"
+
 -- a file is named by its path; where its text is refused, the place and the name of the fault follow;
--- a part of the files' tree is named by its path in the tree
+-- a part of the files' tree is named by its path in the tree; services and files that lead back to themselves are named
+-- in their order, each once
 abbrev pub load_words : LoadRefusal → List ℕ
 load_words (LoadRefusal.NotFound path) = path ++ codes ": NotFound"
 load_words (LoadRefusal.ReadFault path) = path ++ codes ": ReadFault"
@@ -61,7 +84,19 @@ load_words (LoadRefusal.EnvFile path cause) = path ++ codes ":" ++ env_words cau
 load_words (LoadRefusal.Subst path cause) = path ++ codes ": " ++ tree_words cause
 load_words (LoadRefusal.Merge path cause) = path ++ codes ": " ++ merge_words cause
 load_words (LoadRefusal.BadShape at) = path_words at ++ codes ": BadShape"
+load_words (LoadRefusal.ExtendsCycle services) =
+    codes "extends cycle: " ++ listed (map service_words services)
+load_words (LoadRefusal.NoSuchBase file service) = file ++ codes ": no service " ++ service
+load_words (LoadRefusal.IncludeCycle files) = codes "include cycle: " ++ listed files
+load_words (LoadRefusal.Conflict kind key file) =
+    file ++ codes ": conflict: " ++ kind_words kind ++ codes " " ++ key
 load_words LoadRefusal.Memory = codes "memory"
+
+-- the service that requires one that isn't enabled, and that one
+abbrev pub active_words : ActiveRefusal → List ℕ
+active_words (ActiveRefusal.DependencyDisabled service dependency) =
+    service ++ codes ": dependency " ++ dependency ++ codes " is disabled"
+active_words ActiveRefusal.Memory = codes "memory"
 
 -- a name that is none stands as it is, and a number past its limit behind the limit's name
 abbrev pub project_words : ProjectRefusal → List ℕ
@@ -73,5 +108,6 @@ project_words (ProjectRefusal.TooManyServices count) = codes "TooManyServices: "
 abbrev pub refusal_words : TreeRefusal → List ℕ
 refusal_words (TreeRefusal.NotBuilt path) = unbuilt_words path
 refusal_words (TreeRefusal.Name refusal) = project_words refusal
+refusal_words (TreeRefusal.Active refusal) = active_words refusal
 refusal_words (TreeRefusal.Project refusal) = project_words refusal
 refusal_words TreeRefusal.Memory = codes "memory"

@@ -1,7 +1,8 @@
 -- The exit status of each refusal of a file or of a project.
 use Rattle.std.specs.Prelude.{ℕ}
+use Rattle.active_services.specs.declared.ActiveRefusal.{ActiveRefusal}
 use Rattle.dotenv.specs.declared.refusal.EnvRefusal.{EnvRefusal}
-use Rattle.include_extends.specs.declared.refusal.LoadRefusal.{LoadRefusal}
+use Rattle.loaded_files.specs.declared.refusal.LoadRefusal.{LoadRefusal}
 use Rattle.interpolate.specs.declared.refusal.SubstTreeRefusal.{SubstTreeRefusal}
 use Rattle.merge_rules.specs.declared.refusal.MergeRefusal.{MergeRefusal}
 use Rattle.loading_words.specs.declared.refusal.TreeRefusal.{TreeRefusal}
@@ -35,7 +36,8 @@ merge_status MergeRefusal.TooManyNodes = 8
 merge_status MergeRefusal.TooMuchText = 8
 merge_status MergeRefusal.Memory = 9
 
--- a missing file, a home that isn't known, or another form than there has to be has status 2, a read that failed 7, and one past a limit 8
+-- a missing file or service, a home that isn't known, another form than there has to be, services or files that lead back
+-- to themselves, or what is declared twice has status 2, a read that failed 7, and one past a limit 8
 abbrev pub load_status : LoadRefusal → ℕ
 load_status (LoadRefusal.NotFound path) = 2
 load_status (LoadRefusal.ReadFault path) = 7
@@ -47,7 +49,16 @@ load_status (LoadRefusal.EnvFile path cause) = env_status cause
 load_status (LoadRefusal.Subst path cause) = tree_status cause
 load_status (LoadRefusal.Merge path cause) = merge_status cause
 load_status (LoadRefusal.BadShape at) = 2
+load_status (LoadRefusal.ExtendsCycle services) = 2
+load_status (LoadRefusal.NoSuchBase file service) = 2
+load_status (LoadRefusal.IncludeCycle files) = 2
+load_status (LoadRefusal.Conflict kind key file) = 2
 load_status LoadRefusal.Memory = 9
+
+-- a dependency on a service that isn't enabled has status 2, and a want of memory 9
+abbrev pub active_status : ActiveRefusal → ℕ
+active_status (ActiveRefusal.DependencyDisabled service dependency) = 2
+active_status ActiveRefusal.Memory = 9
 
 -- a shape or a name that is none has status 2, and a number of services past the limit 8
 abbrev pub project_status : ProjectRefusal → ℕ
@@ -59,5 +70,6 @@ project_status (ProjectRefusal.TooManyServices count) = 8
 abbrev pub refusal_status : TreeRefusal → ℕ
 refusal_status (TreeRefusal.NotBuilt path) = 2
 refusal_status (TreeRefusal.Name refusal) = project_status refusal
+refusal_status (TreeRefusal.Active refusal) = active_status refusal
 refusal_status (TreeRefusal.Project refusal) = project_status refusal
 refusal_status TreeRefusal.Memory = 9

@@ -5,12 +5,14 @@
 //! files says its refusals as the program does, and apart from the crate that takes the project from a tree.
 #![tactic(auto)]
 
+mod cycle;
 mod load_message;
 mod message;
 mod path;
 mod refusal;
 mod status;
 
-pub use message::{load_words, project_words, refusal_words, unbuilt_words};
+pub use active_services::ActiveRefusal;
+pub use message::{active_words, load_words, project_words, refusal_words, unbuilt_words};
 pub use refusal::{ProjectRefusal, TreeRefusal};
-pub use status::{load_status, project_status, refusal_status};
+pub use status::{active_status, load_status, project_status, refusal_status};

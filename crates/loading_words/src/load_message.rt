@@ -1,14 +1,15 @@
 ghost use Rattle.std.specs.Prelude.{◌≡◌, ◌++◌, IfOk, codes};
-ghost use Rattle.include_extends.specs.declared.refusal.LoadRefusal.{LoadRefusal};
+ghost use Rattle.loaded_files.specs.declared.refusal.LoadRefusal.{LoadRefusal};
 ghost use Rattle.interpolate.specs.declared.refusal.SubstRefusal.{SubstRefusal};
 ghost use Rattle.interpolate.specs.declared.refusal.SubstTreeRefusal.{SubstTreeRefusal};
-ghost use Rattle.loading_words.specs.Messages.{line_words, load_words, merge_words, value_words};
+ghost use Rattle.loading_words.specs.Messages.{kind_words, line_words, load_words, merge_words, value_words};
 ghost use Rattle.loading_words.specs.Paths.{path_words};
 
 use crate::message::{behind, behind_path};
 use crate::path::path_words;
 use dotenv::EnvRefusal;
 use interpolate::{SubstRefusal, SubstTreeRefusal};
+use loaded_files::Kind;
 use merge_rules::MergeRefusal;
 use std::alloc::Global;
 use tree_base::{Memory, Path, Text};
@@ -63,6 +64,43 @@ pub(crate) fn merge_words(alloc: Global, path: &Text, cause: &MergeRefusal) -> R
     let cause = misfit_words(alloc, cause)?;
     let words = format!(in alloc; "{path}: {cause}")?;
     Ok(Text::from_string(words))
+}
+
+/// What is said of a service that isn't in the file in which it is looked for.
+pub(crate) fn base_words(alloc: Global, file: &Text, service: &Text) -> Result<Text, Memory>
+    ensures { IfOk result
+        (λ words. words ≡ load_words (LoadRefusal.NoSuchBase file.now service.now)) }
+{
+    let words = format!(in alloc; "{file}: no service {service}")?;
+    Ok(Text::from_string(words))
+}
+
+/// What is said of a name that an included file declares again.
+pub(crate) fn conflict_words(
+    alloc: Global,
+    file: &Text,
+    kind: Kind,
+    key: &Text,
+) -> Result<Text, Memory>
+    ensures { IfOk result
+        (λ words. words ≡ load_words (LoadRefusal.Conflict kind key.now file.now)) }
+{
+    let kind = kind_words(kind);
+    let words = format!(in alloc; "{file}: conflict: {kind} {key}")?;
+    Ok(Text::from_string(words))
+}
+
+/// What a file declares, in the singular.
+fn kind_words(kind: Kind) -> &'static str
+    ensures { result.now ≡ kind_words kind }
+{
+    match kind {
+        Kind::Service => "service",
+        Kind::Network => "network",
+        Kind::Volume => "volume",
+        Kind::Secret => "secret",
+        Kind::Config => "config",
+    }
 }
 
 fn misfit_words(alloc: Global, cause: &MergeRefusal) -> Result<Text, Memory>

@@ -1,12 +1,14 @@
 ghost use Rattle.std.specs.Prelude.{◌≡◌, ◌++◌, IfOk};
-ghost use Rattle.loading_words.specs.Messages.{load_words, project_words, refusal_words, unbuilt_words};
+ghost use Rattle.loading_words.specs.Messages.{active_words, load_words, project_words, refusal_words, unbuilt_words};
+ghost use Rattle.active_services.specs.declared.ActiveRefusal.{ActiveRefusal};
 ghost use Rattle.loading_words.specs.Paths.{path_words};
 ghost use Rattle.loading_words.specs.declared.refusal.ProjectRefusal.{ProjectRefusal};
 
-use crate::load_message;
 use crate::path::path_words;
 use crate::refusal::{ProjectRefusal, TreeRefusal};
-use include_extends::LoadRefusal;
+use crate::{cycle, load_message};
+use active_services::ActiveRefusal;
+use loaded_files::LoadRefusal;
 use std::alloc::Global;
 use tree_base::{Memory, Path, Text};
 
@@ -17,6 +19,7 @@ pub fn refusal_words(alloc: Global, refusal: &TreeRefusal) -> Result<Text, Memor
     match refusal {
         TreeRefusal::NotBuilt { path } => unbuilt_words(alloc, path),
         TreeRefusal::Name(refusal) => project_words(alloc, refusal),
+        TreeRefusal::Active(refusal) => active_words(alloc, refusal),
         TreeRefusal::Project(refusal) => project_words(alloc, refusal),
         TreeRefusal::Memory => Text::from_str(alloc, "memory"),
     }
@@ -44,8 +47,35 @@ pub fn load_words(alloc: Global, refusal: &LoadRefusal) -> Result<Text, Memory>
         LoadRefusal::Subst { path, cause } => load_message::tree_words(alloc, path, cause),
         LoadRefusal::Merge { path, cause } => load_message::merge_words(alloc, path, cause),
         LoadRefusal::BadShape { at } => behind_path(alloc, at, ": BadShape"),
+        LoadRefusal::ExtendsCycle { services } => cycle::extends_words(alloc, services.as_slice()),
+        LoadRefusal::NoSuchBase { file, service } => load_message::base_words(alloc, file, service),
+        LoadRefusal::IncludeCycle { files } => cycle::include_words(alloc, files.as_slice()),
+        LoadRefusal::Conflict { kind, key, file } => {
+            load_message::conflict_words(alloc, file, *kind, key)
+        }
         LoadRefusal::Memory => Text::from_str(alloc, "memory"),
     }
+}
+
+/// What is said where the services of a project aren't active. Memory where there is no memory for it.
+pub fn active_words(alloc: Global, refusal: &ActiveRefusal) -> Result<Text, Memory>
+    ensures { IfOk result (λ words. words ≡ active_words refusal.now) }
+{
+    match refusal {
+        ActiveRefusal::DependencyDisabled {
+            service,
+            dependency,
+        } => disabled_words(alloc, service, dependency),
+        ActiveRefusal::Memory => Text::from_str(alloc, "memory"),
+    }
+}
+
+fn disabled_words(alloc: Global, service: &Text, dependency: &Text) -> Result<Text, Memory>
+    ensures { IfOk result (λ words. words
+        ≡ active_words (ActiveRefusal.DependencyDisabled service.now dependency.now)) }
+{
+    let words = format!(in alloc; "{service}: dependency {dependency} is disabled")?;
+    Ok(Text::from_string(words))
 }
 
 /// What is said of a project that is wrong. Memory where there is no memory for it.

@@ -1,3 +1,4 @@
+use active_services::ActiveRefusal;
 use tree_base::{Path, Text};
 
 /// Why a tree gives no project. Each refusal has its exit status and its words.
@@ -7,6 +8,8 @@ pub enum TreeRefusal {
     NotBuilt { path: Path },
     /// The project has no name.
     Name(ProjectRefusal),
+    /// The project has no active services.
+    Active(ActiveRefusal),
     /// What the tree declares is refused.
     Project(ProjectRefusal),
     /// Memory was wanted.

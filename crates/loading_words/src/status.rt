@@ -1,10 +1,11 @@
 ghost use Rattle.std.specs.Prelude.{◌≡◌};
-ghost use Rattle.loading_words.specs.Statuses.{env_status, load_status, merge_status, project_status, refusal_status, tree_status, yaml_status};
+ghost use Rattle.loading_words.specs.Statuses.{active_status, env_status, load_status, merge_status, project_status, refusal_status, tree_status, yaml_status};
 
 use crate::refusal::{ProjectRefusal, TreeRefusal};
+use active_services::ActiveRefusal;
 use dotenv::EnvRefusal;
-use include_extends::LoadRefusal;
 use interpolate::SubstTreeRefusal;
+use loaded_files::LoadRefusal;
 use merge_rules::MergeRefusal;
 use yaml_lines::YamlRefusal;
 
@@ -15,8 +16,19 @@ pub fn refusal_status(refusal: &TreeRefusal) -> u8
     match refusal {
         TreeRefusal::NotBuilt { .. } => 2,
         TreeRefusal::Name(refusal) => project_status(refusal),
+        TreeRefusal::Active(refusal) => active_status(refusal),
         TreeRefusal::Project(refusal) => project_status(refusal),
         TreeRefusal::Memory => 9,
+    }
+}
+
+/// The exit status where the services of a project aren't active: 2, and 9 for memory. No memory.
+pub fn active_status(refusal: &ActiveRefusal) -> u8
+    ensures { result ≡ active_status refusal.now }
+{
+    match refusal {
+        ActiveRefusal::DependencyDisabled { .. } => 2,
+        ActiveRefusal::Memory => 9,
     }
 }
 
@@ -32,7 +44,8 @@ pub fn project_status(refusal: &ProjectRefusal) -> u8
 }
 
 /// The exit status where files aren't loaded: 2 where one is missing, isn't read, has a scalar without a value, or
-/// doesn't fit those before it, where the home isn't known, and where what they give has another form; 7 for a fault, 8
+/// doesn't fit those before it, where the home isn't known, where what they give has another form, where services extend
+/// one another or one that isn't there, and where files include one another or declare one name twice; 7 for a fault, 8
 /// for a limit, 9 for memory. No memory.
 pub fn load_status(refusal: &LoadRefusal) -> u8
     ensures { result ≡ load_status refusal.now }
@@ -48,6 +61,10 @@ pub fn load_status(refusal: &LoadRefusal) -> u8
         LoadRefusal::Subst { cause, .. } => tree_status(cause),
         LoadRefusal::Merge { cause, .. } => merge_status(cause),
         LoadRefusal::BadShape { .. } => 2,
+        LoadRefusal::ExtendsCycle { .. } => 2,
+        LoadRefusal::NoSuchBase { .. } => 2,
+        LoadRefusal::IncludeCycle { .. } => 2,
+        LoadRefusal::Conflict { .. } => 2,
         LoadRefusal::Memory => 9,
     }
 }

@@ -1,5 +1,5 @@
 -- A tree laid over another one (Compose Specification, "Merge").
-use Rattle.std.specs.Prelude.{ℕ, List, [], ◌∷◌, ◌++◌, Option, Some, None, map, unwrap_or, Result, Ok, Err, slice_get, slice_set}
+use Rattle.std.specs.Prelude.{ℕ, List, [], ◌∷◌, ◌++◌, Option, Some, None, map, unwrap_or, Result, Ok, Err, slice_get, slice_set, codes}
 use Rattle.tree_base.specs.Answers.{◌>>=◌}
 use Rattle.tree_base.specs.Entries.{value_at, with_entry, without_entry}
 use Rattle.tree_base.specs.declared.Tree.{Tree, fold-Tree, out-Tree, Null, Scalar, Map, Seq}
@@ -14,6 +14,7 @@ use Rattle.merge_rules.specs.declared.rules.Standing.{Standing}
 use Rattle.merge_rules.specs.declared.rules.Standing.TheVariants.{Value, Item}
 use Rattle.merge_rules.specs.Answers.{under, place, within}
 use Rattle.merge_rules.specs.Attributes.{JoiningRules, overlay_rules}
+use Rattle.merge_rules.specs.Spots.{service_rules}
 use Rattle.attribute_paths.specs.Patterns.{below_key, here}
 use Rattle.merge_rules.specs.Uniqueness.{or_null, place_of}
 
@@ -128,3 +129,7 @@ over_files base over = laid over Value overlay_rules base >>= λ tree. within (o
 -- a tree over any other, which loses its marks first: it is laid over nothing, by no rule
 unfoldable pub overlaid : Tree → Tree → Result Tree MergeRefusal
 overlaid base over = laid base Value [] Null >>= λ tree. over_files (or_null tree) over
+
+-- a service of this name over one that it extends, which has no mark either
+unfoldable pub service_over : List ℕ → List (List ℕ × Tree) → List (List ℕ × Tree) → Result (List (List ℕ × Tree)) MergeRefusal
+service_over name base over = under (Key (codes "services")) (under (Key name) (entries_over service_rules (layers over) base))

@@ -1,10 +1,10 @@
-ghost use Rattle.std.specs.Prelude.{◌≡◌, ◌<◌, [], ◌∷◌, ◌++◌, length, map, None, Some, IfOk, OnOk};
+ghost use Rattle.std.specs.Prelude.{◌≡◌, ◌<◌, [], ◌∷◌, ◌++◌, length, map, None, Some, IfOk, OnOk, codes};
 ghost use Rattle.std.specs.List.{zip};
 ghost use Rattle.tree_base.specs.Entries.{value_at, with_entry};
 ghost use Rattle.tree_base.specs.declared.Tree.{Tree, out-Tree};
 ghost use Rattle.tree_base.specs.declared.Step.TheVariants.{Key, Index};
-ghost use Rattle.merge_rules.specs.Answers.{Gives, UpGives, place, under};
-ghost use Rattle.merge_rules.specs.Overlay.{entries_below, entries_laid, entries_over, entry_over, entry_placed, entry_taken, item_joined, items_below, items_joined, items_kept, items_laid, kept_below, laid, layers, one_of, over_files, overlaid, scalar_over, with_value};
+ghost use Rattle.merge_rules.specs.Answers.{Gives, UpGives, outer, place, under};
+ghost use Rattle.merge_rules.specs.Overlay.{entries_below, entries_laid, entries_over, entry_over, entry_placed, entry_taken, item_joined, items_below, items_joined, items_kept, items_laid, kept_below, laid, layers, one_of, over_files, overlaid, scalar_over, service_over, with_value};
 ghost use Rattle.merge_rules.specs.Spots.{rules_of};
 ghost use Rattle.merge_rules.specs.Uniqueness.{or_null};
 
@@ -37,6 +37,28 @@ pub fn overlay_onto(alloc: Global, base: Tree, over: &Tree) -> Result<Tree, Merg
         Ok(tree) => within(or_null(tree)),
         Err(refusal) => Err(from_root(refusal)),
     }
+}
+
+/// A service of this name over one that it extends, which is moved, and not copied; neither has a mark.
+///
+/// The refusal is `KindMismatch` with the first path, in the order of the upper one, at which trees of different kinds
+/// meet; it begins with `services` and the name. Limits aren't asked here.
+pub fn service_onto(alloc: Global, name: &Text, base: Map, over: &Map) -> Result<Map, MergeRefusal>
+    ensures { Gives result (service_over name.now base over.now) }
+{
+    match lay_entries(over.values(), over.keys(), base, Spot::Service, alloc) {
+        Ok(all) => Ok(all),
+        Err(refusal) => Err(from_root(in_service(alloc, name, refusal)?)),
+    }
+}
+
+/// A refusal whose path is told from the inside out, of what stands in the service of this name.
+fn in_service(alloc: Global, name: &Text, refusal: MergeRefusal) -> Result<MergeRefusal, Memory>
+    ensures { IfOk result
+        (λ r. r ≡ outer (Key (codes "services")) (outer (Key name.now) refusal)) }
+{
+    let named = with_step(refusal, Step::Key(name.copy(alloc)?))?;
+    with_step(named, Step::Key(Text::from_str(alloc, "services")?))
 }
 
 /// A tree that may be taken away, or null.

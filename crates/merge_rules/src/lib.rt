@@ -20,7 +20,7 @@ mod texts;
 
 pub use forms::long_forms;
 pub use laws::{no_mark_is_left, null_leaves, trees_stand};
-pub use layers::{overlay, overlay_onto};
+pub use layers::{overlay, overlay_onto, service_onto};
 pub use long_laws::{long_forms_stay, one_file_is_its_long_form};
-pub use refusal::MergeRefusal;
+pub use refusal::{MergeRefusal, within};
 pub use rules::{EntryForm, EntryKind, Joining, PairForm, ShortForm, Standing};

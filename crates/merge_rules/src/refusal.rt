@@ -90,8 +90,8 @@ fn turned(path: Path) -> Path
     List::from_vec(steps)
 }
 
-/// A tree that is within the limits.
-pub(crate) fn within(tree: Tree) -> Result<Tree, MergeRefusal>
+/// A tree that is within the limits of merged trees: `TooManyNodes`, then `TooMuchText`. No memory.
+pub fn within(tree: Tree) -> Result<Tree, MergeRefusal>
     ensures { result ≡ within tree }
 {
     match passed(&tree) {

@@ -1,11 +1,13 @@
 -- Laws about the services that trees have.
-use Rattle.std.specs.Prelude.{◌≡◌, ℕ, ◌≤◌, IsTrue, List, [], ◌∷◌, Ok, length, map, codes}
+use Rattle.std.specs.Prelude.{◌≡◌, ℕ, ◌≤◌, IsTrue, List, [], ◌∷◌, Option, None, Some, Ok, length, map, codes}
 use Rattle.std.specs.List.{IsDistinct}
 use Rattle.std.specs.Map.{keys_of}
 use Rattle.std.specs.Str.{bytes_eq}
+use Rattle.active_services.specs.Profiles.{Profiles}
+use Rattle.loaded_files.specs.declared.Loaded.{Loaded}
 use Rattle.tree_base.specs.declared.Tree.{Tree, Map, Scalar}
 use Rattle.normal_form.specs.ProjectNames.{is_name}
-use Rattle.normal_form.specs.Projects.{project_of}
+use Rattle.normal_form.specs.Projects.{name_given, project_name, project_of}
 use Rattle.normal_form.specs.Shape.{Entries, services_in}
 use Rattle.service_attrs.specs.Projects.{IsInOrder}
 use Rattle.service_attrs.specs.declared.Project.{Project}
@@ -43,10 +45,18 @@ tree_of_project project =
     Map ((codes "name", Scalar project.name)
     ∷ (codes "services", Map (map entry_of project.services)) ∷ [])
 
--- a project, as a file has it, is that project in every directory: with a name, and with at most 1,000 services in
--- order
+-- a project, as a file has it, is that project in every directory and under all profiles, unless the call gives
+-- another name: with a name, and with at most 1,000 services in order
 abbrev pub ProjectsReadBack : Type 0
 ProjectsReadBack =
-    (base : List ℕ) (project : Project) → IsTrue (is_name project.name)
-    → length project.services ≤ 1000 → IsInOrder project.services
-    → project_of base (tree_of_project project) ≡ Ok project
+    (profiles : Profiles) (loaded : Loaded) (project : Project)
+    → loaded.tree ≡ tree_of_project project → name_given None loaded.env ≡ None
+    → IsTrue (is_name project.name) → length project.services ≤ 1000
+    → IsInOrder project.services → project_of None profiles loaded ≡ Ok project
+
+-- a name that a call gives is the project's, whatever its files say
+abbrev pub GivenNamesWin : Type 0
+GivenNamesWin =
+    (option : Option (List ℕ)) (loaded : Loaded) (name : List ℕ)
+    → name_given option loaded.env ≡ Some name → IsTrue (is_name name)
+    → project_name option loaded ≡ Ok name

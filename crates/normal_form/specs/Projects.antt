@@ -1,12 +1,15 @@
--- What a tree gives in a directory: a project, or the first refusal.
-use Rattle.std.specs.Prelude.{ℕ, if◌then◌else◌, List, [], ◌∷◌, Option, Some, Result, Ok, Err, codes}
-use Rattle.std.specs.Option.{option_map}
+-- What a loaded tree gives: a project, or the first refusal.
+use Rattle.std.specs.Prelude.{ℕ, if◌then◌else◌, List, [], ◌∷◌, Option, Some, None, Result, Ok, Err, codes}
+use Rattle.std.specs.Option.{option_map, option_or}
+use Rattle.active_services.specs.Profiles.{Profiles, active}
+use Rattle.active_services.specs.declared.ActiveRefusal.{ActiveRefusal}
+use Rattle.loaded_files.specs.declared.Loaded.{Loaded}
 use Rattle.tree_base.specs.Answers.{◌>>=◌}
 use Rattle.tree_base.specs.Entries.{value_at}
 use Rattle.tree_base.specs.declared.Step.TheVariants.{Key}
 use Rattle.tree_base.specs.declared.Tree.{Tree, out-Tree}
 use Rattle.tree_base.specs.declared.Tree.TheOpen.{Tree-F}
-use Rattle.normal_form.specs.ProjectNames.{is_name, name_from}
+use Rattle.normal_form.specs.ProjectNames.{base_name, is_name, name_from}
 use Rattle.normal_form.specs.Shape.{services_in}
 use Rattle.loading_words.specs.declared.TreeRefusal.{TreeRefusal}
 use Rattle.loading_words.specs.declared.ProjectRefusal.{ProjectRefusal}
@@ -39,8 +42,46 @@ name_in base (Tree-F.Map entries) =
     name_by base (option_map out-Tree (value_at entries (codes "name")))
 name_in base tree = named (name_from base)
 
--- the project of a tree in a directory with this base name: first its name, then its services
-abbrev pub project_of : List ℕ → Tree → Result Project TreeRefusal
-project_of base tree =
-    name_in base (out-Tree tree) >>= λ name. services_in tree >>= λ services.
-    Ok (record { name = name; services = services })
+-- a text that isn't empty
+abbrev pub filled : Option (List ℕ) → Option (List ℕ)
+filled (Some []) = None
+filled found = found
+
+-- the name that a call gives: that of `-p`, or else of the variable COMPOSE_PROJECT_NAME, where this isn't empty
+abbrev pub name_given : Option (List ℕ) → List (List ℕ × List ℕ) → Option (List ℕ)
+name_given option env = option_or option (filled (value_at env (codes "COMPOSE_PROJECT_NAME")))
+
+-- the name that a call gives, which has to be one, or else that of its files
+abbrev pub name_or :
+    Option (List ℕ) → Result (List ℕ) TreeRefusal → Result (List ℕ) TreeRefusal
+name_or (Some name) of_files = checked name
+name_or None of_files = of_files
+
+-- the name of the project of what was loaded: the one that the call gives, by `-p` or the variable, or the tree, or else
+-- the directory
+abbrev pub project_name : Option (List ℕ) → Loaded → Result (List ℕ) TreeRefusal
+project_name option loaded =
+    name_or (name_given option loaded.env)
+    (name_in (base_name loaded.directory) (out-Tree loaded.tree))
+
+-- a tree with its active services, or what gives no project where it has none
+abbrev pub active_or_refused : Result Tree ActiveRefusal → Result Tree TreeRefusal
+active_or_refused (Ok tree) = Ok tree
+active_or_refused (Err ActiveRefusal.Memory) = Err TreeRefusal.Memory
+active_or_refused (Err refusal) = Err (TreeRefusal.Active refusal)
+
+-- the project of a tree under a name: what it declares
+abbrev pub project_under : Tree → List ℕ → Result Project TreeRefusal
+project_under tree name =
+    services_in tree >>= λ services. Ok (record { name = name; services = services })
+
+-- the project of the active services of a tree, under a name
+abbrev pub project_among : Profiles → Tree → List ℕ → Result Project TreeRefusal
+project_among profiles tree name =
+    active_or_refused (active profiles tree) >>= λ kept. project_under kept name
+
+-- the project of what was loaded, by the name of `-p` and by profiles: first its name, then its active services, then
+-- what these declare
+abbrev pub project_of : Option (List ℕ) → Profiles → Loaded → Result Project TreeRefusal
+project_of option profiles loaded =
+    project_name option loaded >>= project_among profiles loaded.tree

@@ -1,5 +1,6 @@
 -- The trees that are built so far: services with an image each and no network, beside what is passed over.
 use Rattle.std.specs.Prelude.{ℕ, Bool, true, false, ◌&&◌, ◌||◌, if◌then◌else◌, List, [], ◌∷◌, Option, Some, None, Result, Ok, Err, length, map, min, take, nat_lt, is_some, codes}
+use Rattle.std.specs.List.{list_all}
 use Rattle.std.specs.Option.{option_and_then, option_map, option_or}
 use Rattle.std.specs.Str.{bytes_eq}
 use Rattle.tree_base.specs.Answers.{◌>>=◌}
@@ -59,11 +60,17 @@ abbrev pub is_none_scalar : Tree-F Tree → Bool
 is_none_scalar (Tree-F.Scalar text) = bytes_eq text (codes "none")
 is_none_scalar tree = false
 
--- an attribute that is built: an image, and no network
+-- a sequence of scalars
+abbrev pub is_scalar_list : Tree-F Tree → Bool
+is_scalar_list (Tree-F.Seq items) = list_all (λ item. is_scalar (out-Tree item)) items
+is_scalar_list tree = false
+
+-- an attribute that is built: an image, no network, and profiles, which say whether the service is active
 abbrev pub is_built : List ℕ → Tree → Bool
 is_built key value =
     (bytes_eq key (codes "image") && is_scalar (out-Tree value))
-    || (bytes_eq key (codes "network_mode") && is_none_scalar (out-Tree value))
+    || ((bytes_eq key (codes "network_mode") && is_none_scalar (out-Tree value))
+    || (bytes_eq key (codes "profiles") && is_scalar_list (out-Tree value)))
 
 -- what isn't built of an attribute: the attribute itself, unless it is passed over
 abbrev pub unbuilt_attribute : List ℕ → Tree → Option (List Step)

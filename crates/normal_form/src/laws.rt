@@ -1,4 +1,4 @@
-ghost use Rattle.normal_form.specs.Laws.{NoServiceIsLost, ProjectsReadBack, ServicesReadBack};
+ghost use Rattle.normal_form.specs.Laws.{GivenNamesWin, NoServiceIsLost, ProjectsReadBack, ServicesReadBack};
 
 /// The law that services, as a file has them, are those services in byte order of their names. Nothing runs.
 pub fn services_read_back()
@@ -10,7 +10,12 @@ pub fn no_service_is_lost()
     ensures { NoServiceIsLost }
 {}
 
-/// The law that a project, as a file has it, is that project. Nothing runs.
+/// The law that a project, as a file has it, is that project, whatever the profiles are. Nothing runs.
 pub fn projects_read_back()
     ensures { ProjectsReadBack }
+{}
+
+/// The law that a name that a call gives is the project's, whatever its files say. Nothing runs.
+pub fn given_names_win()
+    ensures { GivenNamesWin }
 {}

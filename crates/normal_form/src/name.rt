@@ -1,22 +1,68 @@
-ghost use Rattle.std.specs.Prelude.{◌≡◌, IfOk, codes};
+ghost use Rattle.std.specs.Prelude.{◌≡◌, Some, IfOk, codes};
 ghost use Rattle.std.specs.List.{list_all};
-ghost use Rattle.std.specs.Option.{option_map};
+ghost use Rattle.std.specs.Option.{option_copied, option_map};
 ghost use Rattle.normal_form.specs.Answers.{Gives};
 ghost use Rattle.normal_form.specs.ProjectNames.{base_name, begins_well, is_name, is_name_character, name_from};
-ghost use Rattle.normal_form.specs.Projects.{bad_shape, checked, name_by, name_in, named};
+ghost use Rattle.normal_form.specs.Projects.{bad_shape, checked, filled, name_by, name_given, name_in, named, project_name};
 ghost use Rattle.tree_base.specs.Entries.{value_at};
 ghost use Rattle.tree_base.specs.declared.Tree.{out-Tree};
 
 use crate::directory::{base_name, is_mark, is_name_character, name_from};
 use crate::entries::value_under;
 use crate::unbuilt::below_key;
+use loaded_files::Loaded;
 use loading_words::{ProjectRefusal, TreeRefusal};
 use std::alloc::Global;
-use tree_base::{List, Map, Memory, Text, Tree};
+use tree_base::{Env, List, Map, Memory, Text, Tree};
+
+/// The name of the project of what was loaded: the one of the option `-p`, or else of the variable
+/// `COMPOSE_PROJECT_NAME`, where it isn't empty, or else the one that stands at `name`, or else the one that the
+/// directory's base name gives. `Name(BadName)` for the first of these that is there, where it is no name, and where
+/// nothing is left of the directory's; `Memory` where memory was wanted.
+pub fn project_name(
+    alloc: Global,
+    option: Option<&Text>,
+    loaded: &Loaded,
+) -> Result<Text, TreeRefusal>
+    ensures { Gives result (project_name (option_copied option.entry) loaded.now) }
+{
+    match name_given(option, &loaded.env) {
+        Some(name) => checked(alloc, name),
+        None => name_in(alloc, &loaded.directory, &loaded.tree),
+    }
+}
+
+/// The name that a call gives.
+fn name_given<'a>(option: Option<&'a Text>, env: &'a Env) -> Option<&'a Text>
+    ensures { option_copied result ≡ name_given (option_copied option.entry) env.now }
+{
+    match option {
+        Some(name) => Some(name),
+        None => name_of_variable(env),
+    }
+}
+
+/// The name that the variable gives, which isn't empty.
+fn name_of_variable(env: &Env) -> Option<&Text>
+    ensures { option_copied result
+        ≡ filled (value_at env.now (codes "COMPOSE_PROJECT_NAME")) }
+{
+    match env.find("COMPOSE_PROJECT_NAME") {
+        Some(name) => filled(name),
+        None => None,
+    }
+}
+
+/// A text that isn't empty.
+fn filled(text: &Text) -> Option<&Text>
+    ensures { option_copied result ≡ filled (Some text.now) }
+{
+    if text.is_empty() { None } else { Some(text) }
+}
 
 /// The name of the project of a tree: the one that stands at `name`, or else the one that the directory's base name
 /// gives.
-pub(crate) fn name_in(alloc: Global, directory: &Text, tree: &Tree) -> Result<Text, TreeRefusal>
+fn name_in(alloc: Global, directory: &Text, tree: &Tree) -> Result<Text, TreeRefusal>
     ensures { Gives result (name_in (base_name directory.now) (out-Tree tree.now)) }
 {
     match tree {

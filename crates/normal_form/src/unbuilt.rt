@@ -1,8 +1,9 @@
 ghost use Rattle.std.specs.Prelude.{◌≡◌, [], ◌∷◌, if◌then◌else◌, None, Some, IfOk, MatchResult};
+ghost use Rattle.std.specs.List.{list_all};
 ghost use Rattle.tree_base.specs.declared.Step.TheVariants.{Key};
 ghost use Rattle.tree_base.specs.declared.Tree.{out-Tree};
 ghost use Rattle.normal_form.specs.Parts.{unbuilt_at};
-ghost use Rattle.normal_form.specs.Shape.{below, first_entry, is_beside, is_built, is_extension, is_none_scalar, is_scalar};
+ghost use Rattle.normal_form.specs.Shape.{below, first_entry, is_beside, is_built, is_extension, is_none_scalar, is_scalar, is_scalar_list};
 ghost use Rattle.loading_words.specs.declared.TreeRefusal.{TreeRefusal};
 
 use crate::entries::{Entry, in_byte_order};
@@ -69,18 +70,34 @@ fn is_extension(key: &Text) -> bool
     matches!(key.as_str().as_bytes(), [b'x', b'-', ..])
 }
 
-/// An image, and no network.
+/// An image, no network, and profiles, which say whether the service is active.
 fn is_built(key: &Text, value: &Tree) -> bool
     ensures { result ≡ is_built key.now value.now }
 {
     (key.as_str() == "image" && is_scalar(value))
         || (key.as_str() == "network_mode" && is_none_scalar(value))
+        || (key.as_str() == "profiles" && is_scalar_list(value))
 }
 
 fn is_scalar(tree: &Tree) -> bool
     ensures { result ≡ is_scalar (out-Tree tree.now) }
 {
     matches!(tree, Tree::Scalar(_))
+}
+
+fn is_scalar_list(tree: &Tree) -> bool
+    ensures { result ≡ is_scalar_list (out-Tree tree.now) }
+{
+    match tree {
+        Tree::Seq(items) => are_scalars(items.as_slice()),
+        _ => false,
+    }
+}
+
+fn are_scalars(items: &[Tree]) -> bool
+    ensures { result ≡ list_all (λ item. is_scalar (out-Tree item)) items.now }
+{
+    items.iter().all(is_scalar)
 }
 
 fn is_none_scalar(tree: &Tree) -> bool

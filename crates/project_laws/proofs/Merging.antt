@@ -175,7 +175,7 @@ project_alone project =
     )
 
 module _ (project : Project) (nodes : node_count (tree_of_project project) ≤ 200000) (text : text_size (tree_of_project project) ≤ 16777216) where
-  is_within : within (tree_of_project project) ≡ Ok (tree_of_project project)
+  pub is_within : within (tree_of_project project) ≡ Ok (tree_of_project project)
   is_within = rw (le-leb (node_count (tree_of_project project)) 200000 nodes, le-leb (text_size (tree_of_project project)) 16777216 text) refl
 
   pub page_long : long_forms (tree_of_project project) ≡ Ok (tree_of_project project)

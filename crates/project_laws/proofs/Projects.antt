@@ -11,8 +11,8 @@ use Rattle.std.specs.Prelude.{IsTrue, slice_get}
 use Rattle.std.specs.Str.{bytes_eq, is_utf8}
 use Rattle.std.specs.declared.cmp.Ordering.{Ordering}
 use Rattle.std.specs.declared.cmp.Ordering.TheVariants.{Less, Equal, Greater}
-use Rattle.include_extends.specs.Loading.{file_tree, loading, of_yaml, tree_in}
-use Rattle.include_extends.specs.Loading as files
+use Rattle.loaded_files.specs.FileTrees.{tree_in}
+use Rattle.loaded_files.specs.FileTrees as files
 use Rattle.interpolate.specs.Walking.{substituted_tree}
 use Rattle.normal_form.specs.Laws.{tree_of_project}
 use Rattle.normal_form.specs.Laws as trees_of

@@ -3,17 +3,18 @@ use Rattle.std.specs.Prelude.{◌≡◌, ◌≤◌, ℕ, true, IsTrue, List, [],
 use Rattle.std.specs.List.{list_all}
 use Rattle.std.specs.Str.{is_utf8}
 use Rattle.include_extends.specs.Loading.{loading}
-use Rattle.include_extends.specs.Paths.{Variables, joined}
-use Rattle.include_extends.specs.Reads.{file_limit, loaded_from}
+use Rattle.loaded_files.specs.Paths.{Variables, joined}
+use Rattle.loaded_files.specs.Reads.{file_limit, loaded_from}
 use Rattle.include_extends.specs.declared.LoadRequest.{LoadRequest}
-use Rattle.include_extends.specs.declared.Loaded.{Loaded}
+use Rattle.loaded_files.specs.declared.Loaded.{Loaded}
 use Rattle.outside_files.specs.Files.{Contents}
-use Rattle.normal_form.specs.ProjectNames.{base_name, is_name}
-use Rattle.normal_form.specs.Projects.{project_of}
+use Rattle.active_services.specs.Profiles.{Profiles}
+use Rattle.normal_form.specs.ProjectNames.{is_name}
+use Rattle.normal_form.specs.Projects.{name_given, project_of}
 use Rattle.project_print.specs.ProjectPages.{node_of, project_page}
 use Rattle.service_attrs.specs.Projects.{IsInOrder}
 use Rattle.service_attrs.specs.declared.Project.{Project}
-use Rattle.tree_base.specs.Entries.{value_at}
+use Rattle.tree_base.specs.Entries.{HasDistinctKeys, value_at}
 use Rattle.yaml_laws.specs.Laws.{IsWithinLimits}
 use Rattle.yaml_print_laws.specs.Printed.{tree_of}
 
@@ -38,10 +39,10 @@ abbrev pub plain_request : Variables → List ℕ → LoadRequest
 plain_request caller cwd =
     record { files = []; project_directory = None; env_files = []; env = caller; cwd = cwd }
 
--- where the page of a project is the Compose file, what is loaded there is that project: in every directory, and whatever the
--- caller's variables are
+-- where the page of a project is the Compose file, what is loaded there is that project: in every directory, under all profiles,
+-- and whatever the caller's variables are that don't name another project
 abbrev pub ProjectPagesReadBack : Type 0
-ProjectPagesReadBack = (project : Project) (caller : Variables) (cwd : List ℕ) (files : Contents)
-    → IsReadable project → HasPage files (joined cwd []) project
+ProjectPagesReadBack = (profiles : Profiles) (project : Project) (caller : Variables) (cwd : List ℕ) (files : Contents)
+    → IsReadable project → HasPage files (joined cwd []) project → HasDistinctKeys caller → name_given None caller ≡ None
     → (loaded : Loaded) × (loaded_from files (loading (plain_request caller cwd)) ≡ Ok loaded)
-    × (project_of (base_name loaded.directory) loaded.tree ≡ Ok project)
+    × (project_of None profiles loaded ≡ Ok project)

@@ -1,6 +1,6 @@
 -- What a call is refused with tells the refusal of files that it comes from.
 use Rattle.std.proofs.Common.{◌≡◌, ◌∙◌, refl, sym, ap}
-use Rattle.include_extends.specs.declared.LoadRefusal.{LoadRefusal}
+use Rattle.loaded_files.specs.declared.LoadRefusal.{LoadRefusal}
 use Rattle.refusals.specs.Origins.{load_refusal}
 use Rattle.refusals.specs.declared.refusal.Refusal.{Refusal}
 
@@ -20,6 +20,10 @@ comes_back (LoadRefusal.EnvFile path cause) = refl
 comes_back (LoadRefusal.Subst path cause) = refl
 comes_back (LoadRefusal.Merge path cause) = refl
 comes_back (LoadRefusal.BadShape at) = refl
+comes_back (LoadRefusal.ExtendsCycle services) = refl
+comes_back (LoadRefusal.NoSuchBase file service) = refl
+comes_back (LoadRefusal.IncludeCycle files) = refl
+comes_back (LoadRefusal.Conflict kind key file) = refl
 comes_back LoadRefusal.Memory = refl
 
 -- two refusals of files that a call is refused with alike are the same

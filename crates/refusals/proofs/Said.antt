@@ -12,6 +12,7 @@ said refusal (Some (Refusal.Words words)) h P memory is = subst P (sym h) is
 said refusal (Some (Refusal.NotBuilt unbuilt)) h P memory is = subst P (sym h) is
 said refusal (Some (Refusal.Load load)) h P memory is = subst P (sym h) is
 said refusal (Some (Refusal.Name name)) h P memory is = subst P (sym h) is
+said refusal (Some (Refusal.Active active)) h P memory is = subst P (sym h) is
 said refusal (Some (Refusal.Project project)) h P memory is = subst P (sym h) is
 said refusal (Some (Refusal.Seen fault)) h P memory is = subst P (sym h) is
 said refusal (Some (Refusal.Request request outcome)) h P memory is = subst P (sym h) is

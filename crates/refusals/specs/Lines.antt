@@ -13,10 +13,9 @@ abbrev pub part_words : Part → List ℕ
 part_words Part.Out = codes "Out"
 part_words Part.Plug = codes "Plug"
 
--- what isn't built: the words, a variable by its name, or what stands at a path
+-- what isn't built: the words, or what stands at a path
 abbrev pub unbuilt_words : Unbuilt → List ℕ
 unbuilt_words Unbuilt.Words = codes "not built: words"
-unbuilt_words (Unbuilt.Variable name) = codes "not built: " ++ name
 unbuilt_words (Unbuilt.Attribute path) = projects.unbuilt_words path
 
 -- what a refusal says
@@ -25,6 +24,7 @@ refusal_words (Refusal.Words refusal) = refusal_text refusal
 refusal_words (Refusal.NotBuilt unbuilt) = unbuilt_words unbuilt
 refusal_words (Refusal.Load refusal) = projects.load_words refusal
 refusal_words (Refusal.Name refusal) = projects.project_words refusal
+refusal_words (Refusal.Active refusal) = projects.active_words refusal
 refusal_words (Refusal.Project refusal) = projects.project_words refusal
 refusal_words (Refusal.Seen fault) = fault_words (RunFault.Seen fault)
 refusal_words (Refusal.Request request outcome) = fault_words (RunFault.Request request outcome)

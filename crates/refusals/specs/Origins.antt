@@ -2,18 +2,19 @@
 use Rattle.std.specs.Prelude.{Bool, true, false, Option, Some}
 use Rattle.compose_words.specs.declared.WordsRefusal.{WordsRefusal}
 use Rattle.engine_types.specs.declared.RunFault.{RunFault}
-use Rattle.include_extends.specs.declared.LoadRefusal.{LoadRefusal}
+use Rattle.loaded_files.specs.declared.LoadRefusal.{LoadRefusal}
 use Rattle.loading_words.specs.declared.TreeRefusal.{TreeRefusal}
 use Rattle.refusals.specs.declared.refusal.Part.{Part}
 use Rattle.refusals.specs.declared.refusal.Refusal.{Refusal}
 use Rattle.refusals.specs.declared.refusal.Unbuilt.{Unbuilt}
 
--- a refusal of the words, of loading, of the project's name, or of what it declares
+-- a refusal of the words, of loading, of the project's name, of its active services, or of what it declares
 abbrev pub IsOfLoading : Option Refusal → Type 0
 IsOfLoading (Some (Refusal.Words refusal)) = Unit {0}
 IsOfLoading (Some (Refusal.NotBuilt unbuilt)) = Unit {0}
 IsOfLoading (Some (Refusal.Load refusal)) = Unit {0}
 IsOfLoading (Some (Refusal.Name refusal)) = Unit {0}
+IsOfLoading (Some (Refusal.Active refusal)) = Unit {0}
 IsOfLoading (Some (Refusal.Project refusal)) = Unit {0}
 IsOfLoading _ = ⊥
 
@@ -29,6 +30,7 @@ IsBeforeDial (Refusal.Words refusal) = Unit {0}
 IsBeforeDial (Refusal.NotBuilt unbuilt) = Unit {0}
 IsBeforeDial (Refusal.Load refusal) = Unit {0}
 IsBeforeDial (Refusal.Name refusal) = Unit {0}
+IsBeforeDial (Refusal.Active refusal) = Unit {0}
 IsBeforeDial (Refusal.Project refusal) = Unit {0}
 IsBeforeDial Refusal.Memory = Unit {0}
 IsBeforeDial _ = ⊥
@@ -39,6 +41,7 @@ IsOfRun (Some (Refusal.Words refusal)) = ⊥
 IsOfRun (Some (Refusal.NotBuilt unbuilt)) = ⊥
 IsOfRun (Some (Refusal.Load refusal)) = ⊥
 IsOfRun (Some (Refusal.Name refusal)) = ⊥
+IsOfRun (Some (Refusal.Active refusal)) = ⊥
 IsOfRun (Some (Refusal.Project refusal)) = ⊥
 IsOfRun (Some (Refusal.Outside Part.Plug)) = ⊥
 IsOfRun _ = Unit {0}
@@ -57,6 +60,7 @@ load_refusal refusal = Refusal.Load refusal
 abbrev pub project_refusal : TreeRefusal → Refusal
 project_refusal (TreeRefusal.NotBuilt path) = Refusal.NotBuilt (Unbuilt.Attribute path)
 project_refusal (TreeRefusal.Name refusal) = Refusal.Name refusal
+project_refusal (TreeRefusal.Active refusal) = Refusal.Active refusal
 project_refusal (TreeRefusal.Project refusal) = Refusal.Project refusal
 project_refusal TreeRefusal.Memory = Refusal.Memory
 

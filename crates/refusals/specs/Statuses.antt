@@ -2,7 +2,7 @@
 use Rattle.std.specs.Prelude.{ℕ, Option, Some, None}
 use Rattle.compose_words.specs.declared.WordsRefusal.{WordsRefusal}
 use Rattle.run_model.specs.Ending.{seen_status, outcome_status}
-use Rattle.loading_words.specs.Statuses.{load_status, project_status}
+use Rattle.loading_words.specs.Statuses.{active_status, load_status, project_status}
 use Rattle.refusals.specs.declared.refusal.Refusal.{Refusal}
 use Rattle.refusals.specs.declared.refusal.Unbuilt.{Unbuilt}
 
@@ -14,7 +14,6 @@ words_status _ = 1
 -- words that aren't built have status 1, and what a file says has 2
 abbrev pub unbuilt_status : Unbuilt → ℕ
 unbuilt_status Unbuilt.Words = 1
-unbuilt_status (Unbuilt.Variable name) = 2
 unbuilt_status (Unbuilt.Attribute path) = 2
 
 -- 1 for words, 2 for a project that isn't one, 3 where the Engine refused, 4 where a condition failed, 5 where the
@@ -24,6 +23,7 @@ refusal_status (Refusal.Words refusal) = words_status refusal
 refusal_status (Refusal.NotBuilt unbuilt) = unbuilt_status unbuilt
 refusal_status (Refusal.Load refusal) = load_status refusal
 refusal_status (Refusal.Name refusal) = project_status refusal
+refusal_status (Refusal.Active refusal) = active_status refusal
 refusal_status (Refusal.Project refusal) = project_status refusal
 refusal_status (Refusal.Seen fault) = seen_status fault
 refusal_status (Refusal.Request request outcome) = outcome_status outcome

@@ -15,9 +15,10 @@ mod saying;
 mod status;
 mod words_refusal;
 
+pub use active_services::ActiveRefusal;
 pub use compose_words::WordsRefusal;
-pub use include_extends::LoadRefusal;
 pub use line::refusal_line;
+pub use loaded_files::LoadRefusal;
 pub use loading_words::ProjectRefusal;
 pub use refusal::{Part, Refusal, Unbuilt};
 pub use run_refusal::refusal_of;

@@ -9,7 +9,7 @@ use crate::condition::failed_words;
 use crate::refusal::{Part, Refusal, Unbuilt};
 use compose_words::WordsRefusal;
 use engine_types::{Kind, Outcome, Reply, Request, SeenFault, WireEnd};
-use loading_words::{load_words, project_words};
+use loading_words::{active_words, load_words, project_words};
 use std::alloc::Global;
 use tree_base::{Memory, Text};
 
@@ -30,6 +30,7 @@ fn refusal_words(alloc: Global, refusal: &Refusal) -> Result<Text, Memory>
         Refusal::NotBuilt(unbuilt) => unbuilt_words(alloc, unbuilt),
         Refusal::Load(refusal) => load_words(alloc, refusal),
         Refusal::Name(refusal) => project_words(alloc, refusal),
+        Refusal::Active(refusal) => active_words(alloc, refusal),
         Refusal::Project(refusal) => project_words(alloc, refusal),
         Refusal::Seen(fault) => seen_words(alloc, fault),
         Refusal::Request { request, outcome } => outcome_words(alloc, request, outcome),
@@ -57,7 +58,6 @@ fn unbuilt_words(alloc: Global, unbuilt: &Unbuilt) -> Result<Text, Memory>
 {
     match unbuilt {
         Unbuilt::Words => Text::from_str(alloc, "not built: words"),
-        Unbuilt::Variable { name } => before_text(alloc, "not built: ", name),
         Unbuilt::Attribute { path } => loading_words::unbuilt_words(alloc, path),
     }
 }

@@ -6,7 +6,7 @@ ghost use Rattle.refusals.specs.Origins.{IsBeforeDial, load_refusal, project_ref
 ghost use Rattle.refusals.specs.Statuses.{refusal_status};
 
 use crate::refusal::{Refusal, Unbuilt};
-use include_extends::LoadRefusal;
+use loaded_files::LoadRefusal;
 use loading_words::TreeRefusal;
 
 impl From<LoadRefusal> for Refusal {
@@ -41,6 +41,7 @@ impl From<TreeRefusal> for Refusal {
         match refusal {
             TreeRefusal::NotBuilt { path } => Refusal::NotBuilt(Unbuilt::Attribute { path }),
             TreeRefusal::Name(refusal) => Refusal::Name(refusal),
+            TreeRefusal::Active(refusal) => Refusal::Active(refusal),
             TreeRefusal::Project(refusal) => Refusal::Project(refusal),
             TreeRefusal::Memory => Refusal::Memory,
         }

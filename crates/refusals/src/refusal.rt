@@ -1,6 +1,7 @@
+use active_services::ActiveRefusal;
 use compose_words::WordsRefusal;
 use engine_types::{Condition, LateWhy, Outcome, Report, Request, SeenFault};
-use include_extends::LoadRefusal;
+use loaded_files::LoadRefusal;
 use loading_words::ProjectRefusal;
 use tree_base::{Path, Text};
 
@@ -15,6 +16,8 @@ pub enum Refusal {
     Load(LoadRefusal),
     /// The project has no name.
     Name(ProjectRefusal),
+    /// A service requires one that isn't enabled.
+    Active(ActiveRefusal),
     /// What the project declares is refused.
     Project(ProjectRefusal),
     /// The observation ended so.
@@ -43,10 +46,8 @@ pub enum Refusal {
 /// What is not built yet.
 #[derive(Drop)]
 pub enum Unbuilt {
-    /// The words of the command line, or a variable of the caller's that speaks for words.
+    /// The words of the command line.
     Words,
-    /// Such a variable, where an env file sets it.
-    Variable { name: Text },
     /// What stands at a path of the project's tree.
     Attribute { path: Path },
 }

@@ -5,7 +5,7 @@ ghost use Rattle.refusals.specs.Statuses.{refusal_status, status_of, unbuilt_sta
 use crate::refusal::{Refusal, Unbuilt};
 use compose_words::WordsRefusal;
 use engine_types::{Outcome, SeenFault, WireEnd};
-use loading_words::{load_status, project_status};
+use loading_words::{active_status, load_status, project_status};
 
 /// The exit status of a call: 0 where nothing is refused.
 pub fn status_of(refusal: &Option<Refusal>) -> u8
@@ -26,6 +26,7 @@ pub fn refusal_status(refusal: &Refusal) -> u8
         Refusal::NotBuilt(unbuilt) => unbuilt_status(unbuilt),
         Refusal::Load(refusal) => load_status(refusal),
         Refusal::Name(refusal) => project_status(refusal),
+        Refusal::Active(refusal) => active_status(refusal),
         Refusal::Project(refusal) => project_status(refusal),
         Refusal::Seen(fault) => seen_status(fault),
         Refusal::Request { outcome, .. } => outcome_status(outcome),
@@ -51,7 +52,6 @@ fn unbuilt_status(unbuilt: &Unbuilt) -> u8
 {
     match unbuilt {
         Unbuilt::Words => 1,
-        Unbuilt::Variable { .. } => 2,
         Unbuilt::Attribute { .. } => 2,
     }
 }

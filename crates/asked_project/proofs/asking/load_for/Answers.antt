@@ -1,6 +1,6 @@
 use Rattle.std.proofs.Common.{subst}
 use Rattle.include_extends.specs.Loading.{loading}
-use Rattle.include_extends.specs.Reads as reads
+use Rattle.loaded_files.specs.Reads as reads
 use Rattle.include_extends.specs.declared.LoadRequest.{LoadRequest}
 use Rattle.asked_project.proofs.asking.load_for.Goals as goal
 

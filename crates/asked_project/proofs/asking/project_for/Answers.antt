@@ -4,7 +4,7 @@ use Rattle.asked_project.specs.Meaning.{IsLoaded}
 use Rattle.asked_project.specs.Parts.{MeansFor}
 use Rattle.asked_project.specs.declared.asking.Asked.{Asked}
 use Rattle.asked_project.proofs.Answered.{is_loaded, load_no_words, loads_project, loads_read, loads_refused, with_kind, with_no_read, with_no_words, with_options, with_order}
-use Rattle.include_extends.specs.declared.LoadRefusal.{LoadRefusal}
+use Rattle.loaded_files.specs.declared.LoadRefusal.{LoadRefusal}
 use Rattle.refusals.specs.Origins.{IsBeforeDial, is_of_words}
 use Rattle.refusals.specs.declared.Refusal.{Refusal}
 use Rattle.service_attrs.specs.Projects.{IsInOrder}

@@ -5,14 +5,14 @@ use Rattle.std.proofs.lemmas.Option.{slice_get-map, slice_get-get_or}
 use Rattle.std.proofs.lemmas.Result.{err_from_is_err_and}
 use Rattle.std.specs.Option.{option_map}
 use Rattle.std.specs.Prelude.{codes}
-use Rattle.include_extends.specs.declared.reads.Seen.{Seen}
-use Rattle.include_extends.specs.declared.reads.Seen.TheVariants.{Missing}
-use Rattle.include_extends.specs.declared.refusal.LoadRefusal.{LoadRefusal}
-use Rattle.include_extends.specs.declared.refusal.LoadRefusal.TheVariants.{NotFound}
+use Rattle.loaded_files.specs.declared.reads.Seen.{Seen}
+use Rattle.loaded_files.specs.declared.reads.Seen.TheVariants.{Missing}
+use Rattle.loaded_files.specs.declared.refusal.LoadRefusal.{LoadRefusal}
+use Rattle.loaded_files.specs.declared.refusal.LoadRefusal.TheVariants.{NotFound}
 use Rattle.include_extends.specs.Loading.{default_file}
-use Rattle.include_extends.specs.Paths.{joined}
-use Rattle.include_extends.specs.Reads.{Gives, Ran, look}
-use Rattle.include_extends.proofs.Laid.{next_item, none_left}
+use Rattle.loaded_files.specs.Paths.{joined}
+use Rattle.loaded_files.specs.Reads.{Gives, Ran, look}
+use Rattle.loaded_files.proofs.Laid.{next_item, none_left}
 use Rattle.include_extends.proofs.Named.{name_found, name_missing, name_unread}
 use Rattle.outside_files.specs.Files.{Contents}
 use Rattle.include_extends.proofs.default_file.default_file.Goals as goal

@@ -1,8 +1,8 @@
 use Rattle.std.proofs.Common.{◌≡◌, ◌≤◌, ℕ, List, drop, map, Result}
 use Rattle.include_extends.specs.Loading.{default_file}
-use Rattle.include_extends.specs.Reads.{Ran}
-use Rattle.include_extends.specs.declared.reads.Seen.{Seen}
-use Rattle.include_extends.specs.declared.refusal.LoadRefusal.{LoadRefusal}
+use Rattle.loaded_files.specs.Reads.{Ran}
+use Rattle.loaded_files.specs.declared.reads.Seen.{Seen}
+use Rattle.loaded_files.specs.declared.refusal.LoadRefusal.{LoadRefusal}
 use Rattle.include_extends.proofs.default_file.default_file.Given as goal
 
 abbrev pub invariant-loop-name : goal.invariant-loop-name

@@ -1,4 +1,4 @@
-use Rattle.include_extends.proofs.Runs.{ran_told}
+use Rattle.loaded_files.proofs.Runs.{ran_told}
 use Rattle.include_extends.proofs.laws.told_files_are_loaded.Goals as goal
 
 pub returns : goal.returns

@@ -1,15 +1,14 @@
-use Rattle.std.proofs.Common.{◌≡◌, None, Some}
-use Rattle.file_paths.specs.Shapes.{shape_fault}
-use Rattle.include_extends.proofs.Files.{misshaped, shaped}
-use Rattle.tree_base.specs.declared.Tree.{out-Tree}
+use Rattle.std.proofs.lemmas.Result.{err_from_is_err_and}
+use Rattle.include_extends.proofs.Files.{is_placed, misshaped}
 use Rattle.include_extends.proofs.model.placed.Goals as goal
 
-pub returns-in-Ok-None-clause-given : goal.returns-in-Ok-None-clause-given
-returns-in-Ok-None-clause-given c =
-    let none : shape_fault (out-Tree c.args.tree.now) ≡ None = cc c.in-Ok-None.ensures in
-    λ told. shaped told c.args.directory.now c.args.env.now c.args.tree.now c.with_paths.result none c.with_paths.ensures.given
+pub returns-in_err-tree-clause-given : goal.returns-in_err-tree-clause-given
+returns-in_err-tree-clause-given c = λ told.
+    let a = c.args in
+    let p = err_from_is_err_and c.from_residual.result c.from_residual.ensures.1 in
+    rw (p.1, p.2) (misshaped told a.directory.now a.env.now a.tree c.in_err-tree.field-0.0 c.in_err-tree.ensures.given)
 
-pub returns-in-Ok-Some-clause-given : goal.returns-in-Ok-Some-clause-given
-returns-in-Ok-Some-clause-given c =
-    let some : shape_fault (out-Tree c.args.tree.now) ≡ Some c.in-Ok-Some.at = cc c.in-Ok-Some.ensures in
-    λ told. misshaped told c.args.directory.now c.args.env.now c.args.tree.now c.in-Ok-Some.at some
+pub returns-clause-given : goal.returns-clause-given
+returns-clause-given c = λ told.
+    let a = c.args in
+    is_placed told a.directory.now a.env.now a.tree c.in_ok-tree.tree c.with_paths.result c.in_ok-tree.ensures.given c.with_paths.ensures.given

@@ -20,5 +20,5 @@ returns-in_err-directory c =
 
 pub returns : goal.returns
 returns c =
-    all_there c.args.request.now c.in_ok-files.files (rw c.as_slice.ensures at c.in_ok-files.ensures) c.in_ok-env_files.env_files (rw c.as_slice-2.ensures at c.in_ok-env_files.ensures) c.in_ok-directory.directory
-    (rw c.as_slice-3.ensures at c.in_ok-directory.ensures)
+    rw c.given_paths.ensures (all_there c.args.request.now c.in_ok-files.files (rw c.as_slice.ensures at c.in_ok-files.ensures) c.in_ok-env_files.env_files (rw c.as_slice-2.ensures at c.in_ok-env_files.ensures) c.in_ok-directory.directory
+    (rw c.as_slice-3.ensures at c.in_ok-directory.ensures))

@@ -1,0 +1,5 @@
+use Rattle.normal_form.proofs.ReadBack.{given_wins}
+use Rattle.normal_form.proofs.laws.given_names_win.Goals as goal
+
+pub returns : goal.returns
+returns c = given_wins

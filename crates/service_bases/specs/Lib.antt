@@ -1,0 +1,4 @@
+pub mod Bases
+pub mod Chains
+pub mod Extending
+pub mod Laws

@@ -1,0 +1,3 @@
+mod Values
+mod Steps
+pub mod Unsaid

@@ -1,0 +1,2 @@
+pub mod EnvItems
+pub mod Environments
