@@ -1,0 +1,6 @@
+pub mod EntryOrder
+pub mod Given
+pub mod KeptKeys
+pub mod Ordering
+pub mod Pairs
+pub mod Walks

@@ -1,0 +1,23 @@
+use Rattle.std.proofs.Common.{◌≡◌, ◌∙◌, List, Some, Option, ℕ, length, map, slice_get, refl, ap, arith}
+use Rattle.std.proofs.lemmas.List.{length-map}
+use Rattle.std.proofs.lemmas.Option.{slice_get_read}
+use Rattle.tree_base.specs.Entries.{with_entry}
+use Rattle.tree_base.specs.declared.Tree.{out-Tree}
+use Rattle.attribute_scalars.specs.Lists.{pair_of, text_in}
+use Rattle.attribute_scalars.specs.Views.{seen_entry}
+use Rattle.attribute_scalars.proofs.Pairs.{pair_put}
+use Rattle.attribute_scalars.proofs.Walks.{all_seen}
+use Rattle.attribute_scalars.proofs.lists.pairs_from.Goals as goal
+
+pub loop-entry-preserved : goal.loop-entry-preserved
+loop-entry-preserved c =
+    let items = c.args.entries.now in
+    let i = c.loop-entry.entry-index in
+    let entry = c.entry-item.result in
+    let at : slice_get items i ≡ Some entry = slice_get_read items (length items) i entry refl (omega arith) c.entry-item.is in
+    c.in_ok-put_pair.ensures
+    ∙ ap (λ (pairs : List (List ℕ × Option (List ℕ))). with_entry pairs entry.key.now (text_in (out-Tree entry.value.now))) c.loop-entry.invariant
+    ∙ pair_put seen_entry items i entry c.requires at
+
+pub returns : goal.returns
+returns c = c.loop-entry.invariant ∙ all_seen pair_of (map seen_entry c.args.entries.now) c.loop-entry.entry-index (omega (arith, length-map c.args.entries.now seen_entry))

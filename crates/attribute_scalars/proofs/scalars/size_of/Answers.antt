@@ -1,0 +1,8 @@
+use Rattle.std.proofs.Common.{◌∙◌, ap}
+use Rattle.std.specs.Result.{result_ok}
+use Rattle.short_forms.specs.Sizes.{size_of}
+use Rattle.attribute_scalars.proofs.Given.{ok_again}
+use Rattle.attribute_scalars.proofs.scalars.size_of.Goals as goal
+
+pub returns : goal.returns
+returns c = c.ok.ensures.value ∙ ap result_ok c.size.ensures ∙ ok_again (size_of c.args.text.now) _

@@ -1,0 +1,4 @@
+pub mod Lists
+pub mod Scalars
+pub mod Views
+pub mod Walks
