@@ -1,0 +1,3 @@
+pub mod DistinctNames
+pub mod PlainProjects
+pub mod Projects
