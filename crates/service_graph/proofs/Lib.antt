@@ -1,0 +1,12 @@
+mod Counting
+mod InOrder
+mod Keyed
+mod Least
+mod Lists
+mod Loops
+mod Ordered
+mod Ranking
+mod Reached
+mod Searching
+mod Steps
+mod Walks

@@ -1,0 +1,5 @@
+pub mod Cycles
+pub mod Laws
+pub mod Places
+pub mod Ranks
+pub mod Reaching
