@@ -1,6 +1,5 @@
 pub mod Blocks
 pub mod Commas
-pub mod Entries
 pub mod Letters
 pub mod Places
 pub mod PlainWords

@@ -1,6 +1,6 @@
 pub mod Json
 pub mod Laws
 pub mod Pages
-pub mod ProjectPages
 pub mod Scalars
+pub mod Values
 pub mod Written

@@ -1,20 +1,17 @@
-//! Pages: what `config` prints of a project, as YAML and as compact JSON.
+//! How pages are printed, as YAML and as compact JSON.
 //!
 //! A `Node` is what a page shows. The contracts say its text exactly, by definitions on the node: `node_page`
-//! gives its lines with the words quoted where they have to be, `node_page_json` the same as JSON. `page` and `page_json`
-//! are those of a project, whose node has its name and its services. A law says that each word of a page reads back, by
-//! the profile of YAML, as the text that it stands for.
+//! gives its lines with the words quoted where they have to be, `node_page_json` the same as JSON. A law says that each
+//! word of a page reads back, by the profile of YAML, as the text that it stands for.
 #![tactic(auto)]
 
 mod block_layout;
 mod compact_json;
 mod laws;
 mod node;
-mod project_page;
 mod scalar;
 
 pub use block_layout::node_page;
 pub use compact_json::{Dollars, json_text, node_page_json};
 pub use laws::{dollars_read_back, scalars_read_back};
 pub use node::Node;
-pub use project_page::{page, page_json};

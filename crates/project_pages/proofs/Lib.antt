@@ -1,0 +1,6 @@
+pub mod Fields
+pub mod Fractions
+pub mod Hashed
+pub mod Keys
+pub mod Lists
+pub mod Records

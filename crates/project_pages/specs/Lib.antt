@@ -1,0 +1,2 @@
+pub mod AttributePages
+pub mod Puts

@@ -1,0 +1,109 @@
+ghost use Rattle.std.specs.Prelude.{◌≡◌, IfOk, OnOk, filter, map};
+ghost use Rattle.project_pages.specs.AttributePages.{attribute_entry, value_node};
+ghost use Rattle.typed_project.specs.DistinctNames.{HasDistinctParts, HaveDistinctNames};
+ghost use Rattle.project_pages.specs.Puts.{hashed_value, is_hashed, is_hashed_name, with_found};
+
+use crate::entries::put_node;
+use crate::kept::kept_node;
+use crate::numbers::{decimal_text, duration_text, number_text, signed_text};
+use crate::rows::{check_node, logging_node};
+use crate::to_node::{Keyed, ToNode, mapping, nodes};
+use crate::values::{bool_node, pairs_node, texts_node};
+use attribute_types::{Attribute, Value};
+use project_print::Node;
+use std::alloc::Global;
+use tree_base::{Memory, Text, TextMap};
+
+impl ToNode for Value {
+    ghost shown = { value_node };
+
+    ghost is_fit = { HasDistinctParts };
+
+    fn node(&self, alloc: Global) -> Result<Node, Memory> {
+        match self {
+            Value::Text(text) => text.node(alloc),
+            Value::Bool(given) => bool_node(alloc, *given),
+            Value::Num(number) => Ok(Node::Word(number_text(alloc, *number)?)),
+            Value::Int(number) => Ok(Node::Word(signed_text(alloc, *number)?)),
+            Value::List(texts) => texts_node(alloc, texts.as_slice()),
+            Value::Pairs(pairs) => pairs_node(alloc, pairs),
+            Value::Argv(words) => texts_node(alloc, words.as_slice()),
+            Value::Duration(micros) => Ok(Node::Text(duration_text(alloc, *micros)?)),
+            Value::Size(bytes) => Ok(Node::Word(number_text(alloc, *bytes)?)),
+            Value::Decimal(billionths) => Ok(Node::Text(decimal_text(alloc, *billionths)?)),
+            Value::Port(port) => Ok(Node::Word(number_text(alloc, u64::from(*port))?)),
+            Value::Kept(tree) => kept_node(tree, alloc),
+            Value::Ulimits(limits) => Ok(Node::Map(mapping(alloc, limits.as_slice())?)),
+            Value::Logging(logging) => logging_node(alloc, logging),
+            Value::Ports(ports) => Ok(Node::Seq(nodes(alloc, ports.as_slice())?)),
+            Value::Mounts(mounts) => Ok(Node::Seq(nodes(alloc, mounts.as_slice())?)),
+            Value::Files(files) => Ok(Node::Seq(nodes(alloc, files.as_slice())?)),
+            Value::Networks(networks) => Ok(Node::Map(mapping(alloc, networks.as_slice())?)),
+            Value::HealthCheck(check) => check_node(alloc, check),
+            Value::Dependencies(needs) => Ok(Node::Map(mapping(alloc, needs.as_slice())?)),
+        }
+    }
+}
+
+impl ToNode for Attribute {
+    ghost shown = { λ attribute. value_node attribute.value };
+
+    ghost is_fit = { λ attribute. HasDistinctParts attribute.value };
+
+    fn node(&self, alloc: Global) -> Result<Node, Memory> {
+        self.value.node(alloc)
+    }
+}
+
+impl Keyed for Attribute {
+    ghost name = { λ attribute. attribute.name };
+
+    fn key(&self) -> &Text {
+        &self.name
+    }
+}
+
+/// The entries of the attributes that are hashed.
+pub(crate) fn hashed_entries(
+    alloc: Global,
+    attributes: &[Attribute],
+) -> Result<TextMap<Node>, Memory>
+    requires { HaveDistinctNames attributes.now }
+    ensures { IfOk result (λ entries.
+        entries ≡ map attribute_entry (filter is_hashed attributes.now)) }
+{
+    let mut entries = TextMap::new(alloc);
+    for attribute in attributes {
+        put_hashed(alloc, &mut entries, attribute)?;
+    }
+    Ok(entries)
+}
+
+/// Puts an attribute under its name, where it is hashed.
+#[tactic(auto, unfolding(crate::specs::Puts::with_found))]
+fn put_hashed(
+    alloc: Global,
+    entries: &mut TextMap<Node>,
+    attribute: &Attribute,
+) -> Result<(), Memory>
+    requires { HasDistinctParts attribute.now.value }
+    ensures { OnOk result (entries.new ≡
+        with_found entries.old attribute.now.name (hashed_value attribute.now)) }
+{
+    if is_hashed(attribute.name.as_str()) {
+        let node = attribute.node(alloc)?;
+        put_node(alloc, entries, attribute.name.as_str(), node)
+    } else {
+        Ok(())
+    }
+}
+
+/// Whether the attribute with a name may change a container.
+fn is_hashed(name: &str) -> bool
+    ensures { result ≡ is_hashed_name name.now }
+{
+    !matches!(
+        name,
+        "build" | "depends_on" | "deploy" | "profiles" | "pull_policy" | "scale"
+    )
+}
