@@ -98,11 +98,24 @@ active_words (ActiveRefusal.DependencyDisabled service dependency) =
     service ++ codes ": dependency " ++ dependency ++ codes " is disabled"
 active_words ActiveRefusal.Memory = codes "memory"
 
+-- what a service uses that isn't there: the service, the kind and the name
+abbrev pub undefined_words : Kind → List ℕ → List ℕ → List ℕ
+undefined_words kind service name =
+    service ++ codes ": undefined " ++ kind_words kind ++ codes " " ++ name
+
+-- services that need one another in a circle, with a space before each
+abbrev pub cycle_words : List (List ℕ) → List ℕ
+cycle_words services = codes "dependency cycle:" ++ flat_map (λ service. codes " " ++ service) services
+
 -- a name that is none stands as it is, and a number past its limit behind the limit's name
 abbrev pub project_words : ProjectRefusal → List ℕ
-project_words (ProjectRefusal.BadShape path) = path_words path ++ codes ": BadShape"
 project_words (ProjectRefusal.BadName name) = codes "bad project name: " ++ name
 project_words (ProjectRefusal.TooManyServices count) = codes "TooManyServices: " ++ decimal count
+project_words (ProjectRefusal.UnknownAttribute path) = path_words path ++ codes ": UnknownAttribute"
+project_words (ProjectRefusal.WrongKind path) = path_words path ++ codes ": WrongKind"
+project_words (ProjectRefusal.BadValue path) = path_words path ++ codes ": BadValue"
+project_words (ProjectRefusal.Undefined kind service name) = undefined_words kind service name
+project_words (ProjectRefusal.DependencyCycle services) = cycle_words services
 
 -- what a refusal of a tree says
 abbrev pub refusal_words : TreeRefusal → List ℕ

@@ -62,9 +62,8 @@ active_status ActiveRefusal.Memory = 9
 
 -- a shape or a name that is none has status 2, and a number of services past the limit 8
 abbrev pub project_status : ProjectRefusal → ℕ
-project_status (ProjectRefusal.BadShape path) = 2
-project_status (ProjectRefusal.BadName name) = 2
 project_status (ProjectRefusal.TooManyServices count) = 8
+project_status refusal = 2
 
 -- 2 for a project that isn't one or isn't built, 8 for a limit, 9 for memory
 abbrev pub refusal_status : TreeRefusal → ℕ

@@ -91,7 +91,7 @@ pub(crate) fn conflict_words(
 }
 
 /// What a file declares, in the singular.
-fn kind_words(kind: Kind) -> &'static str
+pub(crate) fn kind_words(kind: Kind) -> &'static str
     ensures { result.now ≡ kind_words kind }
 {
     match kind {

@@ -1,9 +1,10 @@
-ghost use Rattle.std.specs.Prelude.{◌≡◌, ◌++◌, IfOk};
-ghost use Rattle.loading_words.specs.Messages.{active_words, load_words, project_words, refusal_words, unbuilt_words};
+ghost use Rattle.std.specs.Prelude.{◌≡◌, ◌++◌, IfOk, codes};
+ghost use Rattle.loading_words.specs.Messages.{active_words, cycle_words, load_words, project_words, refusal_words, unbuilt_words};
 ghost use Rattle.active_services.specs.declared.ActiveRefusal.{ActiveRefusal};
 ghost use Rattle.loading_words.specs.Paths.{path_words};
 ghost use Rattle.loading_words.specs.declared.refusal.ProjectRefusal.{ProjectRefusal};
 
+use crate::load_message::kind_words;
 use crate::path::path_words;
 use crate::refusal::{ProjectRefusal, TreeRefusal};
 use crate::{cycle, load_message};
@@ -83,9 +84,17 @@ pub fn project_words(alloc: Global, refusal: &ProjectRefusal) -> Result<Text, Me
     ensures { IfOk result (λ words. words ≡ project_words refusal.now) }
 {
     match refusal {
-        ProjectRefusal::BadShape { path } => behind_path(alloc, path, ": BadShape"),
         ProjectRefusal::BadName { name } => name_words(alloc, name),
         ProjectRefusal::TooManyServices { count } => services_words(alloc, *count),
+        ProjectRefusal::UnknownAttribute { path } => behind_path(alloc, path, ": UnknownAttribute"),
+        ProjectRefusal::WrongKind { path } => behind_path(alloc, path, ": WrongKind"),
+        ProjectRefusal::BadValue { path } => behind_path(alloc, path, ": BadValue"),
+        ProjectRefusal::Undefined {
+            kind,
+            service,
+            name,
+        } => undefined_words(alloc, kind_words(*kind), service, name),
+        ProjectRefusal::DependencyCycle { services } => cycle_words(alloc, services.as_slice()),
     }
 }
 
@@ -101,6 +110,25 @@ fn services_words(alloc: Global, count: u32) -> Result<Text, Memory>
 {
     let words = format!(in alloc; "TooManyServices: {count}")?;
     Ok(Text::from_string(words))
+}
+
+fn undefined_words(alloc: Global, kind: &str, service: &Text, name: &Text) -> Result<Text, Memory>
+    ensures { IfOk result (λ words. words
+        ≡ service.now ++ codes ": undefined " ++ kind.now ++ codes " " ++ name.now) }
+{
+    let words = format!(in alloc; "{service}: undefined {kind} {name}")?;
+    Ok(Text::from_string(words))
+}
+
+fn cycle_words(alloc: Global, services: &[Text]) -> Result<Text, Memory>
+    ensures { IfOk result (λ words. words ≡ cycle_words services.now) }
+{
+    let mut words = Text::from_str(alloc, "dependency cycle:")?;
+    for service in services {
+        words.push_str(" ")?;
+        words.push_str(service.as_str())?;
+    }
+    Ok(words)
 }
 
 /// Words behind a path of a tree, as it is printed.

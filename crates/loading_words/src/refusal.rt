@@ -1,5 +1,6 @@
 use active_services::ActiveRefusal;
-use tree_base::{Path, Text};
+use loaded_files::Kind;
+use tree_base::{List, Path, Text};
 
 /// Why a tree gives no project. Each refusal has its exit status and its words.
 #[derive(Drop)]
@@ -19,10 +20,34 @@ pub enum TreeRefusal {
 /// What is wrong with a project.
 #[derive(Drop)]
 pub enum ProjectRefusal {
-    /// What stands at a path has another form than there has to be.
-    BadShape { path: Path },
     /// The project's name, or what is left of the directory's name, isn't one.
-    BadName { name: Text },
+    BadName {
+        name: Text,
+    },
     /// The project has more services than the limit.
-    TooManyServices { count: u32 },
+    TooManyServices {
+        count: u32,
+    },
+    /// No attribute has the name that a path ends with.
+    UnknownAttribute {
+        path: Path,
+    },
+    /// What stands at a path is of another kind than its attribute.
+    WrongKind {
+        path: Path,
+    },
+    /// What stands at a path isn't a value that its attribute may have, or nothing stands there and has to.
+    BadValue {
+        path: Path,
+    },
+    /// A service uses what isn't declared: a network, a volume, another service that it needs, a secret or a config.
+    Undefined {
+        kind: Kind,
+        service: Text,
+        name: Text,
+    },
+    /// Each of the services needs the next, and the last one the first.
+    DependencyCycle {
+        services: List<Text>,
+    },
 }

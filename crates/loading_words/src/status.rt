@@ -32,14 +32,18 @@ pub fn active_status(refusal: &ActiveRefusal) -> u8
     }
 }
 
-/// The exit status where a project is wrong: 2 for its shape or its name, 8 for a limit. No memory.
+/// The exit status where a project is wrong: 8 for a limit, and else 2. No memory.
 pub fn project_status(refusal: &ProjectRefusal) -> u8
     ensures { result ≡ project_status refusal.now }
 {
     match refusal {
-        ProjectRefusal::BadShape { .. } => 2,
         ProjectRefusal::BadName { .. } => 2,
         ProjectRefusal::TooManyServices { .. } => 8,
+        ProjectRefusal::UnknownAttribute { .. } => 2,
+        ProjectRefusal::WrongKind { .. } => 2,
+        ProjectRefusal::BadValue { .. } => 2,
+        ProjectRefusal::Undefined { .. } => 2,
+        ProjectRefusal::DependencyCycle { .. } => 2,
     }
 }
 

@@ -1,0 +1,5 @@
+pub mod Answers
+pub mod Completing
+pub mod Meaning
+pub mod Names
+pub mod Parts
