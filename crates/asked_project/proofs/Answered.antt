@@ -19,8 +19,8 @@ use Rattle.refusals.specs.Origins.{IsBeforeDial, is_of_words, load_refusal}
 use Rattle.refusals.specs.Refused.{is_failed_read, is_free, wants_memory}
 use Rattle.refusals.specs.declared.Refusal.{Refusal}
 use Rattle.refusals.specs.declared.Unbuilt.{Unbuilt}
-use Rattle.service_attrs.specs.Projects.{IsInOrder}
-use Rattle.service_attrs.specs.declared.Project.{Project}
+use Rattle.typed_project.specs.DistinctNames.{IsKeyed}
+use Rattle.typed_project.specs.declared.project.Project.{Project}
 use Rattle.tree_base.specs.Answers.{◌>>=◌, Fails, Gives, Unless}
 
 pub IfSome-map : {A : Type 0} (o : Option A) (P Q : A → Type 0) → IfSome o P → ((x : A) → P x → Q x) → IfSome o Q
@@ -181,9 +181,9 @@ project_before_dial Refusal.Memory k = tt
 
 module _ (options : Options) where
   -- how a project that was loaded, or its refusal, answers
-  pub with_order : (project : Result Project Refusal) → IfOk project (λ p. IsInOrder p.services) → IfOk (asked_with options project) (λ asked. IsInOrder asked.project.services)
-  with_order (Ok project) h = h
-  with_order (Err refusal) h = tt
+  pub with_keyed : (project : Result Project Refusal) → IfOk project IsKeyed → IfOk (asked_with options project) (λ asked. IsKeyed asked.project)
+  with_keyed (Ok project) h = h
+  with_keyed (Err refusal) h = tt
 
   pub with_options : (project : Result Project Refusal) → IfOk (asked_with options project) (λ asked. asked.options ≡ options)
   with_options (Ok project) = refl

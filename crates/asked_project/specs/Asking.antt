@@ -1,5 +1,5 @@
 -- What the words of a call ask for, of what is built so far.
-use Rattle.std.specs.Prelude.{ℕ, ◌==◌, Bool, false, not, ◌&&◌, if◌then◌else◌, List, Option, Some, None, Result, Ok, Err, is_none, length}
+use Rattle.std.specs.Prelude.{ℕ, ◌==◌, Bool, true, false, not, ◌&&◌, if◌then◌else◌, List, Option, Some, None, Result, Ok, Err, is_none, length}
 use Rattle.compose_words.specs.Reading.{options_of}
 use Rattle.compose_words.specs.declared.Command.{Command}
 use Rattle.compose_words.specs.declared.Options.{Options}
@@ -23,7 +23,7 @@ has_only_built options = is_none options.socket && is_none options.stop_file
 
 -- a command that is built, with its own options, on an Engine in memory or not
 abbrev pub is_built_command : Bool → Command → Bool
-is_built_command memory (Command.Config json quiet) = not json
+is_built_command memory (Command.Config json quiet) = true
 is_built_command memory (Command.Up orphans wait seconds scale) =
     memory && (not wait && (is_none seconds && is_empty scale))
 is_built_command memory (Command.Down orphans volumes seconds) =

@@ -7,7 +7,7 @@ use Rattle.compose_words.specs.declared.Options.{Options}
 use Rattle.outside_files.specs.Files.{Contents}
 use Rattle.refusals.specs.declared.Refusal.{Refusal}
 use Rattle.refusals.specs.declared.Unbuilt.{Unbuilt}
-use Rattle.service_attrs.specs.declared.Project.{Project}
+use Rattle.typed_project.specs.declared.project.Project.{Project}
 
 -- an answer for options has the project that these mean, or its refusal
 abbrev pub MeansFor : Options → Variables → List ℕ → Contents → Result Asked Refusal → Type 0

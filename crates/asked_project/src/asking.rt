@@ -8,7 +8,7 @@ ghost use Rattle.outside_files.specs.Counts.{Rose};
 ghost use Rattle.refusals.specs.Origins.{IsBeforeDial, is_of_words};
 ghost use Rattle.refusals.specs.Refused.{wants_memory};
 ghost use Rattle.refusals.specs.declared.Refusal.{Refusal};
-ghost use Rattle.service_attrs.specs.Projects.{IsInOrder};
+ghost use Rattle.typed_project.specs.DistinctNames.{IsKeyed};
 ghost use Rattle.tree_base.specs.Answers.{Gives};
 
 use crate::loaded::project_loaded;
@@ -17,9 +17,9 @@ use compose_words::Options;
 use include_extends::{LoadRefusal, LoadRequest, Loaded, load};
 use outside_files::Files;
 use refusals::Refusal;
-use service_attrs::Project;
 use std::alloc::Global;
 use tree_base::{Env, List, Memory, Text, TryCopy};
+use typed_project::Project;
 
 /// What a call is asked: its command with all options, and the project that it is for.
 #[derive(Drop)]
@@ -30,8 +30,8 @@ pub struct Asked {
 
 /// The command with its options that words ask for, and the project that the variables, the working directory `cwd`
 /// and the files give. The refusals, in their order: `Words` where the words are none; `NotBuilt(Words)` where they
-/// ask for what isn't built yet; those of loading; and those of the project: of its name, of its active services, and
-/// of what these declare.
+/// ask for what isn't built yet; those of loading; and those of the project: of its name, of its active services, of what
+/// it declares, and of what a run doesn't do yet.
 pub fn project_asked<F: Files>(
     alloc: Global,
     words: &List<Text>,
@@ -50,10 +50,10 @@ pub fn project_asked<F: Files>(
         IsTrue (is_of_words refusal) → options_asked words.now env.now ≡ Err refusal) }
     ensures options { IfOk result (λ asked. options_asked words.now env.now ≡ Ok asked.options) }
 
-    // Some answers of reads give the project, and its services are in order.
+    // Some answers of reads give the project, and what it declares is in order.
     ensures text { IfOk result (λ asked.
         IsSpelled words.now env.now cwd.now (F.told files.old) asked.project) }
-    ensures order { IfOk result (λ asked. IsInOrder asked.project.services) }
+    ensures keyed { IfOk result (λ asked. IsKeyed asked.project) }
 
     // A read that failed is one that words that are built come to, and was counted.
     ensures read { (path : _) → result ≡ Err (Refusal.Load (LoadRefusal.ReadFault path))
@@ -82,7 +82,7 @@ fn project_for<F: Files>(
     ensures options { IfOk result (λ asked. asked.options ≡ options) }
     ensures text { IfOk result (λ asked.
         IsLoaded options env.now cwd.now (F.told files.old) asked.project) }
-    ensures order { IfOk result (λ asked. IsInOrder asked.project.services) }
+    ensures keyed { IfOk result (λ asked. IsKeyed asked.project) }
     ensures read { (path : _) → result ≡ Err (Refusal.Load (LoadRefusal.ReadFault path))
         → IsFailedLoad options env.now cwd.now (F.told files.old)
         (F.faults files.old) (F.faults files.new) path }

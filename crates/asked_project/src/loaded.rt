@@ -1,20 +1,20 @@
 ghost use Rattle.std.specs.Prelude.{◌≡◌, IfErr, IfOk};
 ghost use Rattle.active_services.specs.Profiles.{profiles_given};
-ghost use Rattle.asked_project.specs.Meaning.{project_loaded, project_or_refused};
+ghost use Rattle.asked_project.specs.Meaning.{project_by, project_loaded, project_or_refused, taken_by};
 ghost use Rattle.asked_project.specs.Parts.{IsOfProject};
-ghost use Rattle.normal_form.specs.Projects.{project_of};
+ghost use Rattle.normal_form.specs.Runnable.{runnable};
 ghost use Rattle.refusals.specs.Refused.{wants_memory};
-ghost use Rattle.service_attrs.specs.Projects.{IsInOrder};
+ghost use Rattle.typed_project.specs.DistinctNames.{IsKeyed};
 ghost use Rattle.tree_base.specs.Answers.{Gives};
 
 use active_services::profiles_given;
-use compose_words::Options;
+use compose_words::{Command, Options};
 use include_extends::Loaded;
-use normal_form::project_of;
+use normal_form::{project_of, runnable};
 use refusals::Refusal;
-use service_attrs::Project;
 use std::alloc::Global;
 use tree_base::{List, Memory, Text};
+use typed_project::Project;
 
 /// The project of what was loaded for options: by the name of `-p`, and by the profiles of `--profile` and of the
 /// variables.
@@ -24,7 +24,7 @@ pub(crate) fn project_loaded(
     loaded: &Loaded,
 ) -> Result<Project, Refusal>
     ensures told { Gives wants_memory result (project_loaded options.now loaded.now) }
-    ensures order { IfOk result (λ project. IsInOrder project.services) }
+    ensures keyed { IfOk result IsKeyed }
     ensures kind { IfErr result IsOfProject }
 {
     match profiles_given(alloc, &options.profiles, &loaded.env) {
@@ -37,19 +37,48 @@ pub(crate) fn project_loaded(
     }
 }
 
-/// The project of what was loaded, by the profiles of the call.
+/// The project of what was loaded, by the profiles of the call, as its command takes it.
 fn project_by(
     alloc: Global,
     options: &Options,
     profiles: &List<Text>,
     loaded: &Loaded,
 ) -> Result<Project, Refusal>
-    ensures told { Gives wants_memory result
-        (project_or_refused (project_of options.now.project profiles.now loaded.now)) }
-    ensures order { IfOk result (λ project. IsInOrder project.services) }
+    ensures told { Gives wants_memory result (project_or_refused
+        (project_by options.now profiles.now loaded.now)) }
+    ensures keyed { IfOk result IsKeyed }
     ensures kind { IfErr result IsOfProject }
 {
     match project_of(alloc, options.project.as_ref(), profiles, loaded) {
+        Ok(project) => taken_by(alloc, &options.command, project),
+        Err(refusal) => Err(Refusal::from(refusal)),
+    }
+}
+
+/// A project as a command takes it: a run has to do all of it.
+fn taken_by(alloc: Global, command: &Command, project: Project) -> Result<Project, Refusal>
+    ensures told { Gives wants_memory result (project_or_refused (taken_by command.now project)) }
+    ensures same { IfOk result (λ taken. taken ≡ project) }
+    ensures kind { IfErr result IsOfProject }
+{
+    match command {
+        Command::Up { .. } => to_run(alloc, project),
+        Command::Down { .. } => to_run(alloc, project),
+        Command::Config { .. } => Ok(project),
+        Command::Simulate { .. } => Ok(project),
+        Command::Wait => Ok(project),
+        Command::Logs => Ok(project),
+        Command::EngineSim { .. } => Ok(project),
+    }
+}
+
+/// A project of which a run does all so far.
+fn to_run(alloc: Global, project: Project) -> Result<Project, Refusal>
+    ensures told { Gives wants_memory result (project_or_refused (runnable project)) }
+    ensures same { IfOk result (λ taken. taken ≡ project) }
+    ensures kind { IfErr result IsOfProject }
+{
+    match runnable(alloc, project) {
         Ok(project) => Ok(project),
         Err(refusal) => Err(Refusal::from(refusal)),
     }

@@ -54,7 +54,7 @@ fn has_built_command(options: &Options) -> bool
     ensures { result ≡ has_built_command options.now }
 {
     match &options.command {
-        Command::Config { json, .. } => !*json,
+        Command::Config { .. } => true,
         Command::Up {
             wait,
             wait_seconds,

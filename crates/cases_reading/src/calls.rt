@@ -1,5 +1,6 @@
 use crate::{
-    active, env_files, forms, laws, merging, mounts, pages, ports, projects, variables, words,
+    active, env_files, forms, laws, meanings, merging, mounts, pages, ports, projects, variables,
+    words,
 };
 use case_files::{Answers, Fields};
 
@@ -17,6 +18,7 @@ pub fn inputs_of(call: &str) -> Option<&'static [&'static str]> {
         "overlay" => Some(&["base"]),
         "out_of_memory" | "law" => Some(&[]),
         "load" => Some(&["directory", "file", "failing", "times"]),
+        "project" => Some(&["name"]),
         "active" => Some(&["profiles", "variables"]),
         _ => cases_ground::inputs_of(call),
     }
@@ -35,6 +37,7 @@ pub fn answer(call: &str, fields: &Fields, answers: &mut Answers) {
         "page" => pages::page(fields, answers),
         "page_scalar" => pages::page_scalar(fields, answers),
         "load" => projects::load(fields, answers),
+        "project" => meanings::project(fields, answers),
         "active" => active::active(fields, answers),
         "law" => laws::law(fields, answers),
         _ => answer_of_form(call, fields, answers),

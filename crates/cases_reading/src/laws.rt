@@ -15,14 +15,12 @@ fn returns(name: &str) -> bool {
     match name {
         "scalars_read_back" => project_print::scalars_read_back(),
         "dollars_read_back" => project_print::dollars_read_back(),
-        "projects_read_back" => normal_form::projects_read_back(),
+        "no_service_is_lost" => project_keys::no_service_is_lost(),
         "given_names_win" => normal_form::given_names_win(),
         "order_of_profiles_is_free" => active_services::order_of_profiles_is_free(),
         "enabled_services_are_kept" => active_services::enabled_services_are_kept(),
         "active_services_need_no_other" => active_services::active_services_need_no_other(),
         "enabled_models_stay" => active_services::enabled_models_stay(),
-        "services_read_back" => normal_form::services_read_back(),
-        "no_service_is_lost" => normal_form::no_service_is_lost(),
         _ => return false,
     }
     true

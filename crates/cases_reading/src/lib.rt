@@ -10,6 +10,7 @@ mod calls;
 mod env_files;
 mod forms;
 mod laws;
+mod meanings;
 mod merging;
 mod mounts;
 mod options;

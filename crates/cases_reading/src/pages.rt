@@ -39,7 +39,8 @@ fn put_read_back(page: &str, answers: &mut Answers) {
     }
 }
 
-fn tree_in(alloc: Global, bytes: &[u8]) -> Result<Tree, YamlRefusal> {
+/// The tree that a text spells.
+pub(crate) fn tree_in(alloc: Global, bytes: &[u8]) -> Result<Tree, YamlRefusal> {
     let lines = scan(alloc, bytes, 0)?;
     read(alloc, &lines)
 }

@@ -1,5 +1,5 @@
 ghost use Rattle.std.specs.Prelude.{IfOk};
-ghost use Rattle.service_attrs.specs.Projects.{IsInOrder};
+ghost use Rattle.typed_project.specs.DistinctNames.{IsKeyed};
 
 use case_files::{Answers, Fields, Reading};
 use cases_ground::Entries;
@@ -7,10 +7,10 @@ use include_extends::{LoadRefusal, LoadRequest, Loaded};
 use loading_words::{TreeRefusal, load_status, load_words, refusal_status, refusal_words};
 use normal_form::project_of;
 use outside_files::MemoryFiles;
-use project_print::{page, page_json};
-use service_attrs::{Project, Service};
+use project_pages::{page, page_json};
 use std::alloc::Global;
 use tree_base::{Env, List, Memory, Text, TextMap, Tree};
+use typed_project::{Project, Service};
 
 /// `load: TEXT` in a `directory` (`/w/shop`), where the text stands in `file` (`/w/shop/compose.yaml`) and the reads
 /// with the numbers `failing` fail, so many `times` (once), without variables: the `project` that the last one gives,
@@ -63,8 +63,8 @@ fn put_project_in(loaded: &Loaded, answers: &mut Answers) {
     drop(project);
 }
 
-fn put_found(found: &Result<Project, TreeRefusal>, answers: &mut Answers)
-    requires order { IfOk found.now (λ project. IsInOrder project.services) }
+pub(crate) fn put_found(found: &Result<Project, TreeRefusal>, answers: &mut Answers)
+    requires keyed { IfOk found.now IsKeyed }
 {
     match found {
         Ok(project) => put_project(project, answers),
@@ -101,7 +101,7 @@ fn refuse_project(refusal: &TreeRefusal, answers: &mut Answers) {
 }
 
 fn put_project(project: &Project, answers: &mut Answers)
-    requires order { IsInOrder project.now.services }
+    requires keyed { IsKeyed project.now }
 {
     let alloc = answers.reading.alloc;
     answers.put_said("yaml", page(alloc, project));
@@ -120,8 +120,8 @@ fn put_services(project: &Project, answers: &mut Answers) {
 fn bytes_in(services: &[Service]) -> u64 {
     let mut bytes = 0u64;
     for service in services {
-        let both = (service.key.len() as u64).saturating_add(service.image.len() as u64);
-        bytes = bytes.saturating_add(both);
+        bytes = bytes.saturating_add(service.key.len() as u64);
+        bytes = bytes.saturating_add(image_of(service).len() as u64);
     }
     bytes
 }
@@ -137,7 +137,15 @@ fn project_tree(alloc: Global, name: &Text, services: &[Service]) -> Result<Tree
 fn images_tree(alloc: Global, services: &[Service]) -> Result<Tree, Memory> {
     let mut images = Entries::new(alloc);
     for service in services {
-        images.text(service.key.as_str(), service.image.as_str());
+        images.text(service.key.as_str(), image_of(service));
     }
     images.whole()
+}
+
+/// The image of a service, empty where it has none.
+fn image_of(service: &Service) -> &str {
+    match service.image() {
+        Some(image) => image.as_str(),
+        None => "",
+    }
 }

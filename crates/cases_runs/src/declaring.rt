@@ -1,11 +1,12 @@
+use attribute_types::{Attribute, Value};
 use case_files::{Answers, Fields, Line, Lines, Reading};
 use engine_types::{Declared, Slot, label, labels};
 use identity::declare as declare_project;
-use service_attrs::{Project, Service};
 use std::alloc::Global;
-use tree_base::{Env, List};
+use tree_base::{Env, List, Text};
+use typed_project::{Project, Service};
 
-/// What a project with these services, images under names in their order, declares: its `slots`, each as `NAME HASH` by
+/// What a project with these services, images under names in their order and no network, declares: its `slots`, each as `NAME HASH` by
 /// the label of the hash.
 pub(crate) fn declare(fields: &Fields, answers: &mut Answers) {
     let project = project_at(&mut answers.reading, fields);
@@ -20,21 +21,42 @@ pub(crate) fn declare(fields: &Fields, answers: &mut Answers) {
 fn project_at(reading: &mut Reading, fields: &Fields) -> Project {
     let images = reading.variables(fields, "declare");
     Project {
-        services: services_of(reading, &images),
         name: reading.text_at(fields, "project"),
+        services: services_of(reading, &images),
+        networks: List::new(reading.alloc),
+        volumes: List::new(reading.alloc),
+        secrets: List::new(reading.alloc),
+        configs: List::new(reading.alloc),
     }
 }
 
 fn services_of(reading: &mut Reading, images: &Env) -> List<Service> {
     let mut services = List::new(reading.alloc);
     for (name, image) in images.keys().iter().zip(images.values()) {
-        let service = Service {
-            key: reading.text(name.as_str()),
-            image: reading.text(image.as_str()),
-        };
+        let service = service_of(reading, name, image);
         reading.push(&mut services, service);
     }
     services
+}
+
+/// A service with an image and no network.
+fn service_of(reading: &mut Reading, name: &Text, image: &Text) -> Service {
+    let mut attributes = List::new(reading.alloc);
+    put_text(reading, &mut attributes, "image", image.as_str());
+    put_text(reading, &mut attributes, "network_mode", "none");
+    Service {
+        key: reading.text(name.as_str()),
+        attributes,
+    }
+}
+
+/// Puts an attribute that is a text last.
+fn put_text(reading: &mut Reading, attributes: &mut List<Attribute>, name: &str, text: &str) {
+    let attribute = Attribute {
+        name: reading.text(name),
+        value: Value::Text(reading.text(text)),
+    };
+    reading.push(attributes, attribute);
 }
 
 fn slot_lines(alloc: Global, declared: &Declared) -> Lines {

@@ -1,8 +1,8 @@
 -- What a project declares is whole, its slots need no other, and what is sent for each slot is made for it.
 use Rattle.identity.proofs.Declares.{declares_alone, declares_plain, declares_unrolled, each_slot, own_endpoint, own_hash, own_image, own_labels, own_number}
 use Rattle.identity.specs.Declaring.{declared_of, slot_of}
-use Rattle.service_attrs.specs.declared.Service.{Service}
-use Rattle.service_attrs.specs.declared.Project.{Project}
+use Rattle.typed_project.specs.declared.service.Service.{Service}
+use Rattle.typed_project.specs.declared.project.Project.{Project}
 use Rattle.serial_run.specs.Serial.{WaitsForNone}
 use Rattle.world_laws.specs.OwnSpecs.{HasOwnSpecs, IsOwnSpec}
 

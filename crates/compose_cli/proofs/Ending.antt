@@ -1,9 +1,9 @@
 -- How a call ends that is refused before its run, or that prints.
-use Rattle.std.proofs.Common.{◌≡◌, Some, None, Ok, Err, subst, sym}
+use Rattle.std.proofs.Common.{◌≡◌, ◌+◌, Some, None, Ok, Err, ap, arith, length, refl, subst, sym}
 use Rattle.std.specs.Prelude.{ℕ, List, Option, Result, IfErr, IfSome, IsTrue}
 use Rattle.asked_project.specs.Asking.{Variables, command_of}
 use Rattle.asked_project.specs.Meaning.{IsFailedRead, MeansAs, meaning}
-use Rattle.compose_cli.specs.Ends.{IsRefusedWith, SendsNothing}
+use Rattle.compose_cli.specs.Ends.{CountsHands, IsRefusedWith, SendsNothing}
 use Rattle.compose_cli.specs.Runs.{IfRuns, IsUnbegun, aim_asked}
 use Rattle.compose_cli.specs.declared.ended.Ended.{Ended}
 use Rattle.compose_config.proofs.Loads.{answered, loads_weaker, not_loaded, said_refusal}
@@ -17,7 +17,7 @@ use Rattle.refusals.specs.Refused.{IsRefusal}
 use Rattle.refusals.specs.Saying.{IsSaid}
 use Rattle.refusals.specs.declared.Refusal.{Refusal}
 use Rattle.run_model.specs.Plans.{Aim}
-use Rattle.service_attrs.specs.declared.Project.{Project}
+use Rattle.typed_project.specs.declared.project.Project.{Project}
 
 -- a fact beside others
 pub beside : {X Y : Type 0} {A : Type 0} (meant : Result X Y) (P : Y → Type 0) → A → IfErr meant P → IfErr meant (λ refusal. A × P refusal)
@@ -101,3 +101,10 @@ no_words refusal words none h e = none (subst IsOfLoading (sym e) (at words h))
     at (Refusal.Late why) h = absurd (cc h)
     at (Refusal.Outside part) h = absurd (cc h)
     at Refusal.Memory h = absurd (cc h)
+
+-- no hand is counted where none was made
+pub counts_none : {H : Type 0} (count : Option ℕ) (ended : Ended H) → SendsNothing ended → CountsHands count count (length ended.hands)
+counts_none None ended nothing = refl
+counts_none {H} (Some n) ended nothing =
+    let size : length ended.hands ≡ 0 = ap (length {A = H}) nothing.0 in
+    let same : n ≡ n + length ended.hands = omega (arith, size) in ap (λ (k : ℕ). Some k) same

@@ -74,9 +74,13 @@ active_not_zero (ActiveRefusal.DependencyDisabled service dependency) e = absurd
 active_not_zero ActiveRefusal.Memory e = absurd (cc e)
 
 project_not_zero : (refusal : ProjectRefusal) → project_status refusal ≡ 0 → ⊥
-project_not_zero (ProjectRefusal.BadShape path) e = absurd (cc e)
 project_not_zero (ProjectRefusal.BadName name) e = absurd (cc e)
 project_not_zero (ProjectRefusal.TooManyServices count) e = absurd (cc e)
+project_not_zero (ProjectRefusal.UnknownAttribute path) e = absurd (cc e)
+project_not_zero (ProjectRefusal.WrongKind path) e = absurd (cc e)
+project_not_zero (ProjectRefusal.BadValue path) e = absurd (cc e)
+project_not_zero (ProjectRefusal.Undefined kind service name) e = absurd (cc e)
+project_not_zero (ProjectRefusal.DependencyCycle services) e = absurd (cc e)
 
 words_not_zero : (refusal : WordsRefusal) → words_status refusal ≡ 0 → ⊥
 words_not_zero (WordsRefusal.UnknownWord at) e = absurd (cc e)

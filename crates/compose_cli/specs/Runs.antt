@@ -17,7 +17,7 @@ use Rattle.outside_api.specs.Clock.{Clock}
 use Rattle.outside_api.specs.Hands.{Heard, HeardNothing}
 use Rattle.outside_files.specs.Sinks.{GrewBy}
 use Rattle.compose_words.specs.declared.Command.{Command}
-use Rattle.service_attrs.specs.declared.Project.{Project}
+use Rattle.typed_project.specs.declared.project.Project.{Project}
 use Rattle.project_run.specs.Whole.{IfBegun, IsCaused, SparesKept, task_of}
 use Rattle.project_run.specs.Worlds.{EndsExact, EndsGone}
 use Rattle.refusals.specs.Origins.{run_refusal}

@@ -9,7 +9,7 @@ ghost use Rattle.loaded_files.specs.declared.LoadRefusal.{LoadRefusal};
 ghost use Rattle.outside_api.specs.Accounts.{account};
 ghost use Rattle.outside_files.specs.Counts.{Rose};
 ghost use Rattle.outside_files.specs.Sinks.{GrewBy};
-ghost use Rattle.service_attrs.specs.Projects.{IsInOrder};
+ghost use Rattle.typed_project.specs.DistinctNames.{IsKeyed};
 ghost use Rattle.project_run.specs.Whole.{IfBegun, SparesKept};
 ghost use Rattle.project_run.specs.Worlds.{EndsExact, EndsGone};
 ghost use Rattle.refusals.specs.Origins.{IsOfLoading, is_of_words};
@@ -33,9 +33,9 @@ use outside_api::Plug;
 use outside_files::{Files, Sink};
 use project_run::Aim;
 use refusals::Refusal;
-use service_attrs::Project;
 use std::alloc::Global;
 use tree_base::{Env, List, Text};
+use typed_project::Project;
 
 /// Does what the words of the command line ask for, with one hand. It waits for nobody, and always returns.
 ///
@@ -248,7 +248,7 @@ fn run_project<P: Plug, O: Sink, G: Sink>(
     err: &mut G,
 ) -> Ended<P::Hand>
     requires dialled { ForSome (P.dialled plug.old) (λ n. n < 2 ^ 61) }
-    requires order { IsInOrder project.now.services }
+    requires keyed { IsKeyed project.now }
     ensures origin { IsOfLoading result.refusal → ⊥ }
     ensures dial { result.refusal ≡ Some (Refusal.Outside Part.Plug)
         → SendsNothing result × Rose (P.faults plug.old) (P.faults plug.new) }

@@ -13,7 +13,7 @@ use Rattle.refusals.specs.Origins.{IsBeforeDial, is_of_words}
 use Rattle.refusals.specs.Refused.{IsRefusal, is_free, wants_memory}
 use Rattle.refusals.specs.Saying.{IsSaid}
 use Rattle.refusals.specs.declared.Refusal.{Refusal}
-use Rattle.service_attrs.specs.declared.Project.{Project}
+use Rattle.typed_project.specs.declared.project.Project.{Project}
 use Rattle.tree_base.specs.Answers.{Gives, Unless}
 
 -- a fact that follows from another one, of what may be there

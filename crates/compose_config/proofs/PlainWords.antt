@@ -4,7 +4,7 @@ use Rattle.std.specs.Prelude.{All, not}
 use Rattle.std.specs.List.{list_all}
 use Rattle.std.proofs.lemmas.List.Elements.{All-head, All-tail}
 use Rattle.compose_config.specs.Laws.{PlainPagesAreFiles, print_of, service_lines, text_word}
-use Rattle.service_attrs.specs.declared.Service.{Service}
+use Rattle.typed_project.specs.PlainProjects.{PlainService}
 use Rattle.project_print.specs.Scalars.{begins_plain, doubled, in_quotes, is_plain, is_plain_byte, is_word, means_more, scalar}
 use Rattle.compose_config.proofs.Lines.{pages}
 
@@ -37,7 +37,7 @@ plain_text text e =
     let word : is_word text ≡ true = (both (is_word text) (not (means_more text)) e).0 in
     ap scalar (undoubled text (both (begins_plain text) (list_all is_plain_byte text) word).1) ∙ plain_key text e
 
-all_plain : (services : List Service) → All (λ service. is_plain service.key ≡ true) services → All (λ service. is_plain service.image ≡ true) services
+all_plain : (services : List PlainService) → All (λ service. is_plain service.key ≡ true) services → All (λ service. is_plain service.image ≡ true) services
     → flat_map service_lines services ≡ flat_map print_of services
 all_plain [] names images = refl
 all_plain (service ∷ services) names images =

@@ -12,7 +12,7 @@ use Rattle.refusals.specs.Origins.{IsOfLoading, is_of_words}
 use Rattle.refusals.specs.Saying.{IsSaidIfAny}
 use Rattle.refusals.specs.declared.Part.{Part}
 use Rattle.refusals.specs.declared.Refusal.{Refusal}
-use Rattle.service_attrs.specs.declared.Project.{Project}
+use Rattle.typed_project.specs.declared.project.Project.{Project}
 
 -- an output to which nothing was written grew by nothing
 pub grew_by_nothing : (old : Option (List ℕ)) → GrewBy old [] old

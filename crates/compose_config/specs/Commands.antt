@@ -6,11 +6,11 @@ use Rattle.compose_words.specs.declared.Command.{Command}
 use Rattle.compose_words.specs.declared.Options.{Options}
 use Rattle.compose_words.specs.declared.WordsRefusal.{WordsRefusal}
 use Rattle.loaded_files.specs.declared.LoadRefusal.{LoadRefusal}
-use Rattle.project_print.specs.ProjectPages.{project_page}
+use Rattle.project_pages.specs.AttributePages.{page, page_json}
 use Rattle.outside_files.specs.Counts.{Rose}
 use Rattle.outside_files.specs.Files.{Contents}
 use Rattle.outside_files.specs.Sinks.{GrewBy}
-use Rattle.service_attrs.specs.declared.Project.{Project}
+use Rattle.typed_project.specs.declared.project.Project.{Project}
 use Rattle.refusals.specs.declared.Part.{Part}
 use Rattle.refusals.specs.declared.Refusal.{Refusal}
 
@@ -29,9 +29,18 @@ abbrev pub is_quiet : Command → Bool
 is_quiet (Command.Config json quiet) = quiet
 is_quiet _ = false
 
+-- the command prints JSON
+abbrev pub is_json : Command → Bool
+is_json (Command.Config json quiet) = json
+is_json _ = false
+
+-- the page of a project as a command prints it: as JSON, where this was asked for
+abbrev pub page_as : Command → Project → List ℕ
+page_as command project = if is_json command then page_json project else page project
+
 -- what a command prints of a project: its page, and nothing where `--quiet` was given
 abbrev pub page_for : Command → Project → List ℕ
-page_for command project = if is_quiet command then [] else project_page project
+page_for command project = if is_quiet command then [] else page_as command project
 
 -- what `config` prints of a project, where the words are built
 abbrev pub page_asked : Option Command → Project → List ℕ

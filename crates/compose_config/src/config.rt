@@ -1,13 +1,12 @@
-ghost use Rattle.std.specs.Prelude.{◌≡◌, ◌⊎◌, ◌<◌, ◌^◌, ◌↔◌, Err, None, Some, IfErr, IfSome, IsTrue, length};
+ghost use Rattle.std.specs.Prelude.{◌≡◌, ◌⊎◌, ◌<◌, ◌^◌, ◌↔◌, Err, None, Some, IfErr, IfOk, IfSome, IsTrue, length};
 ghost use Rattle.asked_project.specs.Asking.{command_of, options_asked};
 ghost use Rattle.asked_project.specs.Meaning.{IsFailedRead, meaning};
-ghost use Rattle.compose_config.specs.Commands.{ForProject, GrewByPrefix, IfLoads, IsConfigOrRefused, IsOfConfig, IsReadFault, OnlyOutsideFails, PrintsPage, is_quiet, page_asked, page_for};
+ghost use Rattle.compose_config.specs.Commands.{ForProject, GrewByPrefix, IfLoads, IsConfigOrRefused, IsOfConfig, IsReadFault, OnlyOutsideFails, PrintsPage, is_json, is_quiet, page_as, page_asked, page_for};
 ghost use Rattle.compose_words.specs.Reading.{options_of};
 ghost use Rattle.loaded_files.specs.declared.LoadRefusal.{LoadRefusal};
-ghost use Rattle.project_print.specs.ProjectPages.{project_page};
 ghost use Rattle.outside_files.specs.Counts.{Rose};
 ghost use Rattle.outside_files.specs.Sinks.{GrewBy};
-ghost use Rattle.service_attrs.specs.Projects.{IsInOrder};
+ghost use Rattle.typed_project.specs.DistinctNames.{IsKeyed};
 ghost use Rattle.refusals.specs.Origins.{IsOfLoading, is_of_words};
 ghost use Rattle.refusals.specs.Statuses.{status_of};
 ghost use Rattle.refusals.specs.declared.Part.{Part};
@@ -17,11 +16,11 @@ ghost use Rattle.refusals.specs.Saying.{IsSaid, IsSaidIfAny, SaysRefusal};
 
 use asked_project::{Asked, Command, project_asked};
 use outside_files::{Files, Sink, write_all};
-use project_print::page;
+use project_pages::{page, page_json};
 use refusals::{Part, Refusal, say_if_any, status_of};
-use service_attrs::Project;
 use std::alloc::Global;
-use tree_base::{Env, List, Text};
+use tree_base::{Env, List, Memory, Text};
+use typed_project::Project;
 
 /// What came of a call of `config`: the exit status, and what the call is refused with, None exactly at status 0.
 #[derive(Drop)]
@@ -34,7 +33,8 @@ pub struct ConfigEnd {
 ///
 /// The words have to be those of `config`, or of no command. The Compose files are those of `-f`, merged in their
 /// order, or else the default one of the project directory; their scalars take the values of the variables `env` and
-/// of env files. The page of their project is written to `out`, and nothing of it with `--quiet`; the line of a refusal
+/// of env files. The page of their project, or its JSON with `--format json`, is written to `out`, and
+/// nothing of it with `--quiet`; the line of a refusal
 /// is written to `err`.
 pub fn config_run<F: Files, O: Sink, G: Sink>(
     alloc: Global,
@@ -121,7 +121,7 @@ pub fn print_asked<O: Sink, G: Sink>(
     out: &mut O,
     err: &mut G,
 ) -> ConfigEnd
-    requires order { IsInOrder asked.now.project.services }
+    requires keyed { IsKeyed asked.now.project }
     ensures printed { PrintsPage (page_for asked.now.options.command asked.now.project)
         result.refusal
         (O.written out.old) (O.written out.new) (O.faults out.old) (O.faults out.new) }
@@ -136,14 +136,14 @@ pub fn print_asked<O: Sink, G: Sink>(
 
 /// Writes what a command prints of a project.
 fn write_asked<O: Sink>(alloc: Global, asked: &Asked, out: &mut O) -> Option<Refusal>
-    requires order { IsInOrder asked.now.project.services }
+    requires keyed { IsKeyed asked.now.project }
     ensures { PrintsPage (page_for asked.now.options.command asked.now.project) result
         (O.written out.old) (O.written out.new) (O.faults out.old) (O.faults out.new) }
 {
     if is_quiet(&asked.options.command) {
         None
     } else {
-        write_page(alloc, &asked.project, out)
+        write_page(alloc, &asked.options.command, &asked.project, out)
     }
 }
 
@@ -162,18 +162,50 @@ fn is_quiet(command: &Command) -> bool
     }
 }
 
-/// Writes the page of a project.
-fn write_page<O: Sink>(alloc: Global, project: &Project, out: &mut O) -> Option<Refusal>
-    requires order { IsInOrder project.now.services }
-    ensures { PrintsPage (project_page project.now) result
+/// Whether a command prints JSON. No memory.
+fn is_json(command: &Command) -> bool
+    ensures { result ≡ is_json command.now }
+{
+    match command {
+        Command::Config { json, .. } => *json,
+        Command::Up { .. } => false,
+        Command::Down { .. } => false,
+        Command::Simulate { .. } => false,
+        Command::Wait => false,
+        Command::Logs => false,
+        Command::EngineSim { .. } => false,
+    }
+}
+
+/// Writes the page of a project as a command prints it.
+fn write_page<O: Sink>(
+    alloc: Global,
+    command: &Command,
+    project: &Project,
+    out: &mut O,
+) -> Option<Refusal>
+    requires keyed { IsKeyed project.now }
+    ensures { PrintsPage (page_as command.now project.now) result
         (O.written out.old) (O.written out.new) (O.faults out.old) (O.faults out.new) }
 {
-    let Ok(page) = page(alloc, project) else {
+    let Ok(page) = page_as(alloc, command, project) else {
         return Some(Refusal::Memory);
     };
     if write_all(out, page.as_str().as_bytes()) {
         None
     } else {
         Some(Refusal::Outside(Part::Out))
+    }
+}
+
+/// The page of a project as a command prints it.
+fn page_as(alloc: Global, command: &Command, project: &Project) -> Result<Text, Memory>
+    requires keyed { IsKeyed project.now }
+    ensures { IfOk result (λ page. page ≡ page_as command.now project.now) }
+{
+    if is_json(command) {
+        page_json(alloc, project)
+    } else {
+        page(alloc, project)
     }
 }

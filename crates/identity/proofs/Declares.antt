@@ -10,10 +10,10 @@ use Rattle.engine_types.specs.declared.Attach.{Attach}
 use Rattle.engine_types.specs.declared.Declared.{Declared}
 use Rattle.engine_types.specs.declared.DeclaredService.{DeclaredService}
 use Rattle.engine_types.specs.declared.Slot.{Slot}
-use Rattle.identity.specs.Declaring.{config_hash, declared_of, service_of, slot_of}
-use Rattle.service_attrs.specs.Projects.{IsInOrder}
-use Rattle.service_attrs.specs.declared.Service.{Service}
-use Rattle.service_attrs.specs.declared.Project.{Project}
+use Rattle.identity.specs.Declaring.{config_hash, declared_of, image_of, service_of, slot_of}
+use Rattle.typed_project.specs.Projects.{IsInOrder}
+use Rattle.typed_project.specs.declared.service.Service.{Service}
+use Rattle.typed_project.specs.declared.project.Project.{Project}
 use Rattle.run_model.specs.EngineRules.{Among, endpoints_of, has_label}
 use Rattle.run_model.specs.Labels.{hash_for, is_of_slot}
 use Rattle.run_model.specs.Plans.{IsWhole, is_slot_before, network_name}
@@ -114,7 +114,7 @@ module _ (project : List ℕ) (service : Service) where
   own_labels = rw (same_text project, same_text service.key) refl
 
   pub own_hash : has_label (slot_of project service).spec.labels the.hash_label (hash_for (slot_of project service) (slot_of project service).spec.labels) ≡ true
-  own_hash = same_text (config_hash service.image)
+  own_hash = same_text (config_hash (image_of service))
 
   pub own_image : (slot_of project service).spec.image ≡ Some (slot_of project service).image
   own_image = refl

@@ -1,9 +1,10 @@
 -- What a project of services by their images declares: a slot for each, by the names and labels of Docker Compose.
-use Rattle.std.specs.Prelude.{ℕ, false, List, [], ◌∷◌, ◌++◌, Some, None, map, codes}
+use Rattle.std.specs.Prelude.{ℕ, false, List, [], ◌∷◌, ◌++◌, Some, None, map, codes, unwrap_or}
 use Rattle.sha2.specs.Sha256.{sha256}
 use Rattle.hex.specs.Hex.{encode_lower}
 use Rattle.json.specs.Print.{quoted}
 use Rattle.tree_base.specs.declared.Var.{Var}
+use Rattle.attribute_types.specs.Lookups.{text_at}
 use Rattle.engine_types.specs.Labels.{hash_label, not_oneoff, number_label, oneoff_label, project_label, service_label}
 use Rattle.engine_types.specs.Specs.{empty_spec}
 use Rattle.engine_types.specs.declared.Condition.{Condition}
@@ -12,8 +13,8 @@ use Rattle.engine_types.specs.declared.Declared.{Declared}
 use Rattle.engine_types.specs.declared.DeclaredService.{DeclaredService}
 use Rattle.engine_types.specs.declared.Policy.{Policy}
 use Rattle.engine_types.specs.declared.Slot.{Slot}
-use Rattle.service_attrs.specs.declared.Service.{Service}
-use Rattle.service_attrs.specs.declared.Project.{Project}
+use Rattle.typed_project.specs.declared.service.Service.{Service}
+use Rattle.typed_project.specs.declared.project.Project.{Project}
 
 -- a service's attributes as JSON (RFC 8259) without spaces, under the names of the Compose Specification
 abbrev pub attributes_text : List ℕ → List ℕ
@@ -27,10 +28,14 @@ config_hash image = encode_lower (sha256 (attributes_text image))
 abbrev pub container_name : List ℕ → Service → List ℕ
 container_name project service = project ++ codes "-" ++ service.key ++ codes "-1"
 
+-- the image of a service; a run is only of services that have one
+abbrev pub image_of : Service → List ℕ
+image_of service = unwrap_or (text_at service.attributes (codes "image")) []
+
 -- the labels of that container, in byte order of their names
 abbrev pub container_labels : List ℕ → Service → List Var
 container_labels project service =
-    record { name = hash_label; value = config_hash service.image }
+    record { name = hash_label; value = config_hash (image_of service) }
     ∷ record { name = number_label; value = codes "1" }
     ∷ record { name = oneoff_label; value = not_oneoff }
     ∷ record { name = project_label; value = project }
@@ -47,12 +52,12 @@ slot_of project service = record {
   service = service.key;
   number = 1;
   name = container_name project service;
-  image = service.image;
+  image = image_of service;
   policy = Policy.Missing;
   has_build = false;
-  hash = config_hash service.image;
-  old_hash = config_hash service.image;
-  spec = container_spec (container_labels project service) service.image;
+  hash = config_hash (image_of service);
+  old_hash = config_hash (image_of service);
+  spec = container_spec (container_labels project service) (image_of service);
   attach = [];
   needs = [];
   goal = Condition.Running;

@@ -1,12 +1,12 @@
 ghost use Rattle.std.specs.Prelude.{◌≡◌, ◌++◌, ◌∷◌, [], map, IfOk, OnOk};
-ghost use Rattle.identity.specs.Declaring.{config_hash, container_labels, container_name, declared_of, service_of, slot_of};
+ghost use Rattle.identity.specs.Declaring.{config_hash, container_labels, container_name, declared_of, image_of, service_of, slot_of};
 
 use crate::hash::config_hash;
 use crate::spec::container_spec;
 use engine_types::{Condition, Declared, DeclaredService, Pairs, Policy, Slot, labels};
-use service_attrs::{Project, Service};
 use std::alloc::Global;
 use tree_base::{Boxed, List, Memory, Text, Var};
+use typed_project::{Project, Service};
 
 /// The seconds that a stop waits before it kills, where no attribute says so.
 const STOP_SECONDS: u64 = 10;
@@ -61,23 +61,34 @@ fn service_of(alloc: Global, service: &Service) -> Result<DeclaredService, Memor
 fn slot_of(alloc: Global, project: &Text, service: &Service) -> Result<Slot, Memory>
     ensures { IfOk result (λ slot. slot ≡ slot_of project.now service.now) }
 {
-    let hash = config_hash(alloc, service.image.as_str())?;
+    let image = image_of(service);
+    let hash = config_hash(alloc, image)?;
     let labels = container_labels(alloc, project, service, &hash)?;
     Ok(Slot {
         service: service.key.copy(alloc)?,
         number: 1,
         name: container_name(alloc, project, service)?,
-        image: service.image.copy(alloc)?,
+        image: Text::from_str(alloc, image)?,
         policy: Policy::Missing,
         has_build: false,
         old_hash: hash.copy(alloc)?,
         hash,
-        spec: Boxed::new(alloc, container_spec(alloc, labels, &service.image)?)?,
+        spec: Boxed::new(alloc, container_spec(alloc, labels, image)?)?,
         attach: List::new(alloc),
         needs: List::new(alloc),
         goal: Condition::Running,
         stop_seconds: STOP_SECONDS,
     })
+}
+
+/// The image of a service, empty where it has none.
+fn image_of(service: &Service) -> &str
+    ensures { result.now ≡ image_of service.now }
+{
+    match service.image() {
+        Some(image) => image.as_str(),
+        None => "",
+    }
 }
 
 fn container_name(alloc: Global, project: &Text, service: &Service) -> Result<Text, Memory>
@@ -94,7 +105,7 @@ fn container_labels(
     service: &Service,
     hash: &Text,
 ) -> Result<Pairs, Memory>
-    requires { hash.now ≡ config_hash service.now.image }
+    requires { hash.now ≡ config_hash (image_of service.now) }
     ensures { IfOk result (λ labels. labels ≡ container_labels project.now service.now) }
 {
     let mut pairs = List::new(alloc);

@@ -9,11 +9,11 @@ use tree_base::{Memory, Text};
 pub(crate) fn container_spec(
     alloc: Global,
     labels: Pairs,
-    image: &Text,
+    image: &str,
 ) -> Result<ContainerSpec, Memory>
     ensures { IfOk result (λ spec. spec ≡ container_spec labels image.now) }
 {
-    let image = image.copy(alloc)?;
+    let image = Text::from_str(alloc, image)?;
     let network_mode = Text::from_str(alloc, "none")?;
     Ok(ContainerSpec {
         labels,

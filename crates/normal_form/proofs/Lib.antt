@@ -1,9 +1,3 @@
-pub mod EntryOrder
-pub mod KeptKeys
 pub mod Names
-pub mod NoneLost
-pub mod Opened
-pub mod Ordering
-pub mod ReadBack
-pub mod Shapes
+pub mod NamesGiven
 pub mod Walks

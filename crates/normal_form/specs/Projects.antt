@@ -10,10 +10,10 @@ use Rattle.tree_base.specs.declared.Step.TheVariants.{Key}
 use Rattle.tree_base.specs.declared.Tree.{Tree, out-Tree}
 use Rattle.tree_base.specs.declared.Tree.TheOpen.{Tree-F}
 use Rattle.normal_form.specs.ProjectNames.{base_name, is_name, name_from}
-use Rattle.normal_form.specs.Shape.{services_in}
 use Rattle.loading_words.specs.declared.TreeRefusal.{TreeRefusal}
 use Rattle.loading_words.specs.declared.ProjectRefusal.{ProjectRefusal}
-use Rattle.service_attrs.specs.declared.Project.{Project}
+use Rattle.project_meaning.specs.Meaning as meaning
+use Rattle.typed_project.specs.declared.project.Project.{Project}
 
 -- what a directory gives as a name, unless nothing is left of it
 abbrev pub named : List ℕ → Result (List ℕ) TreeRefusal
@@ -26,14 +26,14 @@ checked name =
     if is_name name then Ok name else Err (TreeRefusal.Name (ProjectRefusal.BadName name))
 
 -- the name has another form: it is neither null nor a scalar
-abbrev pub bad_shape : {X : Type 0} → Result X TreeRefusal
-bad_shape = Err (TreeRefusal.Project (ProjectRefusal.BadShape (Key (codes "name") ∷ [])))
+abbrev pub wrong_kind : {X : Type 0} → Result X TreeRefusal
+wrong_kind = Err (TreeRefusal.Project (ProjectRefusal.WrongKind (Key (codes "name") ∷ [])))
 
 -- the name of a project, by what stands at `name` in a directory with this base name (the top-level element `name`)
 abbrev pub name_by : List ℕ → Option (Tree-F Tree) → Result (List ℕ) TreeRefusal
 name_by base (Some (Tree-F.Scalar name)) = checked name
-name_by base (Some (Tree-F.Map entries)) = bad_shape
-name_by base (Some (Tree-F.Seq items)) = bad_shape
+name_by base (Some (Tree-F.Map entries)) = wrong_kind
+name_by base (Some (Tree-F.Seq items)) = wrong_kind
 name_by base found = named (name_from base)
 
 -- the name that a tree has, or else its directory
@@ -70,15 +70,10 @@ active_or_refused (Ok tree) = Ok tree
 active_or_refused (Err ActiveRefusal.Memory) = Err TreeRefusal.Memory
 active_or_refused (Err refusal) = Err (TreeRefusal.Active refusal)
 
--- the project of a tree under a name: what it declares
-abbrev pub project_under : Tree → List ℕ → Result Project TreeRefusal
-project_under tree name =
-    services_in tree >>= λ services. Ok (record { name = name; services = services })
-
 -- the project of the active services of a tree, under a name
 abbrev pub project_among : Profiles → Tree → List ℕ → Result Project TreeRefusal
 project_among profiles tree name =
-    active_or_refused (active profiles tree) >>= λ kept. project_under kept name
+    active_or_refused (active profiles tree) >>= meaning.project_of name
 
 -- the project of what was loaded, by the name of `-p` and by profiles: first its name, then its active services, then
 -- what these declare

@@ -1,19 +1,18 @@
-ghost use Rattle.std.specs.Prelude.{◌≡◌, Some, IfOk, codes};
+ghost use Rattle.std.specs.Prelude.{◌≡◌, ◌∷◌, [], Some, IfOk, codes};
+ghost use Rattle.tree_base.specs.declared.Step.TheVariants.{Key};
 ghost use Rattle.std.specs.List.{list_all};
 ghost use Rattle.std.specs.Option.{option_copied, option_map};
-ghost use Rattle.normal_form.specs.Answers.{Gives};
+ghost use Rattle.project_meaning.specs.Answers.{Gives};
 ghost use Rattle.normal_form.specs.ProjectNames.{base_name, begins_well, is_name, is_name_character, name_from};
-ghost use Rattle.normal_form.specs.Projects.{bad_shape, checked, filled, name_by, name_given, name_in, named, project_name};
+ghost use Rattle.normal_form.specs.Projects.{wrong_kind, checked, filled, name_by, name_given, name_in, named, project_name};
 ghost use Rattle.tree_base.specs.Entries.{value_at};
 ghost use Rattle.tree_base.specs.declared.Tree.{out-Tree};
 
 use crate::directory::{base_name, is_mark, is_name_character, name_from};
-use crate::entries::value_under;
-use crate::unbuilt::below_key;
 use loaded_files::Loaded;
 use loading_words::{ProjectRefusal, TreeRefusal};
 use std::alloc::Global;
-use tree_base::{Env, List, Map, Memory, Text, Tree};
+use tree_base::{Env, List, Map, Memory, Path, Step, Text, Tree};
 
 /// The name of the project of what was loaded: the one of the option `-p`, or else of the variable
 /// `COMPOSE_PROJECT_NAME`, where it isn't empty, or else the one that stands at `name`, or else the one that the
@@ -75,12 +74,11 @@ fn name_by(alloc: Global, directory: &Text, entries: &Map) -> Result<Text, TreeR
     ensures { Gives result (name_by (base_name directory.now)
         (option_map out-Tree (value_at entries.now (codes "name")))) }
 {
-    match value_under(alloc, entries, "name") {
-        Ok(Some(Tree::Scalar(name))) => checked(alloc, name),
-        Ok(Some(Tree::Map(_))) => bad_shape(alloc),
-        Ok(Some(Tree::Seq(_))) => bad_shape(alloc),
-        Ok(_) => of_directory(alloc, directory),
-        Err(Memory) => Err(TreeRefusal::Memory),
+    match entries.find("name") {
+        Some(Tree::Scalar(name)) => checked(alloc, name),
+        Some(Tree::Map(_)) => wrong_kind(alloc),
+        Some(Tree::Seq(_)) => wrong_kind(alloc),
+        _ => of_directory(alloc, directory),
     }
 }
 
@@ -146,11 +144,20 @@ fn begins_well(bytes: &[u8]) -> bool
 }
 
 /// What a name is refused with that is neither null nor a scalar.
-fn bad_shape(alloc: Global) -> Result<Text, TreeRefusal>
-    ensures { Gives result bad_shape }
+fn wrong_kind(alloc: Global) -> Result<Text, TreeRefusal>
+    ensures { Gives result wrong_kind }
 {
-    match below_key(alloc, "name", List::new(alloc)) {
-        Ok(path) => Err(TreeRefusal::Project(ProjectRefusal::BadShape { path })),
+    match name_path(alloc) {
+        Ok(path) => Err(TreeRefusal::Project(ProjectRefusal::WrongKind { path })),
         Err(Memory) => Err(TreeRefusal::Memory),
     }
+}
+
+/// The path of the name in the tree.
+fn name_path(alloc: Global) -> Result<Path, Memory>
+    ensures { IfOk result (λ path. path ≡ Key (codes "name") ∷ []) }
+{
+    let mut path = List::new(alloc);
+    path.push(Step::Key(Text::from_str(alloc, "name")?))?;
+    Ok(path)
 }

@@ -1,8 +1,11 @@
 pub mod Loads
+pub mod Meant
 pub mod Merging
+pub mod NoCircle
 pub mod Placing
 pub mod Plain
 pub mod Projects
+pub mod ReadBack
 pub mod Sizes
 pub mod Texts
 pub mod Values

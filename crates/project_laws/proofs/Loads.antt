@@ -26,8 +26,8 @@ use Rattle.interpolate.specs.Walking.{substituted_tree}
 use Rattle.interpolate.specs.declared.refusal.SubstTreeRefusal.{SubstTreeRefusal}
 use Rattle.merge_rules.specs.LongForms.{long_forms}
 use Rattle.merge_rules.specs.declared.refusal.MergeRefusal.{MergeRefusal}
-use Rattle.normal_form.proofs.ReadBack.{project_back}
-use Rattle.normal_form.specs.Laws.{tree_of_project}
+use Rattle.project_laws.proofs.ReadBack.{project_back}
+use Rattle.project_laws.specs.PlainTrees.{tree_of_project}
 use Rattle.normal_form.specs.Projects.{filled, name_given}
 use Rattle.outside_files.specs.Files.{Contents}
 use Rattle.project_laws.proofs.Merging.{is_within, page_alone, page_long}
@@ -35,8 +35,8 @@ use Rattle.project_laws.proofs.Placing.{page_paths, page_shaped}
 use Rattle.project_laws.proofs.Projects.{page_read, page_valued, value_of_project}
 use Rattle.project_laws.proofs.Sizes.{no_larger}
 use Rattle.project_laws.specs.Projects.{HasPage, IsReadable, ProjectPagesReadBack, plain_request}
-use Rattle.project_print.specs.ProjectPages.{node_of, project_page}
-use Rattle.service_attrs.specs.declared.Project.{Project}
+use Rattle.project_laws.specs.PlainNodes.{node_of, project_page}
+use Rattle.typed_project.specs.PlainProjects.{PlainProject}
 use Rattle.tree_base.specs.Entries.{HasDistinctKeys, value_at}
 use Rattle.tree_base.specs.Trees.{node_count, text_size}
 use Rattle.tree_base.specs.declared.Step.{Step}
@@ -45,21 +45,21 @@ use Rattle.tree_base.specs.declared.tree.Tree.TheVariants.{Null}
 use Rattle.yaml_lines.specs.declared.YamlRefusal.{YamlRefusal}
 
 -- the tree of a project is within the limits where that of its page is
-few_nodes : (project : Project) → IsReadable project → node_count (tree_of_project project) ≤ 200000
+few_nodes : (project : PlainProject) → IsReadable project → node_count (tree_of_project project) ≤ 200000
 few_nodes project is =
     let same = ap node_count (value_of_project project) in
     let nodes = (no_larger (node_of project)).nodes in
     let few = is.tree.nodes in
     omega (arith, same, nodes, few)
 
-short_text : (project : Project) → IsReadable project → text_size (tree_of_project project) ≤ 16777216
+short_text : (project : PlainProject) → IsReadable project → text_size (tree_of_project project) ≤ 16777216
 short_text project is =
     let same = ap text_size (value_of_project project) in
     let fewer = (no_larger (node_of project)).text in
     let short = is.tree.text in
     omega (arith, same, fewer, short)
 
-module _ (project : Project) (caller : Variables) (cwd : List ℕ) (held : Contents) (is : IsReadable project) (has : HasPage held (joined cwd []) project) where
+module _ (project : PlainProject) (caller : Variables) (cwd : List ℕ) (held : Contents) (is : IsReadable project) (has : HasPage held (joined cwd []) project) where
   abbrev directory : List ℕ
   directory = joined cwd []
 
@@ -185,4 +185,4 @@ unnamed caller distinct none = ap filled (wins [] caller distinct (codes "COMPOS
 pub page_back : ProjectPagesReadBack
 page_back profiles project caller cwd held is has distinct none =
     let what = loaded project caller cwd held is has in
-    (what, loaded_there project caller cwd held is has, project_back profiles what project refl (unnamed caller distinct none) is.named is.few is.order)
+    (what, loaded_there project caller cwd held is has, project_back profiles what project refl (unnamed caller distinct none) is.named is.few is.order is.are_keys)

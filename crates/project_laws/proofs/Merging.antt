@@ -21,12 +21,10 @@ use Rattle.merge_rules.specs.LongForms.{lengthened, long_forms, text_long, value
 use Rattle.merge_rules.specs.Overlay.{over_files}
 use Rattle.merge_rules.specs.Spots.{service_forms, services_forms}
 use Rattle.merge_rules.specs.declared.rules.Joining.{Joining}
-use Rattle.normal_form.specs.Laws.{entry_of, tree_of_project}
+use Rattle.project_laws.specs.PlainTrees.{entry_of, tree_of_project}
 use Rattle.project_laws.proofs.Placing.{attributes, elements}
 use Rattle.project_laws.proofs.Projects.{not_before_itself}
-use Rattle.service_attrs.specs.Projects.{IsInOrder}
-use Rattle.service_attrs.specs.declared.Project.{Project}
-use Rattle.service_attrs.specs.declared.Service.{Service}
+use Rattle.typed_project.specs.PlainProjects.{AreInOrder, PlainProject, PlainService}
 use Rattle.tree_base.specs.ByteOrder.{is_before}
 use Rattle.tree_base.specs.Trees.{node_count, text_size}
 use Rattle.tree_base.specs.declared.Step.TheVariants.{Key}
@@ -56,21 +54,21 @@ map_stays lines es keep =
     ∙ ap (λ (l : Entries). Ok (Map l)) (entries_whole es)
 
 -- an image and a network's mode have no short form
-service_long : (service : Service) → lengthened (Map (attributes service)) service_forms ≡ Ok (Map (attributes service))
+service_long : (service : PlainService) → lengthened (Map (attributes service)) service_forms ≡ Ok (Map (attributes service))
 unfolding short_rules services_forms service_forms
 service_long service =
     map_stays service_forms (attributes service)
     (scalar_long service.image (below_key (codes "image") service_forms), (scalar_long (codes "none") (below_key (codes "network_mode") service_forms), tt))
 
-services_keep : (services : List Service) → OfAll (Keeps services_forms) (map entry_of services)
+services_keep : (services : List PlainService) → OfAll (Keeps services_forms) (map entry_of services)
 unfolding short_rules services_forms service_forms
 services_keep [] = tt
 services_keep (service ∷ services) = (service_long service, services_keep services)
 
-services_long : (services : List Service) → lengthened (Map (map entry_of services)) services_forms ≡ Ok (Map (map entry_of services))
+services_long : (services : List PlainService) → lengthened (Map (map entry_of services)) services_forms ≡ Ok (Map (map entry_of services))
 services_long services = map_stays services_forms (map entry_of services) (services_keep services)
 
-project_long : (project : Project) → lengthened (tree_of_project project) short_rules ≡ Ok (tree_of_project project)
+project_long : (project : PlainProject) → lengthened (tree_of_project project) short_rules ≡ Ok (tree_of_project project)
 unfolding short_rules services_forms
 project_long project =
     map_stays short_rules (elements project) (scalar_long project.name (below_key (codes "name") short_rules), (services_long project.services, tt))
@@ -85,14 +83,14 @@ map_clean es = search (rules, the_lemmas)
 scalar_clean : (text : List ℕ) → no_mark (Scalar text) ≡ true
 scalar_clean text = search (rules, the_lemmas)
 
-service_clean : (service : Service) → no_mark (Map (attributes service)) ≡ true
+service_clean : (service : PlainService) → no_mark (Map (attributes service)) ≡ true
 service_clean service = map_clean (attributes service) ∙ rw (scalar_clean service.image, scalar_clean (codes "none")) refl
 
-services_clean : (services : List Service) → list_all (λ is. is) (values_of (cleans (map entry_of services))) ≡ true
+services_clean : (services : List PlainService) → list_all (λ is. is) (values_of (cleans (map entry_of services))) ≡ true
 services_clean [] = refl
 services_clean (service ∷ services) = rw (service_clean service) (services_clean services)
 
-project_clean : (project : Project) → no_mark (tree_of_project project) ≡ true
+project_clean : (project : PlainProject) → no_mark (tree_of_project project) ≡ true
 project_clean project = map_clean (elements project) ∙ rw (scalar_clean project.name, map_clean (map entry_of project.services), services_clean project.services) refl
 
 -- a mapping with keys of its own, by its values
@@ -105,7 +103,7 @@ map_own es = search (rules, the_lemmas)
 scalar_own : (text : List ℕ) → own_keys (Scalar text) ≡ true
 scalar_own text = search (rules, the_lemmas)
 
-service_own : (service : Service) → own_keys (Map (attributes service)) ≡ true
+service_own : (service : PlainService) → own_keys (Map (attributes service)) ≡ true
 service_own service = map_own (attributes service) ∙ rw (scalar_own service.image, scalar_own (codes "none")) refl
 
 -- what another is before differs from it
@@ -116,14 +114,14 @@ differs one other before = by (bytes_eq other one) refl
     by true e = let same = (bytes_eq-Decides other one).0 e in absurd (true≢false (sym before ∙ ap (is_before one) same ∙ not_before_itself one))
     by false e = refl
 
-none_same : (key : List ℕ) (services : List Service) → ((at : ℕ) (other : Service) → slice_get services at ≡ Some other → is_before key other.key ≡ true)
+none_same : (key : List ℕ) (services : List PlainService) → ((at : ℕ) (other : PlainService) → slice_get services at ≡ Some other → is_before key other.key ≡ true)
     → list_any (λ other. bytes_eq other key) (keys_of (owns (map entry_of services))) ≡ false
 none_same key [] before = refl
 none_same key (service ∷ services) before =
     rw (differs key service.key (before 0 service refl)) (none_same key services (λ at other e. before (suc at) other e))
 
 -- services in order have different keys
-services_own : (services : List Service) → IsInOrder services → (are_apart (keys_of (owns (map entry_of services))) ≡ true) × (list_all (λ is. is) (values_of (owns (map entry_of services))) ≡ true)
+services_own : (services : List PlainService) → AreInOrder services → (are_apart (keys_of (owns (map entry_of services))) ≡ true) × (list_all (λ is. is) (values_of (owns (map entry_of services))) ≡ true)
 services_own [] order = (refl, refl)
 services_own (service ∷ services) order =
     let more = services_own services (λ i j one other less e f. order (suc i) (suc j) one other (omega (arith, less)) e f) in (
@@ -131,7 +129,7 @@ services_own (service ∷ services) order =
       rw (service_own service) more.1,
     )
 
-project_own : (project : Project) → IsInOrder project.services → own_keys (tree_of_project project) ≡ true
+project_own : (project : PlainProject) → AreInOrder project.services → own_keys (tree_of_project project) ≡ true
 project_own project order =
     let services = services_own project.services order in
     map_own (elements project) ∙ rw (scalar_own project.name, map_own (map entry_of project.services), services.0, services.1) refl
@@ -141,14 +139,14 @@ module _ (name : List ℕ) (more : Pattern) (no_image : bytes_eq name (codes "im
   abbrev below : List ℕ × Tree → List Tree
   below entry = cond (bytes_eq name entry.0) (led_to more entry.1) []
 
-  in_service : (service : Service) → led_to (named name ∷ more) (Map (attributes service)) ≡ []
+  in_service : (service : PlainService) → led_to (named name ∷ more) (Map (attributes service)) ≡ []
   in_service service = ap (λ (tree : Tree-F Tree). flat_map below (entries_in tree)) (outs-Map (attributes service)) ∙ rw (no_image, no_mode) refl
 
-  in_services : (services : List Service) → flat_map (λ (entry : List ℕ × Tree). led_to (named name ∷ more) entry.1) (map entry_of services) ≡ []
+  in_services : (services : List PlainService) → flat_map (λ (entry : List ℕ × Tree). led_to (named name ∷ more) entry.1) (map entry_of services) ≡ []
   in_services [] = refl
   in_services (service ∷ services) = rw (in_service service) (in_services services)
 
-  leads_nowhere : (project : Project) → led_to (named (codes "services") ∷ any_key ∷ named name ∷ more) (tree_of_project project) ≡ []
+  leads_nowhere : (project : PlainProject) → led_to (named (codes "services") ∷ any_key ∷ named name ∷ more) (tree_of_project project) ≡ []
   leads_nowhere project =
       let services : Entries = map entry_of project.services in
       ap (λ (tree : Tree-F Tree). flat_map (λ (entry : List ℕ × Tree). cond (bytes_eq (codes "services") entry.0) (led_to (any_key ∷ named name ∷ more) entry.1) []) (entries_in tree)) (outs-Map (elements project))
@@ -160,7 +158,7 @@ alone : (tree : Tree) (lines : JoiningRules) → OfAll (λ (line : Pattern × Jo
 alone tree [] nowhere = refl
 alone tree (line ∷ lines) nowhere = rw nowhere.0 (alone tree lines nowhere.1)
 
-project_alone : (project : Project) → no_twins overlay_rules (tree_of_project project) ≡ true
+project_alone : (project : PlainProject) → no_twins overlay_rules (tree_of_project project) ≡ true
 unfolding overlay_rules
 project_alone project =
     alone (tree_of_project project) overlay_rules (
@@ -174,7 +172,7 @@ project_alone project =
       ),
     )
 
-module _ (project : Project) (nodes : node_count (tree_of_project project) ≤ 200000) (text : text_size (tree_of_project project) ≤ 16777216) where
+module _ (project : PlainProject) (nodes : node_count (tree_of_project project) ≤ 200000) (text : text_size (tree_of_project project) ≤ 16777216) where
   pub is_within : within (tree_of_project project) ≡ Ok (tree_of_project project)
   is_within = rw (le-leb (node_count (tree_of_project project)) 200000 nodes, le-leb (text_size (tree_of_project project)) 16777216 text) refl
 
@@ -182,5 +180,5 @@ module _ (project : Project) (nodes : node_count (tree_of_project project) ≤ 2
   unfolding long_forms
   page_long = goes_on (lengthened (tree_of_project project) short_rules) within (tree_of_project project) (project_long project) ∙ is_within
 
-  pub page_alone : IsInOrder project.services → over_files Null (tree_of_project project) ≡ Ok (tree_of_project project)
+  pub page_alone : AreInOrder project.services → over_files Null (tree_of_project project) ≡ Ok (tree_of_project project)
   page_alone order = files_stand (tree_of_project project) (project_clean project) (project_own project order) (project_alone project) ∙ is_within

@@ -2,14 +2,13 @@
 use Rattle.std.proofs.Common.{◌≡◌, Bool, true, false, cond, List, [], ◌∷◌, Some, inr, map, refl, sym}
 use Rattle.std.specs.Str.{bytes_eq}
 use Rattle.include_extends.specs.Laws.{ArePlainServices, IsPlain, IsPlainService}
-use Rattle.normal_form.specs.Laws.{entry_of, tree_of_project}
+use Rattle.project_laws.specs.PlainTrees.{entry_of, tree_of_project}
 use Rattle.project_laws.proofs.Placing.{attributes, elements}
-use Rattle.service_attrs.specs.declared.Project.{Project}
-use Rattle.service_attrs.specs.declared.Service.{Service}
+use Rattle.typed_project.specs.PlainProjects.{PlainProject, PlainService}
 use Rattle.tree_base.specs.Entries.{value_at}
 use Rattle.tree_base.specs.declared.tree.Tree.TheVariants.{Map}
 
-services_plain : (services : List Service) → ArePlainServices (map entry_of services)
+services_plain : (services : List PlainService) → ArePlainServices (map entry_of services)
 services_plain [] name tree h = absurd cc
 services_plain (service ∷ more) name tree h = by (services_plain more name tree) (bytes_eq name service.key) h
   where
@@ -17,5 +16,5 @@ services_plain (service ∷ more) name tree h = by (services_plain more name tre
     by rest true p = (attributes service, (let same : Map (attributes service) ≡ tree = cc in sym same), refl, refl, refl)
     by rest false p = rest p
 
-pub page_plain : (project : Project) → IsPlain (tree_of_project project)
+pub page_plain : (project : PlainProject) → IsPlain (tree_of_project project)
 page_plain project = inr (elements project, refl, refl, inr (inr (map entry_of project.services, refl, services_plain project.services)))

@@ -3,7 +3,7 @@ use Rattle.std.proofs.Common.{◌≡◌, ◌∙◌, ◌≤◌, ◌+◌, ℕ, Lis
 use Rattle.std.proofs.lemmas.List.Sums.{sum_by-cons}
 use Rattle.project_laws.proofs.Texts.{is_longer}
 use Rattle.project_laws.proofs.Values.{tree_entry, tree_map, tree_null, tree_seq, tree_text, tree_word, value_entry, value_map, value_null, value_seq, value_text, value_word}
-use Rattle.project_laws.specs.Values.{value_of}
+use Rattle.project_print.specs.Values.{value_of}
 use Rattle.project_print.specs.Scalars.{doubled}
 use Rattle.project_print.specs.declared.node.Node.{Node}
 use Rattle.project_print.specs.declared.node.Node.TheVariants.{Map, Null, Seq, Text, Word}

@@ -13,7 +13,7 @@ use Rattle.interpolate.specs.declared.refusal.SubstRefusal.{SubstRefusal}
 use Rattle.interpolate.specs.declared.refusal.SubstTreeRefusal.{SubstTreeRefusal}
 use Rattle.project_laws.proofs.Texts.{is_longer, text_value, word_value}
 use Rattle.project_laws.specs.Laws.{PagesGiveValues}
-use Rattle.project_laws.specs.Values.{value_of}
+use Rattle.project_print.specs.Values.{value_of}
 use Rattle.project_print.specs.Scalars.{doubled, is_plain_byte}
 use Rattle.project_print.specs.declared.node.Node as nodes
 use Rattle.project_print.specs.declared.node.Node.{Node}

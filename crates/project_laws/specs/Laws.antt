@@ -2,7 +2,7 @@
 use Rattle.std.specs.Prelude.{◌≡◌, ℕ, Ok, true}
 use Rattle.interpolate.specs.Substitution.{Variables}
 use Rattle.interpolate.specs.Walking.{substituted_tree}
-use Rattle.project_laws.specs.Values.{value_of}
+use Rattle.project_print.specs.Values.{value_of}
 use Rattle.project_print.specs.Pages.{page_text}
 use Rattle.project_print.specs.declared.node.Node.{Node}
 use Rattle.tree_base.specs.declared.tree.Tree.{Tree}

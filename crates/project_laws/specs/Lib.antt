@@ -1,3 +1,4 @@
 pub mod Laws
+pub mod PlainNodes
+pub mod PlainTrees
 pub mod Projects
-pub mod Values

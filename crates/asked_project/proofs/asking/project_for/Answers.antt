@@ -3,11 +3,11 @@ use Rattle.std.specs.Prelude.{IfErr, IfOk, IfSome, IsTrue, Result}
 use Rattle.asked_project.specs.Meaning.{IsLoaded}
 use Rattle.asked_project.specs.Parts.{MeansFor}
 use Rattle.asked_project.specs.declared.asking.Asked.{Asked}
-use Rattle.asked_project.proofs.Answered.{is_loaded, load_no_words, loads_project, loads_read, loads_refused, with_kind, with_no_read, with_no_words, with_options, with_order}
+use Rattle.asked_project.proofs.Answered.{is_loaded, load_no_words, loads_project, loads_read, loads_refused, with_kind, with_no_read, with_no_words, with_options, with_keyed}
 use Rattle.loaded_files.specs.declared.LoadRefusal.{LoadRefusal}
 use Rattle.refusals.specs.Origins.{IsBeforeDial, is_of_words}
 use Rattle.refusals.specs.declared.Refusal.{Refusal}
-use Rattle.service_attrs.specs.Projects.{IsInOrder}
+use Rattle.typed_project.specs.DistinctNames.{IsKeyed}
 use Rattle.asked_project.proofs.asking.project_for.Goals as goal
 
 pub returns-in-Ok-clause-told : goal.returns-in-Ok-clause-told
@@ -26,8 +26,8 @@ returns-in-Ok-clause-text g c =
     subst (λ (r : Result Asked Refusal). IfOk r (λ asked. IsLoaded c.args.options c.args.env.now c.args.cwd.now (g.F.Files.told c.args.files.now) asked.project)) (sym c.asked_with.ensures)
     (is_loaded c.args.options c.args.env.now c.args.cwd.now (g.F.Files.told c.args.files.now) c.in-Ok.loaded c.project_loaded-project.result c.in-Ok.ensures.given c.project_loaded-project.ensures.told)
 
-pub returns-in-Ok-clause-order : goal.returns-in-Ok-clause-order
-returns-in-Ok-clause-order g c = subst (λ (r : Result Asked Refusal). IfOk r (λ asked. IsInOrder asked.project.services)) (sym c.asked_with.ensures) (with_order c.args.options c.project_loaded-project.result c.project_loaded-project.ensures.order)
+pub returns-in-Ok-clause-keyed : goal.returns-in-Ok-clause-keyed
+returns-in-Ok-clause-keyed g c = subst (λ (r : Result Asked Refusal). IfOk r (λ asked. IsKeyed asked.project)) (sym c.asked_with.ensures) (with_keyed c.args.options c.project_loaded-project.result c.project_loaded-project.ensures.keyed)
 
 pub returns-in-Ok-clause-kind : goal.returns-in-Ok-clause-kind
 returns-in-Ok-clause-kind g c = subst (λ (r : Result Asked Refusal). IfErr r IsBeforeDial) (sym c.asked_with.ensures) (with_kind c.args.options c.project_loaded-project.result c.project_loaded-project.ensures.kind)

@@ -13,7 +13,7 @@ pub run_declared-requires-clause-own : goal.run_declared-requires-clause-own
 run_declared-requires-clause-own g c = subst HasOwnSpecs (sym c.in-Ok.ensures) (declares_own c.args.project.now)
 
 pub run_declared-requires-clause-whole : goal.run_declared-requires-clause-whole
-run_declared-requires-clause-whole g c = subst IsWhole (sym c.in-Ok.ensures) (declares_whole c.args.project.now c.requires.order)
+run_declared-requires-clause-whole g c = subst IsWhole (sym c.in-Ok.ensures) (declares_whole c.args.project.now c.requires.keyed.order.services)
 
 pub run_declared-requires-clause-unconditional : goal.run_declared-requires-clause-unconditional
 run_declared-requires-clause-unconditional g c = subst WaitsForNone (sym c.in-Ok.ensures) (needs_no_slot c.args.project.now)

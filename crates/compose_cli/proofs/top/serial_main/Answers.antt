@@ -4,7 +4,7 @@ use Rattle.asked_project.specs.Meaning.{meaning}
 use Rattle.compose_config.proofs.Loads.{IfSome-map, before_kind, before_no_outside, command_is, for_project, if_loads, means_unrefused, no_words_refused, only_outside, said_exactly, said_read, said_words}
 use Rattle.compose_config.proofs.Printed.{asked_prefix, asked_whole, page_complete, page_fault, page_kept, page_kind, page_no_loading, page_no_plug, page_no_read, page_no_words}
 use Rattle.compose_config.specs.Commands.{GrewByPrefix, IsReadFault, page_asked, page_for}
-use Rattle.compose_cli.proofs.Ending.{before_unbegun, beside, if_runs, no_config, no_words, only_reads, refused_with}
+use Rattle.compose_cli.proofs.Ending.{before_unbegun, beside, counts_none, if_runs, no_config, no_words, only_reads, refused_with}
 use Rattle.compose_cli.proofs.Ran.{asked, for_task, has_begun, idle, if_begun, said_not_zero, status_by, unasked}
 use Rattle.compose_cli.specs.Runs.{HoldsExactly, HoldsNone, IsCausedAnew, IsRefusalOf, IsStatusOf, LeadsOn, Reports, first_reading, task_for}
 use Rattle.outside_api.specs.Accounts.{account}
@@ -218,3 +218,6 @@ returns-clause-quiet_unbegun g c = if_runs c.args.words.now c.args.env.now _ (λ
 
 pub returns-in-Some-clause-config : goal.returns-in-Some-clause-config
 returns-in-Some-clause-config g c = λ none. let bad : Some (aim_of c.in-Some.aim) ≡ None = sym (asked c.args.words.now c.args.env.now c.in-Ok.asked.options.command c.aim_for.result c.in-Some.aim (command_is c.args.words.now c.args.env.now c.in-Ok.asked.options c.in-Ok.ensures.options) c.aim_for.ensures c.in-Some.is) ∙ none in absurd (cc bad)
+
+pub returns-in-Ok-clause-dialled : goal.returns-in-Ok-clause-dialled
+returns-in-Ok-clause-dialled g c = counts_none (g.P.Plug.dialled c.args.plug.now) c.without_hands.result c.without_hands.ensures.nothing

@@ -1,4 +1,4 @@
-use Rattle.normal_form.proofs.ReadBack.{given_wins}
+use Rattle.normal_form.proofs.NamesGiven.{given_wins}
 use Rattle.normal_form.proofs.laws.given_names_win.Goals as goal
 
 pub returns : goal.returns
