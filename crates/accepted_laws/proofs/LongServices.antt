@@ -1,6 +1,6 @@
 -- A service that is accepted is in long forms.
-use Rattle.std.proofs.Common.{◌≡◌, ◌∙◌, ◌⊎◌, ℕ, ◌+◌, Bool, true, false, cond, not, List, [], ◌∷◌, ◌++◌, Some, None, Ok, Err, codes, map, inl, inr, refl, sym, ap, subst, rules}
-use Rattle.std.specs.Prelude.{Option, Result, ◌&&◌, ◌||◌, All, find}
+use Rattle.std.proofs.Common.{◌≡◌, ◌∙◌, ◌⊎◌, ℕ, ◌+◌, Bool, true, false, cond, not, List, [], ◌∷◌, ◌++◌, Some, None, Ok, codes, inl, inr, refl, sym, ap, subst, rules}
+use Rattle.std.specs.Prelude.{Option, ◌&&◌, ◌||◌, All, find}
 use Rattle.std.specs.List.{list_all, zip}
 use Rattle.std.specs.Map.{keys_of, values_of}
 use Rattle.std.specs.Option.{option_map, option_or}
@@ -18,24 +18,21 @@ use Rattle.attribute_paths.proofs.Trees.{OfAll}
 use Rattle.attribute_paths.specs.Patterns.{Pattern, any_item, any_key, below_key, here, named}
 use Rattle.attribute_types.specs.Tables.{Lines, form_of, host_lines, joining_lines, line_of, process_lines, resource_lines, running_lines}
 use Rattle.attribute_types.specs.declared.attribute.Attribute.{Attribute}
-use Rattle.attribute_types.specs.declared.attribute.Value.{Value}
 use Rattle.attribute_types.specs.declared.form.Form.{Form}
-use Rattle.attribute_scalars.specs.Walks.{Entries, Read, in_byte_order, is_extension, is_in, own_entries, with_wanting}
+use Rattle.attribute_scalars.specs.Walks.{Entries, is_extension, is_in, own_entries, with_wanting}
 use Rattle.attribute_values.specs.Fields as fields
 use Rattle.attribute_rows.specs.Attributes.{attribute_by, attribute_under, form_value, wanted_of_service}
 use Rattle.file_paths.specs.Shapes.{is_mapping, is_scalar, mapping_of, or_null, sequence_of}
-use Rattle.merge_rules.specs.declared.refusal.MergeRefusal.{MergeRefusal}
 use Rattle.merge_rules.specs.declared.rules.ShortForm.{ShortForm}
 use Rattle.merge_rules.specs.declared.rules.ShortForm.TheVariants as shorts
-use Rattle.merge_rules.specs.declared.rules.EntryForm.{EntryForm}
 use Rattle.merge_rules.specs.Answers.{under}
 use Rattle.merge_rules.specs.Attributes.{ShortRules, short_rules}
-use Rattle.merge_rules.specs.LongForms.{Made, entries_for, entries_from, entries_long, entries_with, lengthened, list_long, made_by, text_long, values_long}
+use Rattle.merge_rules.specs.LongForms.{Made, entries_for, entries_from, entries_with, lengthened, list_long, made_by, text_long, values_long}
 use Rattle.merge_rules.specs.Spots.{service_forms, services_forms}
 use Rattle.merge_rules.specs.Uniqueness.{text_in}
 use Rattle.merge_rules.proofs.Answering.{goes_on}
 use Rattle.merge_rules.proofs.Lengthening.{entries_whole, map_long, parts, seq_long, stays, values_go}
-use Rattle.accepted_laws.proofs.Entering.{IsRead, each_read, of_all, of_own, sorted_read, unwanted, weaker}
+use Rattle.accepted_laws.proofs.Entering.{IsRead, of_all, of_own, sorted_read, unwanted, weaker}
 use Rattle.accepted_laws.proofs.Looks.{Kind, a_check, a_mapping, a_text, anything, bound, form_kind, form_looks, is_checked, looks, maps, pairs, rows, texts}
 use Rattle.accepted_laws.specs.Accepted.{AcceptedServicesAreLong, IsLongIfLoose, little_asked}
 
@@ -80,7 +77,7 @@ is_none [] = true
 is_none (line ∷ lines) = false
 
 -- lines under which a tree that looks so is in its long form
-abbrev agrees : Kind → ShortRules → Bool
+abbrev pub agrees : Kind → ShortRules → Bool
 agrees a_text lines = keeps_text (here lines)
 agrees texts lines = keeps_texts (here lines)
 agrees maps lines = keeps_maps (here lines)
@@ -90,23 +87,23 @@ agrees a_mapping lines = all_end lines
 agrees a_check lines = of_check lines
 agrees anything lines = is_none lines
 
-abbrev IsLong : ShortRules → Tree → Type 0
+abbrev pub IsLong : ShortRules → Tree → Type 0
 IsLong lines tree = lengthened tree lines ≡ Ok tree
 
 -- trees by what they open to
-null_out : (tree : Tree) → out-Tree tree ≡ Tree-F.Null → tree ≡ Null
+pub null_out : (tree : Tree) → out-Tree tree ≡ Tree-F.Null → tree ≡ Null
 null_out tree is = sym (roll-out-Tree tree) ∙ ap roll-Tree is ∙ rolls-Null
 
 scalar_out : (tree : Tree) (text : List ℕ) → out-Tree tree ≡ Tree-F.Scalar text → tree ≡ Scalar text
 scalar_out tree text is = sym (roll-out-Tree tree) ∙ ap roll-Tree is ∙ rolls-Scalar text
 
-map_out : (tree : Tree) (es : Entries) → out-Tree tree ≡ Tree-F.Map es → tree ≡ Map es
+pub map_out : (tree : Tree) (es : Entries) → out-Tree tree ≡ Tree-F.Map es → tree ≡ Map es
 map_out tree es is = sym (roll-out-Tree tree) ∙ ap roll-Tree is ∙ rolls-Map es
 
 seq_out : (tree : Tree) (items : List Tree) → out-Tree tree ≡ Tree-F.Seq items → tree ≡ Seq items
 seq_out tree items is = sym (roll-out-Tree tree) ∙ ap roll-Tree is ∙ rolls-Seq items
 
-null_long : (lines : ShortRules) → IsLong lines Null
+pub null_long : (lines : ShortRules) → IsLong lines Null
 null_long lines = search (rules, the_lemmas)
 
 scalar_opens : (text : List ℕ) (lines : ShortRules) → lengthened (Scalar text) lines ≡ Ok (text_long (here lines) text)
@@ -162,7 +159,7 @@ maps_stay (Some shorts.Test) items e h = refl
 maps_stay (Some shorts.Words) items e h = refl
 
 -- a mapping of values that are in their long forms
-abbrev Keeps : ShortRules → List ℕ × Tree → Type 0
+abbrev pub Keeps : ShortRules → List ℕ × Tree → Type 0
 Keeps lines entry = lengthened entry.1 (below_key entry.0 lines) ≡ Ok entry.1
 
 values_stay : (lines : ShortRules) (es : Entries) (done : List Tree) → OfAll (Keeps lines) es → values_long lines done (parts es) ≡ Ok (done ++ values_of es)
@@ -275,7 +272,7 @@ as_anything : (lines : ShortRules) (tree : Tree) → is_none lines ≡ true → 
 as_anything [] tree e = stays tree
 as_anything (line ∷ lines) tree e = absurd (cc e)
 
-looks_long : (kind : Kind) (lines : ShortRules) (tree : Tree) → agrees kind lines ≡ true → or_null (looks kind) (out-Tree tree) ≡ true → IsLong lines tree
+pub looks_long : (kind : Kind) (lines : ShortRules) (tree : Tree) → agrees kind lines ≡ true → or_null (looks kind) (out-Tree tree) ≡ true → IsLong lines tree
 looks_long a_text lines tree a e = as_text lines tree (out-Tree tree) refl a e
 looks_long texts lines tree a e = as_texts lines tree (out-Tree tree) refl a e
 looks_long maps lines tree a e = as_maps lines tree (out-Tree tree) refl a e
@@ -345,13 +342,13 @@ form_fits name form e =
     ]
 
 -- no line goes on at a key that extends a file
-abbrev is_named : Pattern → Bool
+abbrev pub is_named : Pattern → Bool
 is_named [] = true
 is_named (named name ∷ more) = not (is_extension name)
 is_named (any_key ∷ more) = false
 is_named (any_item ∷ more) = true
 
-none_extends : (lines : ShortRules) (key : List ℕ) → is_extension key ≡ true → list_all (λ line. is_named line.0) lines ≡ true → below_key key lines ≡ []
+pub none_extends : (lines : ShortRules) (key : List ℕ) → is_extension key ≡ true → list_all (λ line. is_named line.0) lines ≡ true → below_key key lines ≡ []
 none_extends [] key ext e = refl
 none_extends (([], form) ∷ lines) key ext e = none_extends lines key ext e
 none_extends ((named name ∷ more, form) ∷ lines) key ext e =

@@ -1,6 +1,6 @@
 -- How a tree looks that a form accepts.
-use Rattle.std.proofs.Common.{◌≡◌, ◌∙◌, ℕ, ◌+◌, Bool, true, false, List, [], ◌∷◌, ◌++◌, Some, None, Ok, Err, codes, not, map, refl, sym, ap, subst}
-use Rattle.std.specs.Prelude.{Option, ◌&&◌, ◌||◌}
+use Rattle.std.proofs.Common.{◌≡◌, ◌∙◌, ℕ, ◌+◌, Bool, true, false, List, [], ◌∷◌, Some, None, Ok, Err, codes, not, map, refl, sym, ap}
+use Rattle.std.specs.Prelude.{Option, ◌||◌}
 use Rattle.std.specs.List.{list_all, zip}
 use Rattle.std.specs.Map.{keys_of, values_of}
 use Rattle.std.specs.Option.{ok_or, option_and_then, option_map}
@@ -12,8 +12,8 @@ use Rattle.tree_base.specs.declared.tree.Tree.{Tree, out-Tree}
 use Rattle.tree_base.specs.declared.tree.Tree.TheOpen.{Tree-F}
 use Rattle.file_paths.specs.Shapes.{is_mapping, is_null, is_scalar, mapping_of, or_null, sequence_of}
 use Rattle.attribute_paths.proofs.Trees.{OfAll}
-use Rattle.attribute_types.specs.Answers.{refused, under}
-use Rattle.attribute_types.specs.Tables.{dependency_lines, file_use_lines, health_lines, line_of, logging_lines, network_use_lines}
+use Rattle.attribute_types.specs.Answers.{under}
+use Rattle.attribute_types.specs.Tables.{health_lines, line_of, logging_lines}
 use Rattle.attribute_types.specs.declared.attribute.Attribute.{Attribute}
 use Rattle.attribute_types.specs.declared.attribute.Value.{Value}
 use Rattle.attribute_types.specs.declared.form.Form.{Form}
@@ -22,20 +22,20 @@ use Rattle.attribute_types.specs.declared.form.Row.{Row}
 use Rattle.attribute_types.specs.declared.form.WordSet.TheVariants as words
 use Rattle.attribute_types.specs.declared.refusal.AttributeRefusal.TheVariants.{At}
 use Rattle.attribute_types.specs.declared.refusal.Fault.{Fault}
-use Rattle.attribute_scalars.specs.Lists.{as_test, all_passing, collected, mapping_in, nullable_in, pairs_from, pairs_of, text_in, texts_of, labelled, if_any}
+use Rattle.attribute_scalars.specs.Lists.{as_test, all_passing, collected, mapping_in, nullable_in, pairs_of, text_in, texts_of, labelled, if_any}
 use Rattle.attribute_scalars.specs.Scalars.{accepted, bool_of, has_no_colon, has_form, if_passes, int_of, is_word_of, num_of, text_of, written}
-use Rattle.attribute_scalars.specs.Walks.{Entries, Read, each_entry, each_item, in_byte_order, is_in, place, with_wanting}
-use Rattle.attribute_values.specs.Fields.{absence, field_by, field_of, fields_of, named, unless_null}
+use Rattle.attribute_scalars.specs.Walks.{Entries, Read, each_entry, each_item, in_byte_order, place}
+use Rattle.attribute_values.specs.Fields.{field_by, field_of, fields_of, named, unless_null}
 use Rattle.attribute_values.specs.Forms.{deploy_option, deployed, entries_of, external_among, flag, has_networks, if_right, items_of, kept, kept_if_any, labels_of, plain_value, scale_among, source_among, test_of}
-use Rattle.attribute_rows.specs.Attributes.{attribute_by, form_value}
-use Rattle.attribute_rows.specs.Rows.{dependency_from, dependency_of, entries_in, file_use_of, health_from, health_of, in_mapping, items_in, keyed, listed, logging_from, logging_of, mount_of, network_use_of, of_configs, of_secrets, port_of, row_value, ulimit_of}
+use Rattle.attribute_rows.specs.Attributes.{form_value}
+use Rattle.attribute_rows.specs.Rows.{dependency_of, file_use_of, health_from, health_of, in_mapping, keyed, listed, logging_from, mount_of, network_use_of, of_configs, of_secrets, port_of, row_value, ulimit_of}
 use Rattle.short_forms.specs.Decimals.{decimal_of}
 use Rattle.short_forms.specs.Durations.{duration_of}
 use Rattle.short_forms.specs.Sizes.{size_of}
 use Rattle.short_forms.specs.PortLaws.{published_in, target_in}
 use Rattle.attribute_types.specs.declared.rows.Dependency.{Dependency}
 use Rattle.attribute_types.specs.declared.rows.NetworkUse.{NetworkUse}
-use Rattle.accepted_laws.proofs.Entering.{IsRead, sorted_read, to_all, unsorted, unwanted, weaker}
+use Rattle.accepted_laws.proofs.Entering.{IsRead, sorted_read, to_all, unsorted, weaker}
 
 -- what was given in one step after another
 pub bound : {A B : Type 0} (r : Read A) (next : A → Read B) (b : B) → (r >>= next) ≡ Ok b → (a : A) × (r ≡ Ok a) × (next a ≡ Ok b)
