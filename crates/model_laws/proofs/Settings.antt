@@ -87,8 +87,8 @@ module _ (env : Variables) (left : ℕ) where
         ap (λ (o : Option Tree). files_read env (option_map_or (λ tree. env_items (out-Tree tree)) o []) [] left >>= λ got. give (with_values entries (settings_over env (entries_at (codes "environment") entries) got.0), got.1)) none
 
     one_set : IsSet (value_at entries (codes "environment")) → with_environment env entries left ≡ give (entries, left)
-    one_set (inl no) =
-        let unset : has_settings entries ≡ false = (λ i. is_some (none i) || is_some (no i)) in
+    one_set (inl absent) =
+        let unset : has_settings entries ≡ false = (λ i. is_some (none i) || is_some (absent i)) in
         let values = settings_over env (entries_at (codes "environment") entries) [] in
         no_files
         ∙ ap (λ (b : Bool). give (cond b (with_entry (without_entry entries (codes "env_file")) (codes "environment") (settings values)) entries, left)) unset
