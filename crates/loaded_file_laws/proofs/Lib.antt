@@ -1,0 +1,2 @@
+pub mod SettledTrees
+pub mod Loads

@@ -1,0 +1,8 @@
+ghost use Rattle.loaded_file_laws.specs.Loads.{SettledFilesAreLoaded};
+
+/// The law that a Compose file whose tree means a project, and in which nothing is left to do, is
+/// loaded as that project, in every directory without `.env`, and whatever the caller's variables
+/// are that name no other project. Nothing runs.
+pub fn settled_files_are_loaded()
+    ensures { SettledFilesAreLoaded }
+{}

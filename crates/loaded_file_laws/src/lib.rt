@@ -1,0 +1,9 @@
+//! Laws of files that are loaded as they are: above the definitions alone, so that they hold of what
+//! the program answers. Nothing in this crate runs.
+//!
+//! A Compose file in which nothing is left to do is loaded as the project that its tree means.
+#![tactic(auto)]
+
+mod laws;
+
+pub use laws::settled_files_are_loaded;
