@@ -1,2 +1,3 @@
 pub mod SettledTrees
 pub mod Loads
+pub mod OneFile

@@ -1,5 +1,5 @@
 -- A Compose file in which nothing is left to do is loaded as its tree.
-use Rattle.std.proofs.Common.{◌≡◌, ◌∙◌, ◌⊎◌, ◌≤◌, ℕ, suc, Bool, true, false, cond, List, [], ◌∷◌, Option, None, Some, Result, Ok, Err, codes, length, refl, sym, ap, inl, inr}
+use Rattle.std.proofs.Common.{◌≡◌, ◌∙◌, ◌⊎◌, ℕ, suc, Bool, true, false, cond, List, [], ◌∷◌, Option, None, Some, Result, Ok, Err, codes, length, refl, ap, inl, inr}
 use Rattle.std.proofs.lemmas.Bool.{le-ltb}
 use Rattle.std.specs.Prelude.{IsTrue, nat_lt}
 use Rattle.std.specs.Option.{option_map, option_or}
@@ -36,7 +36,6 @@ use Rattle.loading_words.specs.declared.ProjectRefusal.{ProjectRefusal}
 use Rattle.loading_words.specs.declared.TreeRefusal.{TreeRefusal}
 use Rattle.merge_rules.proofs.Unchanged.{files_stand}
 use Rattle.merge_rules.specs.LongForms.{long_forms}
-use Rattle.merge_rules.specs.Overlay.{over_files}
 use Rattle.merge_rules.specs.declared.refusal.MergeRefusal.{MergeRefusal}
 use Rattle.model_laws.proofs.SettledModels.{settled_models}
 use Rattle.normal_form.specs.ProjectNames.{base_name, is_name}

@@ -1,5 +1,5 @@
 -- A tree that means a project and is settled throughout is settled, and all is there.
-use Rattle.std.proofs.Common.{◌≡◌, ◌∙◌, ℕ, Bool, true, List, [], ◌∷◌, Some, None, Option, codes, refl, sym, ap, subst, inl, inr}
+use Rattle.std.proofs.Common.{◌≡◌, ◌∙◌, ℕ, true, List, [], ◌∷◌, Some, None, Option, codes, refl, sym, ap, subst, inl, inr}
 use Rattle.std.specs.Prelude.{All}
 use Rattle.std.specs.Option.{option_map_or}
 use Rattle.std.proofs.lemmas.List.Elements.{All-cons, All-head, All-nil, All-tail}
@@ -14,7 +14,7 @@ use Rattle.model_laws.specs.Settled.{AreSettled, IsSettled, IsSettledService}
 use Rattle.tree_base.specs.Entries.{value_at}
 use Rattle.tree_base.specs.declared.tree.Tree.{Tree, out-Tree}
 use Rattle.tree_base.specs.declared.tree.Tree.TheOpen.{Tree-F}
-use Rattle.tree_base.specs.declared.tree.Tree.TheVariants.{Map, Null, outs-Map}
+use Rattle.tree_base.specs.declared.tree.Tree.TheVariants.{outs-Map}
 
 -- a settled service extends none, and has no env files
 service_whole : (service : Tree) → IsSettledService service → IsWhole service

@@ -1,1 +1,2 @@
+pub mod FilesInForms
 pub mod Loads

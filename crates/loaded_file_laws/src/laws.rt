@@ -1,3 +1,4 @@
+ghost use Rattle.loaded_file_laws.specs.FilesInForms.{FormsGiveOneFile};
 ghost use Rattle.loaded_file_laws.specs.Loads.{SettledFilesAreLoaded};
 
 /// The law that a Compose file whose tree means a project, and in which nothing is left to do, is
@@ -5,4 +6,10 @@ ghost use Rattle.loaded_file_laws.specs.Loads.{SettledFilesAreLoaded};
 /// are that name no other project. Nothing runs.
 pub fn settled_files_are_loaded()
     ensures { SettledFilesAreLoaded }
+{}
+
+/// The law that two texts of a file that differ in one attribute alone, which one has in its short
+/// and the other in its long form, give the same tree, or are refused alike. Nothing runs.
+pub fn forms_give_one_file()
+    ensures { FormsGiveOneFile }
 {}
