@@ -1,3 +1,4 @@
 pub mod SettledTrees
 pub mod Loads
 pub mod OneFile
+pub mod OneModel

@@ -1,9 +1,13 @@
 -- Files with an attribute in its short and in its long form.
-use Rattle.std.specs.Prelude.{◌≡◌, ℕ, List, Ok}
+use Rattle.std.specs.Prelude.{◌≡◌, ℕ, List, ◌∷◌, Some, Ok, suc}
 use Rattle.form_laws.specs.Forms.{IsLongFormAt, with_attribute}
+use Rattle.include_extends.specs.Includes.{model}
+use Rattle.include_extends.specs.Loading.{with_files}
+use Rattle.include_extends.specs.declared.request.Places.{Places}
 use Rattle.interpolate.specs.Walking.{substituted_tree}
 use Rattle.loaded_files.specs.FileTrees.{file_tree, tree_in}
 use Rattle.loaded_files.specs.Paths.{Variables}
+use Rattle.loaded_files.specs.declared.reads.Seen.TheVariants.{There}
 use Rattle.tree_base.specs.Entries.{value_at}
 use Rattle.tree_base.specs.declared.Tree.{Tree}
 
@@ -21,3 +25,15 @@ FormsGiveOneFile =
     → IsLongFormAt path short long → SpellsUnder env bytes (with_attribute path short tree)
     → SpellsUnder env others (with_attribute path long tree)
     → file_tree env file others ≡ file_tree env file bytes
+
+-- two texts of a file that give the same tree, or are refused alike, whatever the variables are
+abbrev pub AreOneFile : List ℕ → List ℕ → List ℕ → Type 0
+AreOneFile file bytes others = (env : Variables) → file_tree env file others ≡ file_tree env file bytes
+
+-- a model is the same with either of two such texts as its first file, whatever it extends and includes
+abbrev pub OneFileGivesOneModel : Type 0
+OneFileGivesOneModel =
+    (levels : ℕ) (places : Places) (file : List ℕ) (more : List (List ℕ)) (caller : Variables)
+    (begun : List (List ℕ)) (left : ℕ) (bytes others : List ℕ) → AreOneFile file bytes others
+    → model (suc levels) (with_files places (file ∷ more)) caller begun (Some (There others)) left
+    ≡ model (suc levels) (with_files places (file ∷ more)) caller begun (Some (There bytes)) left

@@ -1,4 +1,4 @@
-ghost use Rattle.loaded_file_laws.specs.FilesInForms.{FormsGiveOneFile};
+ghost use Rattle.loaded_file_laws.specs.FilesInForms.{FormsGiveOneFile, OneFileGivesOneModel};
 ghost use Rattle.loaded_file_laws.specs.Loads.{SettledFilesAreLoaded};
 
 /// The law that a Compose file whose tree means a project, and in which nothing is left to do, is
@@ -12,4 +12,10 @@ pub fn settled_files_are_loaded()
 /// and the other in its long form, give the same tree, or are refused alike. Nothing runs.
 pub fn forms_give_one_file()
     ensures { FormsGiveOneFile }
+{}
+
+/// The law that a model is the same with either of two texts as its first file that give the same
+/// tree or are refused alike, whatever it extends and includes. Nothing runs.
+pub fn one_file_gives_one_model()
+    ensures { OneFileGivesOneModel }
 {}
