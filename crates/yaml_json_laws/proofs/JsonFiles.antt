@@ -1,0 +1,187 @@
+-- A file that is the JSON of a node, byte for byte, is read as the node's tree.
+use Rattle.std.proofs.Common.{◌≡◌, ◌∙◌, ℕ, ◌&&◌, true, All, List, [], ◌∷◌, ◌++◌, Ok, codes, flat_map, map, refl, sym, ap, subst, append-nil, rules}
+use Rattle.std.proofs.lemmas.Bool.{and_parts}
+use Rattle.std.proofs.lemmas.List.Elements.{All-cons, All-head, All-nil, All-tail}
+use Rattle.std.proofs.lemmas.Str.{IsUtf8-from_is_utf8, encodes-append, encodes-chars}
+use Rattle.std.specs.List.{list_all}
+use Rattle.std.specs.Str.{chars, encode_utf8_all, is_utf8}
+use Rattle.project_print.specs.declared.node.Node.{Node, the_lemmas}
+use Rattle.project_print.specs.declared.node.Node.TheVariants.{Map, Null, Seq, Text, Word}
+use Rattle.project_print.specs.Pages.{Shown, shown}
+use Rattle.project_print.specs.Scalars.{doubled}
+use Rattle.json.specs.Print.{quoted}
+use Rattle.yaml_laws.specs.Laws.{IsWithinLimits}
+use Rattle.yaml_lines.specs.declared.lines.Lines.{Lines}
+use Rattle.yaml_lines.specs.Scan.{numbered, scan_of}
+use Rattle.yaml_nodes.specs.Progress.{◌>>=◌}
+use Rattle.yaml_tree.specs.Reading.{reading}
+use Rattle.yaml_page_laws.specs.Readable.{are_distinct, is_so}
+use Rattle.yaml_node_laws.proofs.Induction.{OfAll, of_every}
+use Rattle.yaml_node_laws.proofs.Layers.{shown_null, shown_word}
+use Rattle.yaml_print_laws.proofs.Bytes.{doubled_bytes, low_same}
+use Rattle.yaml_print_laws.proofs.CleanLines.{doubled_utf8, joined_line, low_line}
+use Rattle.yaml_print_laws.proofs.Decoded.{IsDecoded, begins_low, decoded, decoded_entry, decoded_map, decoded_null, decoded_seq, decoded_text, decoded_word, is_decoded, keys_in, printable_in, printable_map, printable_seq}
+use Rattle.yaml_print_laws.proofs.PrintedPages.{no_mark}
+use Rattle.yaml_print_laws.proofs.PrintedPages as pages
+use Rattle.yaml_print_laws.proofs.Scanned.{IsCleanLine, chars_are, scan_is}
+use Rattle.yaml_print_laws.proofs.ShownBytes.{low_before}
+use Rattle.yaml_print_laws.specs.Printed.{is_printable}
+use Rattle.yaml_json_laws.proofs.Commas.{behind_comma, joined}
+use Rattle.yaml_json_laws.proofs.JsonBytes.{string_bytes, string_line}
+use Rattle.yaml_json_laws.proofs.JsonLines.{read_back}
+use Rattle.yaml_json_laws.proofs.JsonTrees.{json_text, map_text, member_of, null_text, seq_text, text_text, word_text}
+use Rattle.yaml_json_laws.specs.Laws.{PagesAndJsonAgree, PrintedJsonReadsBack}
+
+-- the JSON of a node is the UTF-8 of that of the node of characters, on one clean line
+record IsJsonOf (node : Node) : Type 0 where
+  same : encode_utf8_all (json_text (decoded node)) ≡ json_text node
+  clean : IsCleanLine (json_text node)
+  low : begins_low (json_text node) ≡ true
+
+abbrev Claim : Node → Type 0
+Claim node = is_printable node ≡ true → IsJsonOf node
+
+-- null and words are JSON as a page has them
+scalar_of : (node other : Node) → decoded node ≡ other → json_text node ≡ (shown node).first
+    → json_text other ≡ (shown other).first → IsDecoded node → IsJsonOf node
+scalar_of node other e f g is = record {
+  same = ap (λ n. encode_utf8_all (json_text n)) e ∙ ap encode_utf8_all g ∙ ap (λ n. encode_utf8_all (shown n).first) (sym e) ∙ sym (ap (λ (s : Shown). s.first) is.shows) ∙ sym f;
+  clean = subst IsCleanLine (sym f) (All-head IsCleanLine (shown node).first (shown node).more is.clean);
+  low = ap begins_low f ∙ is.low;
+}
+
+null_first : json_text Null ≡ (shown Null).first
+null_first = null_text ∙ sym (ap (λ (s : Shown). s.first) shown_null)
+
+word_first : (text : List ℕ) → json_text (Word text) ≡ (shown (Word text)).first
+word_first text = word_text text ∙ sym (ap (λ (s : Shown). s.first) (shown_word text))
+
+printable_text : (text : List ℕ) → is_printable (Text text) ≡ is_utf8 text
+printable_text text = search (rules, the_lemmas)
+
+-- a text is a string
+text_is : (text : List ℕ) → Claim (Text text)
+text_is text printable =
+    let utf8 = IsUtf8-from_is_utf8 text (sym (printable_text text) ∙ printable) in
+    record {
+      same = ap (λ n. encode_utf8_all (json_text n)) (decoded_text text)
+          ∙ ap encode_utf8_all (text_text (chars text))
+          ∙ string_bytes (doubled (chars text))
+          ∙ ap quoted (doubled_bytes (chars text) ∙ ap doubled (encodes-chars text utf8))
+          ∙ sym (text_text text);
+      clean = subst IsCleanLine (sym (text_text text)) (string_line (doubled text) (doubled_utf8 text utf8));
+      low = ap begins_low (text_text text);
+    }
+
+-- a member, whose key is a string
+member_bytes : (key value : List ℕ)
+    → encode_utf8_all (quoted key ++ 58 ∷ value) ≡ quoted (encode_utf8_all key) ++ 58 ∷ encode_utf8_all value
+member_bytes key value = encodes-append (quoted key) (58 ∷ value) ∙ (λ i. string_bytes key i ++ low_before (58 ∷ []) value refl i)
+
+-- parts with a comma between each two, in UTF-8
+behind_bytes : (ps : List (List ℕ))
+    → encode_utf8_all (flat_map behind_comma ps) ≡ flat_map behind_comma (map encode_utf8_all ps)
+behind_bytes [] = refl
+behind_bytes (p ∷ ps) = encodes-append (44 ∷ p) (flat_map behind_comma ps) ∙ (λ i. low_before (44 ∷ []) p refl i ++ behind_bytes ps i)
+
+joined_bytes : (ps : List (List ℕ)) → encode_utf8_all (joined ps) ≡ joined (map encode_utf8_all ps)
+joined_bytes [] = refl
+joined_bytes (p ∷ ps) = encodes-append p (flat_map behind_comma ps) ∙ ap (λ l. encode_utf8_all p ++ l) (behind_bytes ps)
+
+behind_clean : (ps : List (List ℕ)) → All IsCleanLine ps → IsCleanLine (flat_map behind_comma ps)
+behind_clean [] all = low_line [] refl refl refl
+behind_clean (p ∷ ps) all =
+    joined_line (44 ∷ p) (flat_map behind_comma ps) (joined_line (44 ∷ []) p (low_line (44 ∷ []) refl refl refl) (All-head IsCleanLine p ps all)) (behind_clean ps (All-tail IsCleanLine p ps all))
+
+joined_clean : (ps : List (List ℕ)) → All IsCleanLine ps → IsCleanLine (joined ps)
+joined_clean [] all = low_line [] refl refl refl
+joined_clean (p ∷ ps) all = joined_line p (flat_map behind_comma ps) (All-head IsCleanLine p ps all) (behind_clean ps (All-tail IsCleanLine p ps all))
+
+-- a collection, by its parts
+module _ (opens closes : ℕ) (low : encode_utf8_all (opens ∷ []) ≡ opens ∷ []) (end : encode_utf8_all (closes ∷ []) ≡ closes ∷ []) where
+  collection_bytes : (others parts : List (List ℕ)) → map encode_utf8_all others ≡ parts
+      → encode_utf8_all (opens ∷ (joined others ++ closes ∷ [])) ≡ opens ∷ (joined parts ++ closes ∷ [])
+  collection_bytes others parts are =
+      encodes-append (opens ∷ []) (joined others ++ closes ∷ [])
+      ∙ (λ i. low i ++ encodes-append (joined others) (closes ∷ []) i)
+      ∙ (λ i. opens ∷ (joined_bytes others i ++ end i))
+      ∙ ap (λ l. opens ∷ (joined l ++ closes ∷ [])) are
+
+  collection_clean : IsCleanLine (opens ∷ []) → IsCleanLine (closes ∷ []) → (parts : List (List ℕ))
+      → All IsCleanLine parts → IsCleanLine (opens ∷ (joined parts ++ closes ∷ []))
+  collection_clean first last parts all = joined_line (opens ∷ []) (joined parts ++ closes ∷ []) first (joined_line (joined parts) (closes ∷ []) (joined_clean parts all) last)
+
+record AreJson (parts others : List (List ℕ)) : Type 0 where
+  same : map encode_utf8_all others ≡ parts
+  clean : All IsCleanLine parts
+
+entries_are : (es : List (List ℕ × Node)) → OfAll (λ (e : List ℕ × Node). Claim e.1) es
+    → list_all is_utf8 (keys_in es) ≡ true → list_all is_so (printable_in es) ≡ true
+    → AreJson (map member_of es) (map member_of (map decoded_entry es))
+entries_are [] claims utf8 printable = record { same = refl; clean = All-nil IsCleanLine }
+entries_are (e ∷ es) claims utf8 printable =
+    let texts = and_parts (is_utf8 e.0) (list_all is_utf8 (keys_in es)) utf8 in
+    let values = and_parts (is_printable e.1) (list_all is_so (printable_in es)) printable in
+    let key = IsUtf8-from_is_utf8 e.0 texts.0 in
+    let one = claims.0 values.0 in
+    let more = entries_are es claims.1 texts.1 values.1 in
+    record {
+      same = λ i. (member_bytes (chars e.0) (json_text (decoded e.1)) ∙ (λ j. quoted (encodes-chars e.0 key j) ++ 58 ∷ one.same j)) i ∷ more.same i;
+      clean = All-cons IsCleanLine (member_of e) (map member_of es)
+          (joined_line (quoted e.0) (58 ∷ json_text e.1) (string_line e.0 key) (joined_line (58 ∷ []) (json_text e.1) (low_line (58 ∷ []) refl refl refl) one.clean)) more.clean;
+    }
+
+items_are : (xs : List Node) → OfAll Claim xs → list_all is_so (map is_printable xs) ≡ true
+    → AreJson (map json_text xs) (map json_text (map decoded xs))
+items_are [] claims printable = record { same = refl; clean = All-nil IsCleanLine }
+items_are (x ∷ xs) claims printable =
+    let values = and_parts (is_printable x) (list_all is_so (map is_printable xs)) printable in
+    let one = claims.0 values.0 in
+    let more = items_are xs claims.1 values.1 in
+    record { same = λ i. one.same i ∷ more.same i; clean = All-cons IsCleanLine (json_text x) (map json_text xs) one.clean more.clean }
+
+map_json : (es : List (List ℕ × Node)) → OfAll (λ (e : List ℕ × Node). Claim e.1) es → Claim (Map es)
+map_json es claims printable =
+    let all = and_parts (list_all is_utf8 (keys_in es)) (are_distinct (keys_in es) && list_all is_so (printable_in es)) (sym (printable_map es) ∙ printable) in
+    let rest = and_parts (are_distinct (keys_in es)) (list_all is_so (printable_in es)) all.1 in
+    let are = entries_are es claims all.0 rest.1 in
+    let opens = low_same (123 ∷ []) refl in
+    let ends = low_same (125 ∷ []) refl in
+    record {
+      same = ap (λ n. encode_utf8_all (json_text n)) (decoded_map es) ∙ ap encode_utf8_all (map_text (map decoded_entry es)) ∙ collection_bytes 123 125 opens ends (map member_of (map decoded_entry es)) (map member_of es) are.same ∙ sym (map_text es);
+      clean = subst IsCleanLine (sym (map_text es)) (collection_clean 123 125 opens ends (low_line (123 ∷ []) refl refl refl) (low_line (125 ∷ []) refl refl refl) (map member_of es) are.clean);
+      low = ap begins_low (map_text es);
+    }
+
+seq_json : (xs : List Node) → OfAll Claim xs → Claim (Seq xs)
+seq_json xs claims printable =
+    let are = items_are xs claims (sym (printable_seq xs) ∙ printable) in
+    let opens = low_same (91 ∷ []) refl in
+    let ends = low_same (93 ∷ []) refl in
+    record {
+      same = ap (λ n. encode_utf8_all (json_text n)) (decoded_seq xs) ∙ ap encode_utf8_all (seq_text (map decoded xs)) ∙ collection_bytes 91 93 opens ends (map json_text (map decoded xs)) (map json_text xs) are.same ∙ sym (seq_text xs);
+      clean = subst IsCleanLine (sym (seq_text xs)) (collection_clean 91 93 opens ends (low_line (91 ∷ []) refl refl refl) (low_line (93 ∷ []) refl refl refl) (map json_text xs) are.clean);
+      low = ap begins_low (seq_text xs);
+    }
+
+json_is : (node : Node) → Claim node
+json_is =
+    of_every Claim (λ printable. scalar_of Null Null decoded_null null_first null_first (is_decoded Null printable))
+    (λ text printable. scalar_of (Word text) (Word (chars text)) (decoded_word text) (word_first text) (word_first (chars text)) (is_decoded (Word text) printable))
+    text_is map_json seq_json
+
+pub printed_back : PrintedJsonReadsBack
+printed_back file node printable within =
+    let is = is_decoded node printable in
+    let json = json_is node printable in
+    let bytes : List (List ℕ) = json_text node ∷ [] in
+    let lines : Lines = record { file = file; lines = numbered 1 bytes } in
+    let clean = All-cons IsCleanLine (json_text node) [] json.clean (All-nil IsCleanLine) in
+    ap (λ text. scan_of file text >>= reading) (sym (append-nil (json_text node ++ codes "\n")))
+    ∙ ap (λ r. r >>= reading) (scan_is file bytes clean (no_mark (json_text node) [] json.low))
+    ∙ read_back lines (decoded node) is.readable (subst IsWithinLimits (sym is.spelled) within) (chars_are 1 bytes (json_text (decoded node) ∷ []) clean (ap (λ (t : List ℕ). t ∷ []) json.same))
+    ∙ ap (λ tree. Ok tree) is.spelled
+
+-- and both are the node's tree
+pub printed_agree : PagesAndJsonAgree
+printed_agree file node printable within = pages.printed_back file node printable within ∙ sym (printed_back file node printable within)

@@ -1,0 +1,12 @@
+pub mod Commas
+pub mod JsonBytes
+pub mod JsonFiles
+pub mod JsonKeys
+pub mod JsonLines
+pub mod JsonMappings
+pub mod JsonPieces
+pub mod JsonSequences
+pub mod JsonTexts
+pub mod JsonTrees
+pub mod Strings
+pub mod TextLines
