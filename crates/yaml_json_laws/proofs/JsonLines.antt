@@ -1,14 +1,15 @@
 -- A file whose one line is JSON is read as the tree that it spells.
-use Rattle.std.proofs.Common.{◌≡◌, ◌∙◌, ℕ, zero, suc, ◌+◌, ◌≤◌, Bool, true, false, cond, List, [], ◌∷◌, None, Ok, length, map, take, refl, sym, ap, subst, append-nil, arith}
+use Rattle.std.proofs.Common.{◌≡◌, ◌∙◌, ℕ, zero, suc, ◌+◌, ◌≤◌, Bool, true, false, cond, List, [], ◌∷◌, None, Ok, length, map, take, refl, sym, ap, subst, append-nil, arith, rules}
 use Rattle.std.proofs.lemmas.Bool.{cond-false, cond-true}
 use Rattle.std.proofs.lemmas.List.{drop_all}
-use Rattle.std.specs.Str.{chars}
+use Rattle.std.specs.Str.{chars, encode_utf8_all}
 use Rattle.yaml_groups.specs.declared.line.LogicalLine.{LogicalLine}
 use Rattle.yaml_groups.specs.Grouped.{begins_flow, belonging, grouped, head_of, with_lines}
-use Rattle.project_print.specs.declared.node.Node.{Node}
+use Rattle.project_print.specs.declared.node.Node.{Node, the_lemmas}
 use Rattle.project_print.specs.declared.node.Node.TheVariants as nodes
 use Rattle.project_print.specs.Pages.{lines_of, shown}
 use Rattle.tree_base.specs.declared.tree.Tree.{Tree}
+use Rattle.tree_base.specs.declared.tree.Tree.TheVariants as trees
 use Rattle.tree_base.specs.Trees.{node_count, text_size}
 use Rattle.yaml_lines.specs.Blanks.{is_rest_blank, spaces, tab_indent}
 use Rattle.yaml_lines.specs.Block.{lines_of_rows}
@@ -28,13 +29,17 @@ use Rattle.yaml_tree.specs.Reading.{document, is_start, no_owner, reading}
 use Rattle.yaml_laws.proofs.NumberedLines.{row_with}
 use Rattle.yaml_laws.proofs.OneLine.{alone_by, last_of_three, node_is}
 use Rattle.yaml_laws.specs.Laws.{IsWithinLimits, chars_of}
+use Rattle.yaml_page_laws.proofs.Values.{IsValue, word_value}
 use Rattle.yaml_page_laws.specs.Readable.{is_readable, spelled_by}
-use Rattle.yaml_node_laws.proofs.Layers.{of_each, shown_null, shown_word, spelled_text}
+use Rattle.yaml_node_laws.proofs.Layers.{of_each, shown_null, spelled_text, spelled_word}
 use Rattle.project_print.specs.Scalars.{doubled}
 use Rattle.yaml_node_laws.proofs.Pages as pages
 use Rattle.yaml_flow_laws.proofs.FlowTexts.{IsFlowText}
 use Rattle.yaml_json_laws.proofs.JsonTrees.{json_are, json_text, map_text, null_text, seq_text, text_text, word_text}
-use Rattle.yaml_json_laws.proofs.TextLines.{string_page}
+use Rattle.yaml_json_laws.proofs.Legible.{of_json_word, readable_word}
+use Rattle.yaml_json_laws.proofs.MinusWords.{minus_value}
+use Rattle.yaml_json_laws.proofs.TextLines.{string_value, value_page}
+use Rattle.yaml_json_laws.specs.JsonNodes.{is_json_readable, is_json_word}
 use Rattle.yaml_json_laws.specs.Laws.{JsonReadsBack}
 
 -- no mark of a block stands in front of a line, and the value of the line begins there
@@ -109,30 +114,39 @@ one_line levels file (line ∷ []) text tree bare is nodes bytes are =
 
 -- what a file of one line with the JSON of a node spells
 abbrev Back : Node → Type 0
-Back node = (lines : Lines) → is_readable node ≡ true → IsWithinLimits (spelled_by node) → chars_of lines ≡ json_text node ∷ [] → reading lines ≡ Ok (spelled_by node)
+Back node = (lines : Lines) → is_json_readable node ≡ true → IsWithinLimits (spelled_by node) → chars_of lines ≡ json_text node ∷ [] → reading lines ≡ Ok (spelled_by node)
 
 -- a node that begins with a bracket
 collection_is : (node : Node) (text : List ℕ) → json_text node ≡ text → IsBare text → Back node
 collection_is node text e bare lines readable within are =
     one_line 63 lines.file lines.lines (json_text node) (spelled_by node) (rw e bare) (json_are 64 node readable within.levels) within.nodes within.text are
 
--- the JSON of null or of a word is its page
-scalar_is : (node : Node) (text : List ℕ) → json_text node ≡ text → lines_of (shown node) ≡ text ∷ []
-    → Back node
-scalar_is node text e f lines readable within are = pages.read_back lines node readable within (are ∙ ap (λ t. t ∷ []) e ∙ sym f)
+-- null
+null_is : Back nodes.Null
+null_is lines readable within are =
+    pages.read_back lines nodes.Null page_null within (are ∙ ap (λ t. t ∷ []) null_text ∙ sym (ap lines_of shown_null))
+  where
+    page_null : is_readable nodes.Null ≡ true
+    page_null = search (rules, the_lemmas)
 
--- a text
-text_is : (text : List ℕ) → Back (nodes.Text text)
-text_is text lines readable within are =
-    let same = spelled_text text in
+-- a scalar, whose one line is a value
+value_is : (node : Node) (word bytes : List ℕ) → json_text node ≡ word → spelled_by node ≡ trees.Scalar bytes
+    → IsValue word (trees.Scalar bytes) → Back node
+value_is node word bytes e same value lines readable within are =
     let spelled = subst IsWithinLimits same within in
-    string_page 63 lines.file lines.lines (doubled text) spelled.text (are ∙ ap (λ t. t ∷ []) (text_text text)) ∙ ap (λ tree. Ok tree) (sym same)
+    value_page 63 lines.file lines.lines word bytes value spelled.text (are ∙ ap (λ t. t ∷ []) e) ∙ ap (λ tree. Ok tree) (sym same)
+
+word_value_is : (text : List ℕ) → is_json_word text ≡ true → IsValue text (trees.Scalar (encode_utf8_all text))
+word_value_is = of_json_word (λ text. IsValue text (trees.Scalar (encode_utf8_all text))) word_value minus_value
+
+word_is : (text : List ℕ) → Back (nodes.Word text)
+word_is text lines readable =
+    value_is (nodes.Word text) text (encode_utf8_all text) (word_text text) (spelled_word text) (word_value_is text (sym (readable_word text) ∙ readable)) lines readable
 
 each_is : (node : Node) → Back node
 each_is =
-    of_each Back (scalar_is nodes.Null _ null_text (ap lines_of shown_null))
-    (λ text. scalar_is (nodes.Word text) _ (word_text text) (ap lines_of (shown_word text)))
-    text_is
+    of_each Back null_is word_is
+    (λ text. value_is (nodes.Text text) _ (encode_utf8_all (doubled text)) (text_text text) (spelled_text text) (string_value (doubled text)))
     (λ entries. collection_is (nodes.Map entries) _ (map_text entries) (curly_bare _))
     (λ items. collection_is (nodes.Seq items) _ (seq_text items) (square_bare _))
 

@@ -3,6 +3,7 @@ use Rattle.std.proofs.Common.{◌≡◌, ◌∙◌, ℕ, ◌+◌, ◌*◌, ◌/�
 use Rattle.std.proofs.lemmas.Bool.{cases_Bool, eqb-true, ltb-true}
 use Rattle.std.proofs.lemmas.Bool.Decides.{nat_tests}
 use Rattle.std.specs.Char.{digit_char, digit_value}
+use Rattle.std.specs.Option.{option_and_then}
 use Rattle.json.specs.Print.{escape_byte, quoted}
 use Rattle.yaml_lines.specs.declared.plain.Context.{Context}
 use Rattle.yaml_lines.specs.Quoted.{double_of, escape_of, hex_of, quoted_of, scalar_value}
@@ -56,7 +57,7 @@ hex_step c n us rest l h = by (digit_char (c / 16)) (digit_char (c % 16)) (hex_b
         → double_of 0 (92 ∷ 117 ∷ 48 ∷ 48 ∷ a ∷ b ∷ rest) ≡ Some (c ∷ us, 6 + n)
     by a b e =
         let one : escape_of (117 ∷ 48 ∷ 48 ∷ a ∷ b ∷ rest) ≡ Some (c, 5) = rw e refl in
-        let two : double_of 0 (92 ∷ 117 ∷ 48 ∷ 48 ∷ a ∷ b ∷ rest) ≡ after (c ∷ []) 1 (after [] 1 (after [] 1 (after [] 1 (after [] 1 (after [] 1 (double_of 0 rest)))))) = rw one refl in
+        let two : double_of 0 (92 ∷ 117 ∷ 48 ∷ 48 ∷ a ∷ b ∷ rest) ≡ after (c ∷ []) 1 (after [] 1 (after [] 1 (after [] 1 (after [] 1 (after [] 1 (double_of 0 rest)))))) = ap (option_and_then (λ e. after (e.0 ∷ []) 1 (double_of e.1 (117 ∷ 48 ∷ 48 ∷ a ∷ b ∷ rest)))) one in
         let m : 1 + (1 + (1 + (1 + (1 + (1 + n))))) ≡ 6 + n = omega arith in
         two ∙ ap (λ r. after (c ∷ []) 1 (after [] 1 (after [] 1 (after [] 1 (after [] 1 (after [] 1 r)))))) h ∙ (λ i. Some (c ∷ us, m i))
 

@@ -1,1 +1,2 @@
+pub mod JsonNodes
 pub mod Laws
