@@ -1,5 +1,5 @@
 -- Parts with a comma between each two.
-use Rattle.std.proofs.Common.{◌≡◌, ℕ, All, List, [], ◌∷◌, ◌++◌, flat_map, map, refl, sym, ap, append-nil, ◌∙◌}
+use Rattle.std.proofs.Common.{◌≡◌, ℕ, List, [], ◌∷◌, ◌++◌, flat_map, refl, sym, ap, append-nil}
 use Rattle.project_print.specs.Json.{listed}
 
 -- a part behind another: a comma before it

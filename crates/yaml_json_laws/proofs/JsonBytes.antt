@@ -1,9 +1,9 @@
 -- Strings of JSON on bytes: that of a text's UTF-8 is the UTF-8 of that of the text, and a clean line.
-use Rattle.std.proofs.Common.{◌≡◌, ◌∙◌, ℕ, ◌<◌, ◌≤◌, ◌&&◌, Bool, true, false, eqb, List, [], ◌∷◌, ◌++◌, flat_map, refl, sym, ap, inl, inr, arith}
+use Rattle.std.proofs.Common.{◌≡◌, ◌∙◌, ℕ, ◌<◌, ◌≤◌, true, false, eqb, List, [], ◌∷◌, ◌++◌, flat_map, refl, sym, ap, inl, inr, arith}
 use Rattle.std.proofs.lemmas.Bool.{agree_below_at, and_from, and_parts, cases_lt, le-leb, le-ltb, ne_eqb}
 use Rattle.std.proofs.lemmas.Grind.{flat_map-append}
 use Rattle.std.proofs.lemmas.List.{append-nil}
-use Rattle.std.proofs.lemmas.Str.{encode_ascii, encodes-append}
+use Rattle.std.proofs.lemmas.Str.{encodes-append}
 use Rattle.std.specs.List.{list_all}
 use Rattle.std.specs.Str.{IsUtf8, encode_utf8_all}
 use Rattle.json.specs.Print.{escape_byte, quoted}

@@ -7,7 +7,7 @@ use Rattle.yaml_groups.specs.declared.line.LogicalLine.{LogicalLine}
 use Rattle.yaml_groups.specs.Grouped.{begins_flow, belonging, grouped, head_of, with_lines}
 use Rattle.project_print.specs.declared.node.Node.{Node, the_lemmas}
 use Rattle.project_print.specs.declared.node.Node.TheVariants as nodes
-use Rattle.project_print.specs.Pages.{lines_of, shown}
+use Rattle.project_print.specs.Pages.{lines_of}
 use Rattle.tree_base.specs.declared.tree.Tree.{Tree}
 use Rattle.tree_base.specs.declared.tree.Tree.TheVariants as trees
 use Rattle.tree_base.specs.Trees.{node_count, text_size}

@@ -47,7 +47,7 @@ pub readable_seq : (xs : List Node) → is_json_readable (Seq xs) ≡ list_all i
 readable_seq xs = search (rules, the_lemmas)
 
 -- on bytes
-json_null : is_json_printable Null ≡ true
+pub json_null : is_json_printable Null ≡ true
 json_null = search (rules, the_lemmas)
 
 pub json_word : (text : List ℕ) → is_json_printable (Word text) ≡ is_json_word text

@@ -1,9 +1,8 @@
 -- A scalar that takes the rest of its line.
-use Rattle.std.proofs.Common.{◌≡◌, ◌∙◌, ℕ, suc, ◌+◌, ◌<◌, ◌≤◌, List, [], ◌∷◌, ◌++◌, false, Ok, drop, length, map, refl, sym, ap, subst, append-nil, arith}
-use Rattle.std.proofs.lemmas.Bool.{cond-false}
+use Rattle.std.proofs.Common.{◌≡◌, ◌∙◌, ℕ, ◌+◌, ◌<◌, ◌≤◌, List, [], false, Ok, drop, length, sym, ap, arith}
 use Rattle.std.proofs.lemmas.List.{drop-drop, drop_all}
 use Rattle.yaml_groups.specs.declared.line.LogicalLine.{LogicalLine}
-use Rattle.yaml_groups.specs.Grouped.{begins_block, begins_flow, belonging, grouped}
+use Rattle.yaml_groups.specs.Grouped.{begins_block, begins_flow, belonging}
 use Rattle.tree_base.specs.Trees.{depth, node_count, text_size}
 use Rattle.tree_base.specs.declared.tree.Tree.{Tree}
 use Rattle.tree_base.specs.declared.tree.Tree.TheVariants.{Scalar}
@@ -11,7 +10,7 @@ use Rattle.yaml_lines.specs.declared.plain.Context.TheVariants.{Block}
 use Rattle.yaml_lines.specs.declared.row.Row.{Row}
 use Rattle.yaml_nodes.specs.declared.progress.Progress.{Progress}
 use Rattle.yaml_nodes.specs.declared.spot.Spot.TheVariants.{Here}
-use Rattle.yaml_nodes.specs.Marks.{is_key, is_key_behind, starts}
+use Rattle.yaml_nodes.specs.Marks.{starts}
 use Rattle.yaml_nodes.specs.Progress.{◌>>=◌, one_node}
 use Rattle.yaml_nodes.specs.Properties.{no_properties}
 use Rattle.yaml_nodes.specs.Scalars.{scalar_at}

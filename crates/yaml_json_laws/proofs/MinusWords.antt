@@ -19,12 +19,11 @@ use Rattle.yaml_lines.specs.declared.row.Row.{Row}
 use Rattle.yaml_lines.specs.Plain.{begins_plain, ends_plain, is_colon, plain_len, plain_of, plain_run, trimmed_len}
 use Rattle.yaml_nodes.specs.declared.progress.Progress.{Progress}
 use Rattle.yaml_nodes.specs.declared.spot.Spot.TheVariants.{Here}
-use Rattle.yaml_nodes.specs.Marks.{before_colon, is_item, is_key, is_key_behind, is_left_out, is_quote, key_len, starts}
+use Rattle.yaml_nodes.specs.Marks.{before_colon, is_item, is_key, is_quote, key_len, starts}
 use Rattle.yaml_nodes.specs.Progress.{◌>>=◌}
 use Rattle.yaml_nodes.specs.Properties.{no_properties}
 use Rattle.yaml_nodes.specs.Scalars.{is_null_word, scalar_at}
 use Rattle.yaml_nodes.specs.Scalars as nodes
-use Rattle.yaml_tree.specs.Reading.{is_start}
 use Rattle.yaml_laws.proofs.OneLine.{counted, grown, node_fits, text_fits}
 use Rattle.yaml_laws.proofs.Sizes.{scalar_sizes}
 use Rattle.yaml_page_laws.proofs.Firsts.{excluded}

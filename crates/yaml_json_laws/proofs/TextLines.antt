@@ -1,13 +1,12 @@
 -- A file whose one line is a string of JSON, or another word, is read as its text.
-use Rattle.std.proofs.Common.{◌≡◌, ◌∙◌, ℕ, suc, ◌+◌, ◌<◌, ◌≤◌, List, [], ◌∷◌, ◌++◌, false, Ok, drop, length, map, refl, sym, ap, subst, append-nil, arith}
+use Rattle.std.proofs.Common.{◌≡◌, ℕ, suc, ◌≤◌, List, [], ◌∷◌, false, Ok, drop, length, map, refl, subst, append-nil, arith}
 use Rattle.std.proofs.lemmas.Bool.{cond-false}
-use Rattle.std.proofs.lemmas.List.{drop-drop, drop_all}
+use Rattle.std.proofs.lemmas.List.{drop_all}
 use Rattle.std.specs.Str.{encode_utf8_all}
 use Rattle.json.specs.Print.{quoted}
-use Rattle.yaml_groups.specs.declared.line.LogicalLine.{LogicalLine}
-use Rattle.yaml_groups.specs.Grouped.{begins_block, begins_flow, belonging, grouped}
+use Rattle.yaml_groups.specs.Grouped.{grouped}
 use Rattle.project_print.specs.Pages as pages
-use Rattle.tree_base.specs.Trees.{depth, node_count, text_size}
+use Rattle.tree_base.specs.Trees.{text_size}
 use Rattle.tree_base.specs.declared.tree.Tree.{Tree}
 use Rattle.tree_base.specs.declared.tree.Tree.TheVariants.{Scalar}
 use Rattle.yaml_lines.specs.Block.{lines_of_rows}
@@ -16,15 +15,11 @@ use Rattle.yaml_lines.specs.declared.plain.Context.TheVariants.{Block}
 use Rattle.yaml_lines.specs.declared.row.Row.{Row}
 use Rattle.yaml_lines.specs.Rows.{row_of}
 use Rattle.yaml_nodes.specs.declared.progress.Progress.{Progress}
-use Rattle.yaml_nodes.specs.declared.spot.Spot.TheVariants.{Here}
-use Rattle.yaml_nodes.specs.Marks.{is_key, is_key_behind, starts}
-use Rattle.yaml_nodes.specs.Progress.{◌>>=◌, one_node}
+use Rattle.yaml_nodes.specs.Marks.{is_key, is_key_behind}
 use Rattle.yaml_nodes.specs.Properties.{no_properties}
 use Rattle.yaml_nodes.specs.Scalars.{scalar_at}
 use Rattle.yaml_nodes.specs.Scalars as nodes
-use Rattle.yaml_tree.specs.Inline.{inline, inline_alone}
 use Rattle.yaml_tree.specs.Reading.{document}
-use Rattle.yaml_laws.proofs.OneLine.{alone_by, grown, last_of_three, node_fits, text_fits}
 use Rattle.yaml_laws.proofs.Sizes.{scalar_sizes}
 use Rattle.yaml_page_laws.proofs.Documents.{page_is}
 use Rattle.yaml_page_laws.proofs.Spelled.{IsSpelled}
