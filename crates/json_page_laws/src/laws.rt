@@ -1,0 +1,15 @@
+ghost use Rattle.json_page_laws.specs.Laws.{JsonGivesValues, JsonPagesMeanTheirProjects};
+
+/// The law that the bytes of a node's JSON, read as YAML and then with the values of its scalars, are the tree that the node
+/// means, whatever the variables are; where its texts are UTF-8, its words stand as they are, no mapping has a key twice,
+/// and the tree is within the limits. Nothing runs.
+pub fn json_gives_values()
+    ensures { JsonGivesValues }
+{}
+
+/// The law that the JSON page of a project which a merged tree means, without marks and with no key twice, is read as a tree
+/// that means the project once its scalars have their values, whatever the variables are; where the page's texts are UTF-8, no
+/// mapping in it has a key twice, and its tree is within the limits. Nothing runs.
+pub fn json_pages_mean_their_projects()
+    ensures { JsonPagesMeanTheirProjects }
+{}
