@@ -1,4 +1,5 @@
 pub mod Digits
+pub mod Examples
 pub mod HeldNodes
 pub mod JsonValues
 pub mod PageWords
