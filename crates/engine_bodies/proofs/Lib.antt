@@ -1,0 +1,3 @@
+mod BodyValues
+mod Plain
+mod Tables

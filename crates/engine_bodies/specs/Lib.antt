@@ -1,0 +1,5 @@
+pub mod Containers
+pub mod Json
+pub mod Objects
+pub mod Requests
+pub mod Resources
