@@ -2,14 +2,15 @@ ghost use Rattle.std.specs.Prelude.{◌≡◌, IfOk};
 ghost use Rattle.std.specs.Option.{option_and_then, option_map};
 ghost use Rattle.serde_json.specs.Read.{read};
 ghost use Rattle.serde_json.specs.View.{view};
-ghost use Rattle.engine_bodies.specs.Requests.{body_of, value_of};
+ghost use Rattle.engine_bodies.specs.Requests.{body_of, bytes_of, value_of};
 
 use crate::containers::container_json;
 use crate::resources::{connect_json, network_json, volume_json};
 use engine_types::Request;
+use http_request::request_with;
 use serde_json::Value;
 use std::alloc::Global;
-use tree_base::{Memory, Text};
+use tree_base::{List, Memory, Text};
 
 /// The body of a request, as JSON without spaces, whose objects have their members in byte order; None for a request
 /// without a body.
@@ -24,6 +25,14 @@ pub fn body_of(alloc: Global, request: &Request) -> Result<Option<Text>, Memory>
         }
         None => Ok(None),
     }
+}
+
+/// The bytes of a request with its body: request line, header lines, an empty line, and the body.
+pub fn request_bytes(alloc: Global, request: &Request) -> Result<List<u8>, Memory>
+    ensures { IfOk result (λ bytes. bytes ≡ bytes_of request.now) }
+{
+    let body = body_of(alloc, request)?;
+    request_with(alloc, request, body.as_ref())
 }
 
 /// What the body says as a value of JSON.

@@ -13,4 +13,4 @@ mod resources;
 mod rows;
 mod values;
 
-pub use bodies::body_of;
+pub use bodies::{body_of, request_bytes};
