@@ -1,0 +1,6 @@
+pub mod Alike
+pub mod Changes
+pub mod Rows
+pub mod Strings
+pub mod Telling
+pub mod Texts
