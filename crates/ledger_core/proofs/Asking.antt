@@ -46,7 +46,7 @@ polls_most (Entry.Poll v t ∷ past) s = by (t == s) (polls_most past s)
 polls_most (entry ∷ past) s = let e = polls_most past s in omega (arith, e)
 
 -- what is found among numbers is one of them
-found_below : (p : ℕ → Bool) (i n k : ℕ) → find p (numbers_from i n) ≡ Some k → k < i + n
+pub found_below : (p : ℕ → Bool) (i n k : ℕ) → find p (numbers_from i n) ≡ Some k → k < i + n
 found_below p i zero k e = absurd (cc e)
 found_below p i (suc n) k e = by (p i) (found_below p (i + 1) n k) e
   where
@@ -71,7 +71,7 @@ look_is setup past w s d = on (nat_le entries_limit (length past)) (is_ending pa
     on false false None None false ht hp h = absurd (cc h)
 
 -- no worker needs more than three entries without memory
-room_most : (workers : List WorkerRow) → room workers ≤ length workers + length workers + length workers
+pub room_most : (workers : List WorkerRow) → room workers ≤ length workers + length workers + length workers
 room_most [] = omega arith
 room_most (row ∷ workers) = let e = room_most workers in let o = at_most row.out in let s = at_least row.stopped in let l = at_least row.left in omega (arith, e, o, s, l)
   where

@@ -32,7 +32,7 @@ use Rattle.ledger_core.specs.Ledgers.{IsLedger, StartsAreSingle, counting, worke
 use Rattle.ledger_core.proofs.Entries.{Enters, KeepsPending, entered, room_of, row_after}
 
 -- what is found among numbers passes the test
-found_passes : (p : ℕ → Bool) (i n k : ℕ) → find p (numbers_from i n) ≡ Some k → p k ≡ true
+pub found_passes : (p : ℕ → Bool) (i n k : ℕ) → find p (numbers_from i n) ≡ Some k → p k ≡ true
 found_passes p i zero k e = absurd (cc e)
 found_passes p i (suc n) k e = by (p i) refl (found_passes p (i + 1) n k) e
   where
@@ -50,7 +50,7 @@ starts : (setup : Setup) (s a : ℕ) → start_of setup.actions s ≡ Some a →
 starts setup s a e = start_kind (kind_of setup.actions a) s (found_passes (λ b. is_start_of s (kind_of setup.actions b)) 0 (length setup.actions) a e)
 
 -- who holds something is a worker of the run
-holder_below : (aim : Aim) (setup : Setup) (past : List Entry) (w : ℕ) → IsLegal aim setup past → is_open (holding past w) ≡ true → w < setup.limits.workers
+pub holder_below : (aim : Aim) (setup : Setup) (past : List Entry) (w : ℕ) → IsLegal aim setup past → is_open (holding past w) ≡ true → w < setup.limits.workers
 holder_below aim setup [] w legal h = absurd (cc h)
 holder_below aim setup (Entry.Claim v a ∷ past) w legal h = by (v == w) refl (holder_below aim setup past w legal.0) h
   where

@@ -5,3 +5,4 @@ pub mod Ending
 pub mod Entries
 pub mod FirstFaults
 pub mod Stopping
+pub mod Permits

@@ -1,11 +1,13 @@
 -- What holds of every ledger.
-use Rattle.std.specs.Prelude.{◌≡◌, ℕ, ◌+◌, ◌<◌, ◌≤◌, Bool, false, true, if◌then◌else◌, List, [], ◌∷◌, Option, None, Some, get_or, is_some, length, reverse, set}
+use Rattle.std.specs.Prelude.{◌≡◌, ℕ, ◌+◌, ◌<◌, ◌≤◌, Bool, false, true, if◌then◌else◌, List, [], ◌∷◌, Option, None, Some, get_or, is_some, length, reverse, set, slice_get}
 use Rattle.tree_base.specs.Reserved.{Reserved}
 use Rattle.engine_types.specs.declared.ActionKind.{ActionKind}
 use Rattle.engine_types.specs.declared.Entry.{Entry}
+use Rattle.engine_types.specs.declared.Listed.{Listed}
 use Rattle.run_model.specs.Journals.{Setup, is_ending, seen_in}
 use Rattle.run_model.specs.Legal.{Decision, Full, Go, IsLegal, Look, Pause, Take}
-use Rattle.run_model.specs.Plans.{Aim, IsOrderly, kind_of, start_of}
+use Rattle.run_model.specs.Plans.{Aim, AreKeptPlaces, IsOrderly, IsWhole, create_of, kind_of, make_of, needs_of, slot_needs, start_of}
+use Rattle.run_model.specs.Requests.{stop_seconds}
 use Rattle.ledger_rows.specs.ActionRows.Values.{Actions}
 use Rattle.ledger_rows.specs.Entries.{RowsSay}
 use Rattle.ledger_rows.specs.Workers.{IsWorkerRow, no_worker}
@@ -13,6 +15,9 @@ use Rattle.ledger_rows.specs.declared.worker_row.WorkerRow.{WorkerRow}
 use Rattle.slot_rows.specs.Keys.{no_slot}
 use Rattle.slot_rows.specs.Slots.{AreSlots}
 use Rattle.slot_rows.specs.declared.slot_row.SlotRow.{SlotRow}
+use Rattle.ledger_ends.specs.Dependents.{AreDependents}
+use Rattle.ledger_ends.specs.declared.dependents.Dependents.{Dependents}
+use Rattle.ledger_core.specs.declared.places.Places.{Places}
 use Rattle.ledger_core.specs.declared.step.Step.{Step}
 
 -- how many entries of a worker may still come without memory: the end of its permit, a stop or late, and its last entry
@@ -47,6 +52,21 @@ pub record StartsAreSingle (setup : Setup) : Type 0 where
       → s < length setup.declared.slots
   pub first : (a s : ℕ) → kind_of setup.actions a ≡ Some (ActionKind.StartSlot s)
       → start_of setup.actions s ≡ Some a
+
+-- what a ledger keeps of a plan: a whole declared set, each slot started at most once, no more needs of an action than a count
+-- tells, the rows of dependents, the containers that slots keep, what creates and makes, and how long each stop waits
+pub record IsPlanned (setup : Setup) (kept_places : List (Option ℕ)) (rows : Dependents)
+    (places : Places) : Type 0 where
+  pub whole : IsWhole setup.declared
+  pub single : StartsAreSingle setup
+  pub few_needs : (a : ℕ) → length (needs_of setup.actions a)
+      + length (slot_needs setup.declared (kind_of setup.actions a)) < 4294967296
+  pub dependents : AreDependents setup rows
+  pub kept : AreKeptPlaces setup.declared setup.seen kept_places
+  pub creates : (s : ℕ) → get_or places.creates s None ≡ create_of setup.actions s
+  pub makes : (n : ℕ) → get_or places.makes n None ≡ make_of setup.actions n
+  pub seconds : (c : ℕ) (row : Listed) → slice_get setup.seen.containers c ≡ Some row
+      → slice_get places.seconds c ≡ Some (stop_seconds setup row)
 
 -- the rows of slots after the good end of an action of this kind: reports on the slot that it starts count
 abbrev pub counting : Option ActionKind → List SlotRow → List SlotRow

@@ -1,15 +1,22 @@
-ghost use Rattle.std.specs.Prelude.{◌≡◌, ◌∷◌, ◌≤◌, ◌||◌, [], IsSomeAnd, OnErr, OnOk};
+ghost use Rattle.std.specs.Prelude.{◌≡◌, ◌∷◌, ◌≤◌, ◌||◌, ◌<◌, [], ℕ, IsSomeAnd, OnErr, OnOk, Some, false, length, true};
 ghost use Rattle.engine_types.specs.declared.Entry.{Entry};
 ghost use Rattle.engine_types.specs.declared.LateWhy.{LateWhy};
-ghost use Rattle.run_model.specs.Journals.{is_ending};
-ghost use Rattle.run_model.specs.Legal.{Look, Pause};
+ghost use Rattle.engine_types.specs.declared.ActionKind.TheVariants.{StartSlot};
+ghost use Rattle.run_model.specs.Journals.{Badly, Work, ended_as, holding, is_ending, is_well};
+ghost use Rattle.run_model.specs.Legal.{Look, Pause, Take};
+ghost use Rattle.run_model.specs.Plans.{kind_of};
 ghost use Rattle.journal_laws.specs.Courses.{MayAsk, MayStop, entries, grown, setup_of};
 ghost use Rattle.journal_laws.specs.Laws.{decided};
 ghost use Rattle.ledger_core.specs.Answers.{IsLastEntry};
-ghost use Rattle.ledger_core.specs.Ledgers.{decision_of};
+ghost use Rattle.ledger_ends.specs.Losses.{HasNoLosses};
+ghost use Rattle.ledger_core.specs.Beginning.{run_of};
+ghost use Rattle.ledger_core.specs.Ledgers.{IsLedger, IsPlanned, counting, decision_of};
 
+use crate::places::Places;
+use crate::started::Started;
 use crate::step::Step;
-use engine_types::{Declared, Entry, LateWhy as Why, Plan, RunLimits};
+use engine_types::{ActionKind, Declared, Entry, LateWhy as Why, Outcome, Plan, RunLimits};
+use ledger_ends::{Dependents, Losses, RunSoFar, claim, end_badly, end_well};
 use ledger_rows::{ActionRows, WorkerRow, is_other_out};
 use slot_rows::SlotRows;
 use std::marker::Model;
@@ -29,11 +36,15 @@ pub struct Ledger {
     slots: SlotRows,
     workers: Vec<WorkerRow>,
     ending: bool,
+    losses: Losses,
+    dependents: Dependents,
+    places: Places,
 }
 
 impl Model for Ledger {
     ghost use Rattle.journal_laws.specs.Courses.{Course, setup_of};
-    ghost use Rattle.ledger_core.specs.Ledgers.{IsLedger};
+    ghost use Rattle.ledger_ends.specs.Losses.{HasNoLosses};
+    ghost use Rattle.ledger_core.specs.Ledgers.{IsLedger, IsPlanned};
 
     ghost Value = { Course };
 
@@ -50,10 +61,53 @@ impl Model for Ledger {
       limits = l.limits;
       journal = l.journal.items;
     })) l.journal l.rows l.slots l.workers.items
-        l.ending };
+        l.ending
+        × IsPlanned (setup_of (record {
+          declared = l.declared;
+          plan = l.plan;
+          limits = l.limits;
+          journal = l.journal.items;
+        })) l.plan.kept l.dependents l.places
+        × HasNoLosses (setup_of (record {
+          declared = l.declared;
+          plan = l.plan;
+          limits = l.limits;
+          journal = l.journal.items;
+        })) l.losses };
 }
 
 impl Ledger {
+    /// A ledger over finished rows.
+    pub fn of(
+        declared: Declared,
+        plan: Plan,
+        limits: RunLimits,
+        journal: ReservedList<Entry>,
+        started: Started,
+    ) -> Ledger
+        requires ledger { IsLedger (setup_of (run_of declared plan limits journal.items)) journal
+            started.rows started.slots started.workers.items false }
+        requires planned { IsPlanned (setup_of (run_of declared plan limits journal.items))
+            plan.kept started.dependents started.places }
+        requires no_losses { HasNoLosses (setup_of (run_of declared plan limits journal.items))
+            started.losses }
+        ensures { result ≡ run_of declared plan limits journal.items }
+    {
+        Ledger {
+            declared,
+            plan,
+            limits,
+            journal,
+            rows: started.rows,
+            slots: started.slots,
+            workers: started.workers,
+            ending: false,
+            losses: started.losses,
+            dependents: started.dependents,
+            places: started.places,
+        }
+    }
+
     /// What a worker's ask is answered. No memory; the work doesn't grow with the actions.
     fn decide(&self, worker: u32) -> Step
         requires { MayAsk self.now worker }
@@ -119,6 +173,80 @@ impl Ledger {
         Ok(())
     }
 
+    /// A worker claims the action that comes next.
+    pub(crate) fn claim(&mut self, worker: u32, action: u32) -> Result<(), Memory>
+        requires ready { MayAsk self.old worker }
+        requires decided { decided self.old worker ≡ Take action }
+        ensures ok { OnOk result (self.new ≡ grown self.old (Entry.Claim worker action)) }
+        ensures err { OnErr result (self.new ≡ self.old) }
+    {
+        self.journal.reserve(ENTRIES_AHEAD)?;
+        let so_far = RunSoFar {
+            declared: &self.declared,
+            plan: &self.plan,
+            limits: self.limits,
+            journal: self.journal.as_slice(),
+        };
+        claim(so_far, &mut self.rows, &mut self.slots, worker, action);
+        let own = &mut self.workers[worker as usize];
+        own.out = true;
+        self.journal.push(Entry::Claim { worker, action }).unwrap();
+        Ok(())
+    }
+
+    /// The action of a worker's permit ends well. No memory.
+    pub(crate) fn end_well(&mut self, worker: u32, action: u32, outcome: Outcome)
+        requires held { holding (entries self.old) worker ≡ Work action }
+        requires good { is_well (ended_as (kind_of self.old.plan.actions action) outcome) ≡ true }
+        ensures { self.new ≡ grown self.old (Entry.Ended worker outcome) }
+    {
+        let so_far = RunSoFar {
+            declared: &self.declared,
+            plan: &self.plan,
+            limits: self.limits,
+            journal: self.journal.as_slice(),
+        };
+        end_well(
+            so_far,
+            &mut self.rows,
+            &self.dependents,
+            worker,
+            action,
+            &outcome,
+        );
+        count_start(&mut self.slots, kind_at(&self.plan, action));
+        let own = &mut self.workers[worker as usize];
+        own.out = false;
+        self.journal.push(Entry::Ended { worker, outcome }).unwrap();
+    }
+
+    /// The action of a worker's permit ends otherwise than well. No memory.
+    pub(crate) fn end_badly(&mut self, worker: u32, action: u32, outcome: Outcome)
+        requires held { holding (entries self.old) worker ≡ Work action }
+        requires bad { ended_as (kind_of self.old.plan.actions action) outcome ≡ Badly }
+        ensures { self.new ≡ grown self.old (Entry.Ended worker outcome) }
+    {
+        let so_far = RunSoFar {
+            declared: &self.declared,
+            plan: &self.plan,
+            limits: self.limits,
+            journal: self.journal.as_slice(),
+        };
+        end_badly(
+            so_far,
+            &mut self.rows,
+            &mut self.slots,
+            &mut self.losses,
+            &self.dependents,
+            worker,
+            action,
+            &outcome,
+        );
+        let own = &mut self.workers[worker as usize];
+        own.out = false;
+        self.journal.push(Entry::Ended { worker, outcome }).unwrap();
+    }
+
     /// A worker was asked to stop. No memory.
     pub fn stop(&mut self, worker: u32)
         requires { MayStop self.old worker }
@@ -156,6 +284,28 @@ impl Ledger {
             ..
         } = self;
         (declared, plan, journal.into_list())
+    }
+}
+
+/// What kind an action is of. No memory.
+fn kind_at(plan: &Plan, action: u32) -> Option<ActionKind>
+    ensures { result ≡ kind_of plan.now.actions action }
+{
+    match plan.actions.get(action as usize) {
+        Some(found) => Some(found.kind),
+        None => None,
+    }
+}
+
+/// Reports on the slot that an action of this kind starts count from now on. No memory.
+fn count_start(slots: &mut SlotRows, kind: Option<ActionKind>)
+    requires { (s : ℕ) → kind ≡ Some (StartSlot s) → s < length slots.old }
+    ensures { slots.new ≡ counting kind slots.old }
+{
+    if let Some(ActionKind::StartSlot { slot }) = kind {
+        let mut row = slots.row(slot);
+        row.counts = true;
+        slots.set(slot, row);
     }
 }
 

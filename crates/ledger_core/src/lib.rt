@@ -11,6 +11,8 @@ mod held;
 mod laws;
 mod ledger;
 mod permit;
+mod places;
+mod started;
 mod step;
 
 pub use asked::Asked;
@@ -18,3 +20,5 @@ pub use exit_status::status;
 pub use laws::{answers_are_legal, good_ends_keep_ledgers};
 pub use ledger::Ledger;
 pub use permit::{Grant, Permit};
+pub use places::Places;
+pub use started::Started;

@@ -60,7 +60,7 @@ module _ (setup : Setup) (facts : Facts) (journal : List Entry) (stopped freed :
             let there : get_or (set pending x None) a None ≡ get_or pending a None = grind (arith, common_steps) in
             ap (λ (o : Option ℕ). is_some o) there ∙ and_true (is_pending_in pending a) ∙ ap (λ (t : Bool). is_pending_in pending a && not t) (sym (differs n (a == x) refl))
 
-    carries : CarriesOn setup x rows new pending later
+    pub carries : CarriesOn setup x rows new pending later
     carries = record {
       size = blocks.size ∙ ap length states;
       lacks_size = ap length blocks.lacks_are ∙ size;

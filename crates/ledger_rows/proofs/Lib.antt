@@ -14,3 +14,4 @@ pub mod Turns
 pub mod Meeting
 pub mod Failing
 pub mod Inverting
+pub mod Freshening

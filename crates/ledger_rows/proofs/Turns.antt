@@ -54,7 +54,7 @@ quiet_kept setup journal (Entry.Claim w a) rows h said = absurd (true≢false (s
 quiet_kept setup journal (Entry.Ended w outcome) rows h said = absurd (true≢false (sym h))
 
 -- the row of what is ready
-ready_state : (s : State) (lack : ℕ) → is_some (key_of s lack) ≡ true → s ≡ State.Free
+pub ready_state : (s : State) (lack : ℕ) → is_some (key_of s lack) ≡ true → s ≡ State.Free
 ready_state State.Free lack h = refl
 ready_state State.Blocked lack h = absurd (true≢false (sym h))
 ready_state State.Out lack h = absurd (true≢false (sym h))

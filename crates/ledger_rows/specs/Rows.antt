@@ -57,6 +57,10 @@ abbrev pub carried_on : Facts → Actions → List (Option ℕ) → ℕ → Bool
 carried_on facts rows pending a =
     lost_by facts (blocked_in rows) a && not (is_pending_in pending a)
 
+-- whether an action is marked as blocked, and isn't fresh: it was blocked before
+abbrev pub was_blocked : Actions → List (Option ℕ) → ℕ → Bool
+was_blocked rows fresh a = blocked_in rows a && not (is_pending_in fresh a)
+
 -- the rows are as if those alone were lost whose loss was carried on
 pub record AreLosing (setup : Setup) (facts : Facts) (journal : List Entry) (rows : Actions)
     (pending : List (Option ℕ)) : Type 0 where

@@ -5,7 +5,7 @@ ghost use Rattle.run_model.specs.Journals.{Badly, Well, ended_as};
 ghost use Rattle.run_model.specs.Plans.{kind_of};
 ghost use Rattle.ledger_rows.specs.ActionRows.{is_ready};
 ghost use Rattle.ledger_rows.specs.Entries.{AreReleased, Ending, GoodEnding, IsDueTo, Page, RowsSay};
-ghost use Rattle.ledger_rows.specs.Rows.{IsNet, is_pending_in};
+ghost use Rattle.ledger_rows.specs.Rows.{IsNet, is_pending_in, was_blocked};
 
 use crate::action_rows::{ActionRows, State};
 use crate::blocking::lose;
@@ -42,10 +42,11 @@ pub fn end_well(rows: &mut ActionRows, action: u32, at: usize, released: &[u32])
 }
 
 /// A claimed action ends otherwise than well. What that blocks is blocked, whatever is blocked by it in turn too, and what
-/// waited for it without requiring it is let go. No memory.
+/// waited for it without requiring it is let go. Those that are blocked are fresh then. No memory.
 pub fn end_badly(
     rows: &mut ActionRows,
     pending: &mut RankRow,
+    fresh: &mut RankRow,
     action: u32,
     stopped: &[List<u32>],
     freed: &[List<u32>],
@@ -58,12 +59,16 @@ pub fn end_badly(
     requires net { IsNet run.setup stopped.now freed.now }
     requires none { (a : ℕ) → is_pending_in pending.old a ≡ false }
     requires size { length pending.old ≡ length rows.old.states }
+    requires fresh_size { length fresh.old ≡ length rows.old.states }
     ensures said { RowsSay run.setup (run.journal ++ Entry.Ended run.worker run.outcome ∷ [])
         rows.new }
     ensures none { (a : ℕ) → is_pending_in pending.new a ≡ false }
     ensures size { length pending.new ≡ length rows.new.states }
+    ensures before { (a : ℕ) → was_blocked rows.new fresh.new a
+        ≡ was_blocked rows.old fresh.old a }
+    ensures fresh_size { length fresh.new ≡ length rows.new.states }
 {
     rows.set_state(action, State::Badly);
     pending.put(action, Some(0));
-    lose(rows, pending, stopped, freed);
+    lose(rows, pending, fresh, stopped, freed);
 }

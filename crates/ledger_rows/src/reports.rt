@@ -4,7 +4,7 @@ ghost use Rattle.ledger_rows.specs.ActionRows.{lack_at};
 ghost use Rattle.ledger_rows.specs.Counts.{counted};
 ghost use Rattle.ledger_rows.specs.Facts.{AreSound, FailsOne, MeetsOne, counts_by};
 ghost use Rattle.ledger_rows.specs.Reports.{AreAsking, ArePreferring, AreRequiring, Change};
-ghost use Rattle.ledger_rows.specs.Rows.{AreRows, IsNet, is_pending_in};
+ghost use Rattle.ledger_rows.specs.Rows.{AreRows, IsNet, is_pending_in, was_blocked};
 
 use crate::action_rows::ActionRows;
 use crate::blocking::{block, lose};
@@ -20,7 +20,8 @@ pub fn meet(rows: &mut ActionRows, asking: &[u32])
     requires later { is_started report.condition ≡ false }
     requires counts { counts_by report.setup report.before report.slot ≡ true }
     requires asking { AreAsking report.setup report.slot report.condition asking.now }
-    ensures { AreRows report.setup report.after report.journal rows.new }
+    ensures said { AreRows report.setup report.after report.journal rows.new }
+    ensures states { rows.new.states ≡ rows.old.states }
 {
     release(rows, asking);
 }
@@ -36,16 +37,18 @@ pub fn unmeet(rows: &mut ActionRows, asking: &[u32])
     requires asking { AreAsking report.setup report.slot report.condition asking.now }
     requires small { (a : ℕ)
         → lack_at rows.old a + counted (λ b. b == a) asking.now < 4294967296 }
-    ensures { AreRows report.setup report.before report.journal rows.new }
+    ensures said { AreRows report.setup report.before report.journal rows.new }
+    ensures states { rows.new.states ≡ rows.old.states }
 {
     raise(rows, asking);
 }
 
 /// A report fails a condition of a slot, which wasn't met: each start that requires it is blocked, and whatever that blocks
-/// in turn; each need that doesn't require it lets its start go. No memory.
+/// in turn; each need that doesn't require it lets its start go. Those that are blocked are fresh then. No memory.
 pub fn fail(
     rows: &mut ActionRows,
     pending: &mut RankRow,
+    fresh: &mut RankRow,
     required: &[u32],
     optional: &[u32],
     stopped: &[List<u32>],
@@ -62,11 +65,15 @@ pub fn fail(
     requires sound { AreSound report.setup report.after }
     requires none { (a : ℕ) → is_pending_in pending.old a ≡ false }
     requires size { length pending.old ≡ length rows.old.states }
+    requires fresh_size { length fresh.old ≡ length rows.old.states }
     ensures said { AreRows report.setup report.after report.journal rows.new }
     ensures none { (a : ℕ) → is_pending_in pending.new a ≡ false }
     ensures size { length pending.new ≡ length rows.new.states }
+    ensures before { (a : ℕ) → was_blocked rows.new fresh.new a
+        ≡ was_blocked rows.old fresh.old a }
+    ensures fresh_size { length fresh.new ≡ length rows.new.states }
 {
     release(rows, optional);
     block(rows, pending, required);
-    lose(rows, pending, stopped, freed);
+    lose(rows, pending, fresh, stopped, freed);
 }

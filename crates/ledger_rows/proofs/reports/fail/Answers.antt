@@ -1,5 +1,6 @@
-use Rattle.std.proofs.Common.{arith}
+use Rattle.std.proofs.Common.{sym, ◌∙◌, ap, length, arith}
 use Rattle.ledger_rows.proofs.Failing.{failed_kept, fails_by}
+use Rattle.ledger_rows.proofs.Freshening.{blocked_before}
 use Rattle.ledger_rows.proofs.reports.fail.Goals as goal
 
 pub release-requires-clause-kept : goal.release-requires-clause-kept
@@ -13,8 +14,16 @@ lose-requires g c = (
   c.requires.1.1.1.1.1.1.0,
   (
     c.requires.1.1.1.1.1.1.1.0,
-    fails_by g.report.setup g.report.before g.report.after g.report.journal c.args.rows.now c.release.new.rows c.block.new.rows c.args.pending.now c.block.new.pending g.report.slot g.report.condition
-        c.args.required.now c.args.optional.now c.requires.1.0 c.requires.1.1.0 c.requires.1.1.1.0 c.requires.0 c.requires.1.1.1.1.0.each c.requires.1.1.1.1.1.0.each c.requires.1.1.1.1.1.1.1.1.0 c.requires.1.1.1.1.1.1.1.1.1
-        c.release.ensures.states c.release.ensures.size c.release.ensures.lacks c.block.ensures,
+    (
+      fails_by g.report.setup g.report.before g.report.after g.report.journal c.args.rows.now c.release.new.rows c.block.new.rows c.args.pending.now c.block.new.pending g.report.slot g.report.condition
+          c.args.required.now c.args.optional.now c.requires.1.0 c.requires.1.1.0 c.requires.1.1.1.0 c.requires.0 c.requires.1.1.1.1.0.each c.requires.1.1.1.1.1.0.each c.requires.1.1.1.1.1.1.1.1.0 c.requires.1.1.1.1.1.1.1.1.1.0
+          c.release.ensures.states c.release.ensures.size c.release.ensures.lacks c.block.ensures,
+      c.requires.1.1.1.1.1.1.1.1.1.1 ∙ sym (c.block.ensures.size ∙ ap length c.release.ensures.states),
+    ),
   ),
 )
+
+pub returns-clause-before : goal.returns-clause-before
+returns-clause-before g c =
+    λ a. c.lose.ensures.before a ∙ blocked_before c.args.required.now c.args.rows.now c.release.new.rows c.block.new.rows c.args.pending.now c.block.new.pending c.args.fresh.now c.block.ensures c.release.ensures.states
+    c.requires.1.1.1.1.1.1.1.1.0 a

@@ -1,0 +1,4 @@
+pub mod Askers
+pub mod Freshening
+pub mod Claims
+pub mod Losing

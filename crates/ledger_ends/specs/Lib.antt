@@ -1,0 +1,4 @@
+pub mod Dependents
+pub mod Losses
+pub mod Retiring
+pub mod Entries

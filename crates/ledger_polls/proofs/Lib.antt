@@ -1,0 +1,3 @@
+pub mod Resting
+pub mod News
+pub mod Polled

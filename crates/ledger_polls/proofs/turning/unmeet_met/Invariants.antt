@@ -1,0 +1,13 @@
+use Rattle.run_model.specs.declared.verdict.Verdict.{Verdict}
+use Rattle.ledger_polls.specs.Verdicts.{facts_with}
+use Rattle.ledger_polls.proofs.turning.unmeet_met.Given as goal
+
+abbrev pub ghost-unmeet : goal.ghost-unmeet
+ghost-unmeet g a = record {
+  setup = g.news.setup;
+  journal = g.news.journal;
+  before = facts_with g.news Verdict.NotYet;
+  after = facts_with g.news Verdict.Met;
+  slot = g.news.slot;
+  condition = g.news.condition;
+}
