@@ -1,0 +1,17 @@
+use Rattle.std.proofs.Common.{◌≡◌, List, length, ap, ◌∙◌, arith}
+use Rattle.engine_types.specs.declared.Action.{Action}
+use Rattle.plan_rows.specs.Firsts.{first_of}
+use Rattle.start_rows.proofs.Starting.{firsts}
+use Rattle.ledger_start.proofs.Plans.{basis_of, few_actions}
+use Rattle.ledger_start.proofs.actions.first_actions.Goals as goal
+
+pub first_rows-requires : goal.first_rows-requires
+first_rows-requires c =
+    let few = few_actions c.args.outset.now.declared.now c.args.outset.now.observed.now c.args.outset.now.plan.now c.args.outset.now.limits c.requires in
+    let n : length c.as_slice.result.now ≡ length c.args.outset.now.plan.now.actions = ap length c.as_slice.ensures in
+    omega (arith, few, n)
+
+pub returns-clause-each : goal.returns-clause-each
+returns-clause-each c = firsts (basis_of c.args.outset.now.declared.now c.requires.seen c.requires.aim) c.args.outset.now.plan.now.actions c.requires.has_plan c.args.row c.in_ok-places.places.items
+    (c.in_ok-places.ensures.size ∙ c.in_ok-count.ensures.same)
+    (λ s l. c.in_ok-places.ensures.each s (let e = c.in_ok-count.ensures.same in omega (arith, l, e)) ∙ ap (λ (actions : List Action). first_of c.args.row actions s) c.as_slice.ensures)

@@ -1,0 +1,4 @@
+pub mod Outsets
+pub mod Openings
+pub mod TwoServices
+pub mod Laws
