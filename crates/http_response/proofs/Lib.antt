@@ -1,8 +1,17 @@
+mod ChunkEnds
+mod ChunkLines
+mod ChunkedBodies
+mod Framed
+mod Giving
 mod Heading
 mod Limits
 mod Listening
 mod Opening
 mod Overflowing
 mod Parsing
+mod PlainBodies
+mod Resting
 mod Searching
 mod Skipping
+mod Trailers
+mod Within

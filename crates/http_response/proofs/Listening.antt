@@ -1,14 +1,14 @@
 -- What is heard by one reading of a connection, and by one reading behind another.
-use Rattle.std.proofs.Common.{◌≡◌, ◌⊎◌, ℕ, ◌<◌, ◌≤◌, ◌==◌, ◌||◌, ◌^◌, Bool, true, false, List, [], ◌++◌, take, drop, zero, suc, Option, Some, None, refl, sym, ap, ◌∙◌, subst, inl, inr, append_assoc, arith, true≢false}
+use Rattle.std.proofs.Common.{◌≡◌, ◌⊎◌, ℕ, ◌+◌, ◌<◌, ◌≤◌, ◌==◌, ◌&&◌, ◌||◌, ◌^◌, Bool, true, false, not, List, [], ◌++◌, length, take, drop, zero, suc, Option, Some, None, refl, sym, ap, ◌∙◌, subst, inl, inr, append_assoc, arith, true≢false}
 use Rattle.std.proofs.lemmas.Bool.{cases_lt}
-use Rattle.std.proofs.lemmas.List.{append-nil}
-use Rattle.std.specs.Prelude.{Err, Ok, Result}
+use Rattle.std.proofs.lemmas.List.{append-nil, length-append}
+use Rattle.std.specs.Prelude.{Err, IsTrue, Ok, Result}
 use Rattle.outside_files.specs.Counts.{Rose}
 use Rattle.outside_api.specs.Pipes.{Talk, ToldBy, after_read}
 use Rattle.outside_api.specs.declared.pipe.PipeAnswer.{PipeAnswer}
 use Rattle.engine_types.specs.declared.WireEnd.{WireEnd}
 use Rattle.http_response.specs.Hearing.{ComesTo, Heard, Hears}
-use Rattle.http_response.specs.Stocks.{FillsBy, IsFilled, ReadsOnBy, left, place}
+use Rattle.http_response.specs.Stocks.{FillsBy, IsFilled, ReadiesBy, ReadsOnBy, left, place}
 use Rattle.http_response.specs.declared.response.ResponseEnd.{ResponseEnd}
 use Rattle.http_response.specs.declared.stock.Stock.{Stock}
 
@@ -142,3 +142,36 @@ filled_left used bytes new_bytes front old_left piece none grown same was =
     ap (λ (n : ℕ). drop n new_bytes) none ∙ grown
     ∙ ap (λ (b : List ℕ). b ++ front) (sym (ap (λ (n : ℕ). drop n bytes) none) ∙ was)
     ∙ ap (λ (p : List ℕ). old_left ++ p) same
+
+-- ---- bytes that are ready
+
+-- some are left, or none will come
+over_or_some : (n : ℕ) (ended : Bool) → ((n == 0) && not ended) ≡ false → n ≡ 0 → ended ≡ true
+over_or_some n true h none = refl
+over_or_some n false h none = absurd (true≢false (sym (ap (λ (m : ℕ). (m == 0) && not false) none) ∙ h))
+
+pub readies_here : (stock : Stock) (told : Option Talk) (f n : ℕ) → n ≡ length (left stock) → ((length (left stock) == 0) && not stock.ended) ≡ false
+    → Hears told told (ReadiesBy stock stock f f (Ok n))
+readies_here stock told f n e wet =
+    hears_nothing told (ReadiesBy stock stock f f (Ok n)) (not_filled stock, e, λ (none : n ≡ 0). over_or_some (length (left stock)) stock.ended wet (sym e ∙ none))
+
+pub readies_filled : (old new : Stock) (a b : Option Talk) (f g n : ℕ) → n ≡ length (left new) → Hears a b (FillsBy old new f g (Ok tt)) → Hears a b (ReadiesBy old new f g (Ok n))
+readies_filled old new a b f g n e h =
+    hears_as a b (FillsBy old new f g (Ok tt)) (ReadiesBy old new f g (Ok n)) h
+    (λ (more : List ℕ) (found_end : Bool) (r : FillsBy old new f g (Ok tt) more found_end).
+    (r.0, e, λ (none : n ≡ 0). over more found_end r.0 r.1 (sym e ∙ none)))
+  where
+    over : (more : List ℕ) (found_end : Bool) → IsFilled old new more found_end → (found_end ≡ false → 0 < length more) → length (left new) ≡ 0 → new.ended ≡ true
+    over more true filled some none = filled.ended_is ∙ sym (or_true old.ended)
+    over more false filled some none =
+        let l : length (left new) ≡ length (left old) + length more = ap length filled.left_is ∙ length-append (left old) more in
+        let s : 0 < length more = some refl in
+        absurd (omega (arith, l, s, none))
+
+pub readies_not : (old new : Stock) (a b : Option Talk) (f g : ℕ) (end : ResponseEnd) → f ≤ g → Hears a b (FillsBy old new f g (Err end)) → Hears a b (ReadiesBy old new f g (Err end))
+readies_not old new a b f g end le h =
+    hears_as a b (FillsBy old new f g (Err end)) (ReadiesBy old new f g (Err end)) h
+    (λ (more : List ℕ) (found_end : Bool) (r : FillsBy old new f g (Err end) more found_end).
+    refuses (λ (done : Unit {0}). IsFilled old new more found_end × (found_end ≡ false → 0 < length more))
+    (λ (count : ℕ). IsFilled old new more found_end × (count ≡ length (left new)) × (count ≡ 0 → IsTrue new.ended)) (λ (cause : WireEnd). ⊥) (λ (cause : WireEnd). ⊥)
+    f f g end (omega arith) le r (λ (cause : WireEnd) (never : ⊥). never))

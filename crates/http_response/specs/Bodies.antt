@@ -5,8 +5,8 @@ use Rattle.outside_api.specs.Pipes.{Talk}
 use Rattle.response_rules.specs.Lines.{body_limit}
 use Rattle.response_rules.specs.Heads.{Framing, chunked, framing_of, has_no_body, head_fault, is_interim, sized, to_end}
 use Rattle.response_rules.specs.Chunks.{AreChunks, BeginsWithLine, Chunk, body_of, print_chunks}
-use Rattle.response_rules.specs.Responses.{BeginsWithHead, IsResponse, print_heads}
-use Rattle.http_response.specs.Hearing.{Heard}
+use Rattle.response_rules.specs.Responses.{BeginsWithHead, Breaks, IsResponse, print_heads}
+use Rattle.http_response.specs.Hearing.{ComesTo, Heard}
 use Rattle.http_response.specs.Reading.{EndsBy}
 use Rattle.http_response.specs.Stocks.{left, place}
 use Rattle.http_response.specs.declared.body.OpenBody.{OpenBody}
@@ -90,3 +90,39 @@ pub record Opens
   pub ended : Bool
   pub heard : Heard read ended old new
   pub answers : OpensBy read ended faults_old faults_new answer
+
+-- what the next piece of a body may be: bytes, at least one, which are put last; the body's end, and
+-- then what was given is the response's; or an end, and nothing is put
+abbrev pub GivesBy
+    : OpenBody → List ℕ → Bool → List ℕ → List ℕ → List ℕ → ℕ → ℕ → Result Bool ResponseEnd → Type 0
+GivesBy after read ended given old_out new_out old new (Ok true) =
+    (piece : List ℕ) × (0 < length piece) × (new_out ≡ old_out ++ piece)
+    × IsOpen after read ended (given ++ piece)
+GivesBy after read ended given old_out new_out old new (Ok false) =
+    (new_out ≡ old_out) × IsResponse read ended after.status given
+GivesBy after read ended given old_out new_out old new (Err (ResponseEnd.Wire cause)) =
+    (new_out ≡ old_out) × EndsBy read ended old new cause
+GivesBy after read ended given old_out new_out old new (Err ResponseEnd.Memory) = new_out ≡ old_out
+
+-- a piece of a body was asked for, and some bytes more were read of the connection
+pub record Continues
+    (after : OpenBody) (read : List ℕ) (ended : Bool) (given old_out new_out : List ℕ)
+    (old new : Option Talk) (faults_old faults_new : ℕ)
+    (answer : Result Bool ResponseEnd) : Type 0 where
+  pub more : List ℕ
+  pub now_ended : Bool
+  pub heard : Heard more now_ended old new
+  pub gives : GivesBy after (read ++ more) (ended || now_ended) given old_out new_out
+      faults_old faults_new answer
+
+-- some bytes were read, by which this was given of an open body
+abbrev pub IsBegun : OpenBody → List ℕ → Type 0
+IsBegun open_body given = (read : List ℕ) × (ended : Bool) × IsOpen open_body read ended given
+
+-- the rest of a body is read behind these bytes: it is the body of a whole response, or it is broken
+abbrev pub ReadsRestBy
+    : List ℕ → Bool → OpenBody → List ℕ → ℕ → ℕ → Result Unit ResponseEnd → List ℕ → Bool → Type 0
+ReadsRestBy read ended after body f g answer more found_end =
+    ComesTo
+    (λ (done : Unit {0}). IsResponse (read ++ more) (ended || found_end) after.status body)
+    (Breaks (read ++ more) (ended || found_end)) f g answer

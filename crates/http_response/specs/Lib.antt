@@ -1,4 +1,5 @@
 pub mod Bodies
+pub mod ChunksRead
 pub mod Found
 pub mod Hearing
 pub mod Reading

@@ -1,8 +1,12 @@
--- What a reader of responses promises where there is none (RFC 9112).
-use Rattle.std.specs.Prelude.{ℕ, Bool, List}
+-- What a reader of responses promises of the connection that it reads (RFC 9112).
+use Rattle.std.specs.Prelude.{ℕ, Bool, List, Option, Result, Ok, Err}
 use Rattle.engine_types.specs.declared.WireEnd.{WireEnd}
 use Rattle.outside_files.specs.Counts.{Rose}
-use Rattle.response_rules.specs.Responses.{Breaks}
+use Rattle.outside_api.specs.Pipes.{Talk}
+use Rattle.response_rules.specs.Responses.{Breaks, IsResponse}
+use Rattle.http_response.specs.Hearing.{Heard}
+use Rattle.http_response.specs.declared.response.Response.{Response}
+use Rattle.http_response.specs.declared.response.ResponseEnd.{ResponseEnd}
 
 -- bytes that are no response in the way that the cause names, or a fault that was counted. A reader
 -- doesn't judge a body
@@ -10,3 +14,20 @@ abbrev pub EndsBy : List ℕ → Bool → ℕ → ℕ → WireEnd → Type 0
 EndsBy read ended old new WireEnd.Fault = Rose old new
 EndsBy read ended old new WireEnd.BadBody = ⊥
 EndsBy read ended old new cause = Breaks read ended cause
+
+-- what a reader may answer, where it read these bytes and found the end or not: the response that
+-- they begin with, or the cause for which they are none; it is free to want memory
+abbrev pub AnswersTo : List ℕ → Bool → ℕ → ℕ → Result Response ResponseEnd → Type 0
+AnswersTo read ended old new (Ok response) = IsResponse read ended response.status response.body
+AnswersTo read ended old new (Err (ResponseEnd.Wire cause)) = EndsBy read ended old new cause
+AnswersTo read ended old new (Err ResponseEnd.Memory) = Unit {0}
+
+-- a reader read some bytes of a connection, and answers to these: by what is told of the connection
+-- before and after, and its counts of faults
+pub record Reads
+    (old new : Option Talk) (faults_old faults_new : ℕ)
+    (answer : Result Response ResponseEnd) : Type 0 where
+  pub read : List ℕ
+  pub ended : Bool
+  pub heard : Heard read ended old new
+  pub answers : AnswersTo read ended faults_old faults_new answer

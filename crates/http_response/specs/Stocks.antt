@@ -36,6 +36,15 @@ ReadsOnBy old new f g answer more found_end =
     (λ cause. (cause ≡ WireEnd.Ended) × IsTrue old.ended × (more ≡ []) × (found_end ≡ false))
     f g answer
 
+-- so many bytes are left, a piece of which was read where there were none, and none only behind the
+-- connection's end
+abbrev pub ReadiesBy : Stock → Stock → ℕ → ℕ → Result ℕ ResponseEnd → List ℕ → Bool → Type 0
+ReadiesBy old new f g answer more found_end =
+    ComesTo
+    (λ count. IsFilled old new more found_end × (count ≡ length (left new))
+    × (count ≡ 0 → IsTrue new.ended))
+    (λ (cause : WireEnd). ⊥) f g answer
+
 -- the part that was looked for isn't there: the bytes ended before, or it passes a limit
 abbrev pub MissesEnd : Part → Bool → WireEnd → Type 0
 MissesEnd part ended WireEnd.Ended = (part ≡ unfinished) × IsTrue ended

@@ -1,5 +1,12 @@
 use engine_types::WireEnd;
-use tree_base::Memory;
+use tree_base::{List, Memory};
+
+/// A whole response: its status, and the bytes of its body, without the lines of chunks.
+#[derive(Drop)]
+pub struct Response {
+    pub status: u16,
+    pub body: List<u8>,
+}
 
 /// Why no response was read.
 #[derive(Clone, Copy, PartialEq, Eq)]

@@ -1,4 +1,4 @@
-ghost use Rattle.std.specs.Prelude.{◌≡◌, [], ◌+◌, ◌<◌, ◌≤◌, ◌^◌, OnOk, drop, false, length};
+ghost use Rattle.std.specs.Prelude.{◌≡◌, [], ◌+◌, ◌<◌, ◌≤◌, ◌^◌, ◌++◌, ◌==◌, ◌&&◌, OnErr, OnOk, drop, false, length, not, take};
 ghost use Rattle.http_response.specs.Hearing.{Hears};
 
 use crate::response::ResponseEnd;
@@ -24,7 +24,7 @@ pub(crate) struct Stock {
 }
 
 impl Stock {
-    ghost use Rattle.http_response.specs.Stocks.{FillsBy, ReadsOnBy, left, place};
+    ghost use Rattle.http_response.specs.Stocks.{FillsBy, ReadiesBy, ReadsOnBy, left, place};
 
     /// Nothing was read yet. No memory.
     pub(crate) fn new(alloc: Global) -> Stock
@@ -109,6 +109,40 @@ impl Stock {
             return Err(ResponseEnd::Wire(WireEnd::Ended));
         }
         self.fill(alloc, pipe)
+    }
+
+    /// How many bytes are left, where a piece is read if there are none; none only where the connection ended.
+    pub(crate) fn ready<P: Pipe>(&mut self, alloc: Global, pipe: &mut P) -> Result<u64, ResponseEnd>
+        ensures counted { P.faults pipe.old ≤ P.faults pipe.new }
+        ensures readies { Hears (P.talk pipe.old) (P.talk pipe.new)
+            (ReadiesBy self.old self.new (P.faults pipe.old) (P.faults pipe.new) result) }
+    {
+        if self.is_dry() {
+            self.fill(alloc, pipe)?;
+            return Ok(self.left().len() as u64);
+        }
+        Ok(self.left().len() as u64)
+    }
+
+    /// Whether nothing is left, and more may come. No memory.
+    fn is_dry(&self) -> bool
+        ensures { result ≡ (length (left self.now) == 0 && not self.now.ended) }
+    {
+        self.left().is_empty() && !self.ended
+    }
+
+    /// Puts so many of the bytes that are left last, and uses them up.
+    pub(crate) fn give(&mut self, to: &mut List<u8>, count: usize) -> Result<(), Memory>
+        requires { count ≤ length (left self.old) }
+        ensures given { OnOk result (to.new ≡ to.old ++ take count (left self.old)) }
+        ensures left { OnOk result (left self.new ≡ drop count (left self.old)) }
+        ensures place { OnOk result (place self.new ≡ place self.old + count) }
+        ensures ended { self.new.ended ≡ self.old.ended }
+        ensures kept { OnErr result (to.new ≡ to.old) }
+    {
+        to.extend_from_slice(self.left().split_at(count).0)?;
+        self.use_up(count);
+        Ok(())
     }
 
     /// Gives the room of the bytes that are used up back.

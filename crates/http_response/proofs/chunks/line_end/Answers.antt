@@ -1,0 +1,64 @@
+-- What the search answers to the bytes that were read is where the line ends in them.
+use Rattle.std.proofs.Common.{ℕ, Bool, List, [], refl, sym, ap, ◌∙◌, subst, arith}
+use Rattle.std.proofs.lemmas.Result.{err_from_is_err_and}
+use Rattle.std.specs.Prelude.{Err, Result}
+use Rattle.response_rules.specs.Lines.{chunk_line_part}
+use Rattle.http_heads.specs.declared.line_search.SearchAnswer.{SearchAnswer}
+use Rattle.http_response.specs.Hearing.{Hears}
+use Rattle.http_response.specs.Stocks.{FindsEndBy, IsFilled, left}
+use Rattle.http_response.specs.declared.response.ResponseEnd.{ResponseEnd}
+use Rattle.http_response.proofs.ChunkLines.{no_feed_more, no_feed_on, told_line}
+use Rattle.http_response.proofs.Limits.{line_open}
+use Rattle.http_response.proofs.Listening.{hears_nothing, not_filled}
+use Rattle.http_response.proofs.Searching.{found_here, lost_there, passed_here, read_more, reading_falls}
+use Rattle.http_response.proofs.chunks.line_end.Goals as goal
+
+pub reading-init : goal.reading-init
+reading-init g c = record {
+  counted = omega arith;
+  heard = hears_nothing (g.P.Pipe.talk c.args.pipe.now) (λ (more : List ℕ) (found_end : Bool). IsFilled c.args.stock.now c.args.stock.now more found_end) (not_filled c.args.stock.now);
+  followed = no_feed_more c.new-search.result [] (left c.args.stock.now) c.new-search.ensures;
+}
+
+pub returns-in-Ends-clause-finds : goal.returns-in-Ends-clause-finds
+returns-in-Ends-clause-finds g c =
+    found_here chunk_line_part c.args.stock.now c.reading.stock c.reading.stock (g.P.Pipe.talk c.args.pipe.now) (g.P.Pipe.talk c.reading.pipe)
+    (g.P.Pipe.faults c.args.pipe.now) (g.P.Pipe.faults c.reading.pipe) c.in-Ends.end c.reading.invariant.heard
+    (told_line (SearchAnswer.Ends c.in-Ends.end) c.left.result.now (left c.reading.stock) c.in-Ends.ensures.exact c.left.ensures)
+
+pub returns-in-Passed-clause-finds : goal.returns-in-Passed-clause-finds
+returns-in-Passed-clause-finds g c =
+    passed_here chunk_line_part c.args.stock.now c.reading.stock c.reading.stock (g.P.Pipe.talk c.args.pipe.now) (g.P.Pipe.talk c.reading.pipe)
+    (g.P.Pipe.faults c.args.pipe.now) (g.P.Pipe.faults c.reading.pipe) c.reading.invariant.heard
+    (told_line SearchAnswer.Passed c.left.result.now (left c.reading.stock) c.in-Passed.ensures.exact c.left.ensures)
+
+pub returns-in_err-read_on-in-Unfinished-clause-finds : goal.returns-in_err-read_on-in-Unfinished-clause-finds
+returns-in_err-read_on-in-Unfinished-clause-finds g c =
+    let p = err_from_is_err_and c.from_residual.result c.from_residual.ensures.1 in
+    subst (λ (r : Result ℕ ResponseEnd). Hears (g.P.Pipe.talk c.args.pipe.now) (g.P.Pipe.talk c.read_on.new.pipe)
+    (FindsEndBy chunk_line_part c.args.stock.now c.read_on.new.self (g.P.Pipe.faults c.args.pipe.now) (g.P.Pipe.faults c.read_on.new.pipe) r))
+    (sym (p.1 ∙ ap Err p.2))
+    (lost_there chunk_line_part c.args.stock.now c.reading.stock c.read_on.new.self (g.P.Pipe.talk c.args.pipe.now) (g.P.Pipe.talk c.reading.pipe)
+    (g.P.Pipe.talk c.read_on.new.pipe) (g.P.Pipe.faults c.args.pipe.now) (g.P.Pipe.faults c.reading.pipe) (g.P.Pipe.faults c.read_on.new.pipe) _
+    c.reading.invariant.counted c.read_on.ensures.counted c.reading.invariant.heard
+    (told_line SearchAnswer.Unfinished c.left.result.now (left c.reading.stock) c.in-Unfinished.ensures.exact c.left.ensures)
+    c.in_err-read_on-in-Unfinished.ensures.reads)
+
+pub reading-preserved : goal.reading-preserved
+reading-preserved g c =
+    let read = c.in_ok-read_on-in-Unfinished.ensures.reads in
+    record {
+      counted = omega (arith, c.reading.invariant.counted, c.read_on.ensures.counted);
+      heard =
+          read_more chunk_line_part c.args.stock.now c.reading.stock c.read_on.new.self (g.P.Pipe.talk c.args.pipe.now) (g.P.Pipe.talk c.reading.pipe)
+          (g.P.Pipe.talk c.read_on.new.pipe) (g.P.Pipe.faults c.reading.pipe) (g.P.Pipe.faults c.read_on.new.pipe) c.reading.invariant.heard read;
+      followed =
+          no_feed_on c.part.new.self c.reading.stock c.read_on.new.self c.left.result.now read.more read.found_end c.left.ensures read.comes.0
+          (c.in-Unfinished.ensures.followed refl);
+    }
+
+pub reading-smaller : goal.reading-smaller
+reading-smaller g c =
+    let read = c.in_ok-read_on-in-Unfinished.ensures.reads in
+    reading_falls c.reading.stock c.read_on.new.self read.more read.found_end 65536 read.comes.0 read.comes.1 read.comes.2
+    (line_open (left c.reading.stock) (told_line SearchAnswer.Unfinished c.left.result.now (left c.reading.stock) c.in-Unfinished.ensures.exact c.left.ensures))
