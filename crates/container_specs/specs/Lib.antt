@@ -1,0 +1,10 @@
+pub mod Health
+pub mod Host
+pub mod Lists
+pub mod Mounts
+pub mod Networks
+pub mod Numbers
+pub mod Ports
+pub mod Process
+pub mod Specs
+pub mod Untold
