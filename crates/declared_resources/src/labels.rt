@@ -25,13 +25,13 @@ pub(crate) fn declared_labels(
         ≡ declared_labels project.now kind.now key.now (unwrap_or (option_copied own.entry) [])) }
 {
     let mut labels = own_labels(alloc, own)?;
-    put_label(alloc, &mut labels, labels::PROJECT, project)?;
-    put_label(alloc, &mut labels, kind, key)?;
+    put_label(alloc, &mut labels, labels::PROJECT, project.as_str())?;
+    put_label(alloc, &mut labels, kind, key.as_str())?;
     in_byte_order(variables_of(alloc, &labels)?)
 }
 
 /// The labels that are given, of which a null is the empty text.
-fn own_labels(alloc: Global, own: Option<&Pairs>) -> Result<Env, Memory>
+pub fn own_labels(alloc: Global, own: Option<&Pairs>) -> Result<Env, Memory>
     ensures { IfOk result (λ labels.
         labels ≡ map label_entry (unwrap_or (option_copied own.entry) [])) }
 {
@@ -42,7 +42,7 @@ fn own_labels(alloc: Global, own: Option<&Pairs>) -> Result<Env, Memory>
 }
 
 /// Pairs with the empty text for each null.
-pub(crate) fn label_entries(alloc: Global, pairs: &Pairs) -> Result<Env, Memory>
+pub fn label_entries(alloc: Global, pairs: &Pairs) -> Result<Env, Memory>
     ensures { IfOk result (λ labels. labels ≡ map label_entry pairs.now) }
 {
     let texts = label_texts(alloc, pairs.values())?;
@@ -70,17 +70,17 @@ fn label_text(alloc: Global, value: &Option<Text>) -> Result<Text, Memory>
 }
 
 /// Puts a label in place of the one of its name.
-fn put_label(alloc: Global, labels: &mut Env, name: &str, value: &Text) -> Result<(), Memory>
+pub fn put_label(alloc: Global, labels: &mut Env, name: &str, value: &str) -> Result<(), Memory>
     ensures { OnOk result (labels.new ≡ with_entry labels.old name.now value.now) }
 {
     let name = Text::from_str(alloc, name)?;
-    let value = value.copy(alloc)?;
+    let value = Text::from_str(alloc, value)?;
     labels.put(name, value)?;
     Ok(())
 }
 
 /// The entries of a map as names with their values, which differ in their names.
-pub(crate) fn variables_of(alloc: Global, entries: &Env) -> Result<Vec<Var>, Memory>
+pub fn variables_of(alloc: Global, entries: &Env) -> Result<Vec<Var>, Memory>
     ensures value { IfOk result (λ variables. variables.items ≡ map variable_of entries.now) }
     ensures distinct { HasDistinctKeys entries.now }
 {
@@ -109,7 +109,7 @@ fn push_variable(
 }
 
 /// Variables whose names differ, in byte order of these.
-fn in_byte_order(variables: Vec<Var>) -> Result<List<Var>, Memory>
+pub fn in_byte_order(variables: Vec<Var>) -> Result<List<Var>, Memory>
     requires { IsDistinct bytes_eq (map (λ variable. variable.name) variables.items) }
     ensures { IfOk result (λ sorted. sorted ≡ by_key (λ variable. variable.name) variables.items) }
 {

@@ -4,7 +4,7 @@
 //! the labels of Docker Compose.
 #![tactic(auto)]
 
-mod labels;
+pub mod labels;
 mod rows;
 
 pub use rows::{networks, volumes};

@@ -1,0 +1,5 @@
+pub mod Counts
+pub mod Goals
+pub mod Named
+pub mod Needs
+pub mod Refusing
