@@ -1,0 +1,56 @@
+ghost use Rattle.std.specs.Prelude.{◌≡◌, IfOk, OnOk, decimal};
+ghost use Rattle.declared_set.specs.Labels.{container_labels, with_known};
+
+use declared_resources::labels::{in_byte_order, own_labels, put_label, variables_of};
+use engine_types::{Pairs, labels};
+use std::alloc::Global;
+use tree_base::{Env, Memory, Text};
+use typed_project::Service;
+
+/// The labels of a service's container with a number, in byte order of their names.
+pub(crate) fn container_labels(
+    alloc: Global,
+    project: &Text,
+    service: &Service,
+    hash: &Text,
+    number: u32,
+) -> Result<Pairs, Memory>
+    ensures { IfOk result (λ labels. labels
+        ≡ container_labels project.now service.now hash.now number) }
+{
+    let mut labels = own_labels(alloc, service.labels())?;
+    put_known(alloc, &mut labels, project, &service.key, hash, number)?;
+    in_byte_order(variables_of(alloc, &labels)?)
+}
+
+/// Puts the labels by which a container is known in place of those of their names.
+fn put_known(
+    alloc: Global,
+    labels: &mut Env,
+    project: &Text,
+    service: &Text,
+    hash: &Text,
+    number: u32,
+) -> Result<(), Memory>
+    ensures { OnOk result (labels.new
+        ≡ with_known project.now service.now hash.now number labels.old) }
+{
+    put_label(alloc, labels, labels::PROJECT, project.as_str())?;
+    put_label(alloc, labels, labels::SERVICE, service.as_str())?;
+    put_label(
+        alloc,
+        labels,
+        labels::NUMBER,
+        decimal(alloc, number)?.as_str(),
+    )?;
+    put_label(alloc, labels, labels::HASH, hash.as_str())?;
+    put_label(alloc, labels, labels::VERSION, labels::HASH_VERSION)?;
+    put_label(alloc, labels, labels::ONEOFF, labels::NOT_ONEOFF)
+}
+
+fn decimal(alloc: Global, number: u32) -> Result<Text, Memory>
+    ensures { IfOk result (λ text. text ≡ decimal number) }
+{
+    let text = format!(in alloc; "{number}")?;
+    Ok(Text::from_string(text))
+}
