@@ -2,6 +2,8 @@ pub mod Documents
 pub mod Empties
 pub mod Firsts
 pub mod Keys
+pub mod LoneScalars
+pub mod MinusWords
 pub mod PageLines
 pub mod Parts
 pub mod PlainRuns
@@ -11,3 +13,4 @@ pub mod Standing
 pub mod TextPages
 pub mod Tokens
 pub mod Values
+pub mod Words

@@ -1,5 +1,5 @@
 -- Words without quotes are read as they stand, in blocks and in flow collections.
-use Rattle.std.proofs.Common.{◌≡◌, ◌∙◌, ℕ, ◌-◌, ◌<◌, List, [], ◌∷◌, ◌++◌, ◌&&◌, ◌||◌, Bool, true, false, eqb, Some, codes, length, take, refl, sym, ap, add-one, arith}
+use Rattle.std.proofs.Common.{◌≡◌, ◌∙◌, ℕ, ◌<◌, List, [], ◌∷◌, ◌++◌, ◌&&◌, ◌||◌, Bool, true, false, eqb, Some, codes, length, take, refl, sym, ap, add-one, arith}
 use Rattle.std.proofs.Math.Seq.{take-append_seam}
 use Rattle.std.proofs.lemmas.Bool.{agree_below, and_parts}
 use Rattle.std.proofs.lemmas.Bool.Decides.{nat_tests}

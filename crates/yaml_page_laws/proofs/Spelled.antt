@@ -14,7 +14,7 @@ use Rattle.yaml_lines.specs.declared.plain.Context.{Context}
 use Rattle.yaml_lines.specs.Plain.{ends_plain, plain_of}
 use Rattle.yaml_lines.specs.Quoted.{quoted_of}
 use Rattle.yaml_nodes.specs.Scalars.{is_null_word}
-use Rattle.yaml_page_laws.specs.Readable.{begins_word, is_read_as_word}
+use Rattle.yaml_page_laws.specs.Readable.{begins_word, is_unsigned_word}
 use Rattle.yaml_page_laws.proofs.Firsts.{excluded, is_first}
 use Rattle.yaml_page_laws.proofs.PlainRuns.{byte_below, is_word_start, plain_read, start_below}
 use Rattle.yaml_laws.proofs.PlainWords.{or_false}
@@ -86,8 +86,8 @@ plain_spelled context [] rest plain ends = absurd (cc)
 plain_spelled context (c ∷ cs) rest plain ends =
     starting_spelled context c cs rest (start_of_plain c (is_begun (c ∷ cs) plain)) (are_bytes (c ∷ cs) plain) (no_colon (c ∷ cs) plain) (no_null (c ∷ cs) plain) ends
 
--- a word that is read as it stands spells itself
-pub word_spelled : (context : Context) (text rest : List ℕ) → is_read_as_word text ≡ true → ends_plain context false rest ≡ true → IsSpelled context (text ++ rest) text (length text)
+-- a word without a minus spells itself
+pub word_spelled : (context : Context) (text rest : List ℕ) → is_unsigned_word text ≡ true → ends_plain context false rest ≡ true → IsSpelled context (text ++ rest) text (length text)
 word_spelled context [] rest reads ends = absurd (cc)
 word_spelled context (c ∷ cs) rest reads ends =
     let parts = and_parts (begins_word (c ∷ cs)) _ reads in

@@ -1,11 +1,11 @@
 -- Words of a page that stand for a tree: as the value of a key, as an item, or alone.
 use Rattle.std.proofs.Common.{◌≡◌, ◌∙◌, ℕ, zero, suc, ◌+◌, ◌<◌, ◌≤◌, ◌&&◌, Bool, true, false, List, [], ◌∷◌, Ok, codes, drop, length, refl, sym, ap, subst, add-zero, arith}
 use Rattle.std.proofs.lemmas.Bool.{cond-false, cond-true}
-use Rattle.std.proofs.lemmas.List.{append-nil, drop-drop, drop_all}
+use Rattle.std.proofs.lemmas.List.{append-nil, drop_all}
 use Rattle.std.specs.Prelude.{nat_lt}
 use Rattle.std.specs.Str.{encode_utf8_all}
 use Rattle.yaml_groups.specs.declared.line.LogicalLine.{LogicalLine}
-use Rattle.yaml_groups.specs.Grouped.{begins_block, begins_flow, belonging, head_of}
+use Rattle.yaml_groups.specs.Grouped.{begins_flow, belonging, head_of}
 use Rattle.project_print.specs.Scalars.{scalar}
 use Rattle.tree_base.specs.Trees.{depth, node_count, text_size}
 use Rattle.tree_base.specs.declared.tree.Tree.{Tree}
@@ -15,19 +15,18 @@ use Rattle.yaml_lines.specs.Blanks.{blanks, is_rest_blank, is_tab_first, spaces}
 use Rattle.yaml_lines.specs.declared.plain.Context.TheVariants.{Block}
 use Rattle.yaml_lines.specs.declared.row.Row.{Row}
 use Rattle.yaml_nodes.specs.declared.progress.Progress.{Progress}
-use Rattle.yaml_nodes.specs.declared.spot.Spot.TheVariants.{Here}
-use Rattle.yaml_nodes.specs.Marks.{before_colon, is_colon_of, is_item, is_key, is_key_behind, is_left_out, is_property, key_len, properties_len, starts}
-use Rattle.yaml_nodes.specs.Progress.{◌>>=◌, one_node}
+use Rattle.yaml_nodes.specs.Marks.{before_colon, is_colon_of, is_item, is_key, is_key_behind, is_left_out, is_property, key_len, properties_len}
 use Rattle.yaml_nodes.specs.Properties.{no_properties, properties_from}
 use Rattle.yaml_nodes.specs.Scalars.{scalar_at}
 use Rattle.yaml_nodes.specs.Scalars as nodes
 use Rattle.yaml_tree.specs.Inline.{inline, inline_alone}
 use Rattle.yaml_tree.specs.Reading.{is_start}
-use Rattle.yaml_laws.proofs.OneLine.{alone_by, grown, last_of_four, last_of_three, node_fits, text_fits}
+use Rattle.yaml_laws.proofs.OneLine.{alone_by, grown, last_of_four}
 use Rattle.yaml_laws.proofs.Sizes.{IsOfSizes, map_sizes, null_sizes, scalar_sizes, seq_sizes}
-use Rattle.yaml_page_laws.specs.Readable.{is_read_as_word}
+use Rattle.yaml_page_laws.specs.Readable.{is_unsigned_word}
 use Rattle.yaml_page_laws.proofs.Empties.{empty_map, empty_seq, lone_map, lone_seq}
 use Rattle.yaml_page_laws.proofs.Firsts.{is_first, no_alias, no_blanks, no_block, no_colon, no_document_start, no_flow, no_item, no_properties_len, no_property, no_property_from, no_spaces, no_tab, not_blank, not_left_out, not_white}
+use Rattle.yaml_page_laws.proofs.LoneScalars.{alone_is, lone_is, nothing_behind}
 use Rattle.yaml_page_laws.proofs.Spelled.{IsSpelled, scalar_spelled, word_spelled}
 use Rattle.yaml_page_laws.proofs.Tokens.{len_is, null_scalar, scalar_is}
 
@@ -61,13 +60,6 @@ no_key_whole cs len =
     let before : before_colon Block cs ≡ length cs = ap (λ n. n + blanks (drop n cs)) len ∙ ap (λ l. length cs + blanks l) all ∙ add-zero (length cs) in
     ap (λ l. nat_lt 0 (key_len Block cs) && is_colon_of Block cs l) (ap (λ n. drop n cs) before ∙ all) ∙ and_false (nat_lt 0 (key_len Block cs))
 
-word_by : (levels : ℕ) (p q : Progress) (row : Row) (at : ℕ) → starts 42 (drop at row.chars) ≡ false → one_node levels p row at 0 ≡ Ok q → nodes.word Block levels no_properties p row at ≡ scalar_at Block no_properties q row at
-word_by levels p q row at no_star counts = rw (no_star, counts)
-
--- nothing stands behind the last characters of a row
-nothing_behind : (at : ℕ) (chars cs : List ℕ) → drop at chars ≡ cs → drop (at + length cs) chars ≡ []
-nothing_behind at chars cs here = sym (drop-drop (length cs) at chars) ∙ ap (drop (length cs)) here ∙ drop_all (length cs) cs (omega arith)
-
 -- a scalar of a page that takes the rest of its line
 module _ (c : ℕ) (cs : List ℕ) (first : is_first c ≡ true) (tree : Tree) (bytes : List ℕ) (sizes : IsOfSizes tree 1 1 (length bytes)) (len : key_len Block (c ∷ cs) ≡ length (c ∷ cs))
     (reads : (p : Progress) (row : Row) (at : ℕ) → drop at row.chars ≡ c ∷ cs → scalar_at Block no_properties p row at ≡ nodes.scalar no_properties p row at tree bytes (length (c ∷ cs))) where
@@ -76,37 +68,6 @@ module _ (c : ℕ) (cs : List ℕ) (first : is_first c ≡ true) (tree : Tree) (
 
   head_front : (owner at : ℕ) → head_of owner at 0 (c ∷ cs) ≡ (owner, at)
   head_front owner at = cond-false _ _ _ (not_white c cs first) ∙ last_of_four _ _ _ _ _ _ _ (no_item c cs first) (no_property c cs first) (no_key_whole (c ∷ cs) len)
-
-  lone_front : (owner at : ℕ) (row : Row) (rows : List Row) → drop at row.chars ≡ c ∷ cs → belonging (owner, at) row rows ≡ 0
-  lone_front owner at row rows here =
-      let flat : begins_flow (drop at row.chars) ≡ false = rw here (no_flow c cs first) in
-      let bare : begins_block (drop at row.chars) ≡ false = rw here (no_block c cs first) in
-      last_of_three _ _ _ _ _ flat bare
-
-  word_front : (levels : ℕ) (p : Progress) (row : Row) (at : ℕ) → drop at row.chars ≡ c ∷ cs → 0 < levels → p.nodes < 200000 → p.text + length bytes ≤ 16777216
-      → nodes.word Block levels no_properties p row at ≡ Ok ((tree, at + length (c ∷ cs)), grown p 1 (length bytes))
-  word_front levels p row at here some room fits =
-      let sum : p.text + 0 + length bytes ≡ p.text + length bytes = omega arith in
-      word_by levels p (grown p 1 0) row at (rw here (no_alias c cs first)) (node_fits levels p row at 0 some room (omega (arith, fits)))
-      ∙ reads (grown p 1 0) row at here
-      ∙ ap (λ r. r >>= λ q. Ok (nodes.ending (at + length (c ∷ cs)) (tree, q))) (text_fits (grown p 1 0) row (Here at) (length bytes) (omega (arith, fits)))
-      ∙ ap (λ total. Ok ((tree, at + length (c ∷ cs)), record p { nodes = p.nodes + 1; text = total })) sum
-
-  inline_front : (levels column : ℕ) (p : Progress) (line : LogicalLine) (at : ℕ) → drop at line.row.chars ≡ c ∷ cs → 0 < levels → p.nodes < 200000 → p.text + length bytes ≤ 16777216
-      → inline levels column no_properties p line at ≡ Ok ((tree, at + length (c ∷ cs)), grown p 1 (length bytes))
-  inline_front levels column p line at here some room fits =
-      let flat : begins_flow (drop at line.row.chars) ≡ false = rw here (no_flow c cs first) in
-      let bare : begins_block (drop at line.row.chars) ≡ false = rw here (no_block c cs first) in
-      last_of_three _ _ _ _ _ flat bare ∙ word_front levels p line.row at here some room fits
-
-  alone_front : (levels indent column : ℕ) (p : Progress) (line : LogicalLine) (at : ℕ) → drop at line.row.chars ≡ c ∷ cs → depth tree ≤ levels
-      → p.nodes + node_count tree ≤ 200000 → p.text + text_size tree ≤ 16777216 → inline_alone levels indent column no_properties p line at [] ≡ Ok (tree, grown p (node_count tree) (text_size tree))
-  alone_front levels indent column p line at here deep room fits =
-      let some : 0 < levels = omega (arith, deep, sizes.levels) in
-      let one : p.nodes < 200000 = omega (arith, room, sizes.nodes) in
-      let long : p.text + length bytes ≤ 16777216 = omega (arith, fits, sizes.text) in
-      alone_by levels indent column p (grown p 1 (length bytes)) line at (at + length (c ∷ cs)) tree (inline_front levels column p line at here some one long) (nothing_behind at line.row.chars (c ∷ cs) here)
-      ∙ (λ i. Ok (tree, grown p (sym sizes.nodes i) (sym sizes.text i)))
 
   value_front : IsValue (c ∷ cs) tree
   value_front =
@@ -123,8 +84,8 @@ module _ (c : ℕ) (cs : List ℕ) (first : is_first c ≡ true) (tree : Tree) (
         undashed = no_item c cs first;
         unkeyed = unkeyed_front;
         head = head_front;
-        lone = lone_front;
-        alone = alone_front;
+        lone = lone_is (c ∷ cs) bytes tree sizes (no_flow c cs first) (no_block c cs first) (no_alias c cs first) reads;
+        alone = alone_is (c ∷ cs) bytes tree sizes (no_flow c cs first) (no_block c cs first) (no_alias c cs first) reads;
       }
 
 value_spelled : (word text : List ℕ) → IsSpelled Block word text (length word) → IsValue word (Scalar (encode_utf8_all text))
@@ -144,9 +105,9 @@ text_value text = value_spelled (scalar text) text (subst (λ l. IsSpelled Block
 pub null_value : IsValue (codes "null") Null
 null_value = value_front 110 (117 ∷ 108 ∷ 108 ∷ []) refl Null [] null_sizes refl (λ p row at here. null_scalar Block [] refl p row at here)
 
--- a word that is read as it stands
-pub word_value : (text : List ℕ) → is_read_as_word text ≡ true → IsValue text (Scalar (encode_utf8_all text))
-word_value text reads = value_spelled text text (subst (λ l. IsSpelled Block l text (length text)) (append-nil text) (word_spelled Block text [] reads refl))
+-- a word without a minus
+pub unsigned_value : (text : List ℕ) → is_unsigned_word text ≡ true → IsValue text (Scalar (encode_utf8_all text))
+unsigned_value text reads = value_spelled text text (subst (λ l. IsSpelled Block l text (length text)) (append-nil text) (word_spelled Block text [] reads refl))
 
 module _ (opening close : ℕ) (opens : begins_flow (opening ∷ close ∷ []) ≡ true) (tree : Tree) (sizes : IsOfSizes tree 1 1 0)
     (reads : (levels : ℕ) (p : Progress) (row : Row) (at : ℕ) → p.nodes < 200000 → p.text ≤ 16777216 → drop at row.chars ≡ opening ∷ close ∷ [] → flow (suc levels) no_properties p row at ≡ Ok ((tree, at + 1 + 1), grown p 1 0)) where

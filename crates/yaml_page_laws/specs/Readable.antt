@@ -28,9 +28,14 @@ abbrev pub begins_word : List ℕ → Bool
 begins_word [] = false
 begins_word (c ∷ cs) = is_ascii_alphanumeric c || (c == 47)
 
--- a word that is read as it stands: ASCII letters, digits and `_ - . / :`, in front a letter, a digit or `/`, at the end no colon, and no word for null (YAML 1.2, chapters 7.3.3 and 10.3)
+-- a word without a minus: ASCII letters, digits and `_ - . / :`, in front a letter, a digit or `/`, at the end no colon, and no word for null (YAML 1.2, chapters 7.3.3 and 10.3)
+abbrev pub is_unsigned_word : List ℕ → Bool
+is_unsigned_word text = begins_word text && (list_all is_plain_byte text && not (ends_with nat_eq text (codes ":") || is_null_word text))
+
+-- a word that is read as it stands: one without a minus, or one behind a minus, as a number below zero is (YAML 1.2, chapter 7.3.3)
 abbrev pub is_read_as_word : List ℕ → Bool
-is_read_as_word text = begins_word text && (list_all is_plain_byte text && not (ends_with nat_eq text (codes ":") || is_null_word text))
+is_read_as_word [] = false
+is_read_as_word (c ∷ cs) = is_unsigned_word (c ∷ cs) || ((c == 45) && is_unsigned_word cs)
 
 -- no two of some texts are the same
 abbrev pub are_distinct : List (List ℕ) → Bool
