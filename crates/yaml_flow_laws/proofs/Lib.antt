@@ -8,6 +8,7 @@ pub mod FlowNodes
 pub mod FlowSequences
 pub mod FlowTexts
 pub mod FlowTrees
+pub mod MinusTexts
 pub mod Pieces
 pub mod ScalarTexts
 pub mod Taken

@@ -27,9 +27,11 @@ use Rattle.yaml_page_laws.specs.Readable.{is_read_as_word}
 use Rattle.yaml_page_laws.proofs.Firsts.{is_first, never, no_alias, no_colon, no_properties_len, quotes_are}
 use Rattle.yaml_page_laws.proofs.PlainRuns.{plain_read}
 use Rattle.yaml_page_laws.proofs.Spelled.{IsSpelled, scalar_spelled, word_spelled}
+use Rattle.yaml_page_laws.proofs.Words.{of_word}
 use Rattle.yaml_page_laws.proofs.Tokens.{front_len, len_is, null_scalar, scalar_is}
 use Rattle.yaml_flow_laws.proofs.Ends.{is_end, no_blanks_behind, no_colon_behind, no_key_colon, no_mark_behind, plain_ends}
 use Rattle.yaml_flow_laws.proofs.FlowTexts.{IsFlowText, IsSolid}
+use Rattle.yaml_flow_laws.proofs.MinusTexts.{minus_flow}
 use Rattle.yaml_flow_laws.proofs.Taken.{Took}
 use Rattle.yaml_flow_laws.proofs.Tokens.{no_cut, token_goes}
 
@@ -183,7 +185,10 @@ text_flow levels text = spelled_flow levels (scalar text) text (λ rest ends. sc
 -- a word that is read as it stands
 pub word_flow : (levels : ℕ) (text : List ℕ) → is_read_as_word text ≡ true
     → IsFlowText (suc levels) text (Scalar (encode_utf8_all text))
-word_flow levels text reads = spelled_flow levels text text (λ rest ends. word_spelled Flow text rest reads ends)
+word_flow levels =
+    of_word (λ text. IsFlowText (suc levels) text (Scalar (encode_utf8_all text)))
+    (λ text reads. spelled_flow levels text text (λ rest ends. word_spelled Flow text rest reads ends))
+    (λ c cs start bytes closed. minus_flow c cs start bytes closed levels)
 
 -- the word for null
 pub null_flow : (levels : ℕ) → IsFlowText (suc levels) (codes "null") Null

@@ -17,7 +17,8 @@ use Rattle.yaml_node_laws.proofs.Items as items
 use Rattle.yaml_node_laws.proofs.Induction.{some_level}
 use Rattle.yaml_node_laws.proofs.Layers.{of_each, part_of_entry, part_of_item, readable_map, readable_seq, readable_word, shown_map, shown_null, shown_seq, shown_text, shown_word, spelled_entry, spelled_keys, spelled_map, spelled_null, spelled_seq, spelled_text, spelled_word}
 use Rattle.yaml_page_laws.proofs.Spells.{Spells, word_spells}
-use Rattle.yaml_page_laws.proofs.Values.{empty_map_value, empty_seq_value, null_value, text_value, word_value}
+use Rattle.yaml_page_laws.proofs.Values.{empty_map_value, empty_seq_value, null_value, text_value}
+use Rattle.yaml_page_laws.proofs.Words.{word_value}
 use Rattle.yaml_page_laws.specs.Readable.{are_distinct, is_readable, is_so, spelled_by}
 
 -- a node spells its tree, if it is readable and the tree isn't deeper

@@ -22,8 +22,9 @@ use Rattle.yaml_node_laws.proofs.Layers.{entry_is, keyed, part_of_entry, part_of
 use Rattle.yaml_print_laws.proofs.CleanLines.{AreCleanLines, block_clean, doubled_utf8, entry_clean, item_clean, low_line, plain_line, scalar_line, word_clean}
 use Rattle.yaml_print_laws.proofs.ShownBytes.{block_bytes, entry_bytes, item_bytes, shown_bytes}
 use Rattle.yaml_page_laws.proofs.Spelled.{encoded}
+use Rattle.yaml_page_laws.proofs.Words.{word_bytes}
 use Rattle.yaml_print_laws.specs.Printed.{is_printable, tree_of}
-use Rattle.yaml_page_laws.specs.Readable.{are_distinct, begins_word, is_read_as_word, is_readable, is_so, spelled_by}
+use Rattle.yaml_page_laws.specs.Readable.{are_distinct, is_read_as_word, is_readable, is_so, spelled_by}
 
 -- a node with the characters of its texts, where its parts are given by theirs
 abbrev decoded_step : Node-F Node → Node
@@ -80,16 +81,19 @@ tree_map es = search (rules, the_lemmas)
 tree_seq : (xs : List Node) → tree_of (Seq xs) ≡ trees.Seq (map tree_of xs)
 tree_seq xs = search (rules, the_lemmas)
 
-readable_null : is_readable Null ≡ true
+pub readable_null : is_readable Null ≡ true
 readable_null = search (rules, the_lemmas)
 
-readable_text : (text : List ℕ) → is_readable (Text text) ≡ true
+pub readable_text : (text : List ℕ) → is_readable (Text text) ≡ true
 readable_text text = search (rules, the_lemmas)
 
-printable_word : (text : List ℕ) → is_printable (Word text) ≡ is_read_as_word text
+pub printable_null : is_printable Null ≡ true
+printable_null = search (rules, the_lemmas)
+
+pub printable_word : (text : List ℕ) → is_printable (Word text) ≡ is_read_as_word text
 printable_word text = search (rules, the_lemmas)
 
-printable_text : (text : List ℕ) → is_printable (Text text) ≡ is_utf8 text
+pub printable_text : (text : List ℕ) → is_printable (Text text) ≡ is_utf8 text
 printable_text text = search (rules, the_lemmas)
 
 abbrev pub keys_in : List (List ℕ × Node) → List (List ℕ)
@@ -166,20 +170,17 @@ null_decoded printable =
       low = ap (λ (s : Shown). begins_low s.first) shown_null;
     }
 
-bytes_of_word : (text : List ℕ) → is_read_as_word text ≡ true → list_all is_plain_byte text ≡ true
-bytes_of_word text reads = (and_parts (list_all is_plain_byte text) _ (and_parts (begins_word text) _ reads).1).0
-
 word_decoded : (text : List ℕ) → Claim (Word text)
 word_decoded text printable =
     let reads : is_read_as_word text ≡ true = sym (printable_word text) ∙ printable in
-    let clean = plain_line text (bytes_of_word text reads) in
-    let same : chars text ≡ text = sym (chars_from_encodes text text clean.utf8 (encoded text (bytes_of_word text reads))) in
+    let clean = plain_line text (word_bytes text reads) in
+    let same : chars text ≡ text = sym (chars_from_encodes text text clean.utf8 (encoded text (word_bytes text reads))) in
     record {
       readable = ap is_readable (decoded_word text) ∙ readable_word (chars text) ∙ ap is_read_as_word same ∙ reads;
       spelled = ap spelled_by (decoded_word text) ∙ spelled_word (chars text) ∙ ap trees.Scalar (encodes-chars text clean.utf8) ∙ sym (tree_word text);
       shows = of_word (Word text) (decoded (Word text)) text (chars text) (shown_word text) (ap shown (decoded_word text) ∙ shown_word (chars text)) (encodes-chars text clean.utf8);
       clean = subst AreCleanLines (sym (shown_word text)) (word_clean text clean);
-      low = ap (λ (s : Shown). begins_low s.first) (shown_word text) ∙ ap begins_low (sym (append-nil text)) ∙ bytes_low text [] (bytes_of_word text reads) refl;
+      low = ap (λ (s : Shown). begins_low s.first) (shown_word text) ∙ ap begins_low (sym (append-nil text)) ∙ bytes_low text [] (word_bytes text reads) refl;
     }
 
 text_decoded : (text : List ℕ) → Claim (Text text)
