@@ -5,9 +5,9 @@ use Rattle.project_print.specs.declared.compact_json.Dollars.TheVariants.{Twice}
 use Rattle.project_print.specs.declared.node.Node.TheVariants as nodes
 use Rattle.project_print.specs.Json.{json_of}
 use Rattle.yaml_json_laws.proofs.JsonTrees.{map_text, null_text, seq_text, text_text, word_text}
-use Rattle.yaml_json_laws.proofs.Legible.{json_null, json_seq, json_word}
-use Rattle.yaml_json_laws.specs.JsonNodes.{is_json_printable}
 use Rattle.yaml_page_laws.specs.Readable.{is_so}
+use Rattle.yaml_print_laws.proofs.Decoded.{printable_null, printable_seq, printable_word}
+use Rattle.yaml_print_laws.specs.Printed.{is_printable}
 
 -- keys keep their dollars, texts have them twice, and a number below zero stands as it is
 nested : json_of Twice (nodes.Map ((codes "a$b", nodes.Text (codes "x$y\n")) ∷ (codes "d", nodes.Seq (nodes.Word (codes "-1") ∷ nodes.Null ∷ [])) ∷ [])) ≡ codes "{\"a$b\":\"x$$y\\n\",\"d\":[-1,null]}"
@@ -15,5 +15,5 @@ unfolding escape_byte
 nested = simp (map_text, seq_text, text_text, word_text, null_text)
 
 -- such words are read back
-printable : is_json_printable (nodes.Seq (nodes.Word (codes "-1") ∷ nodes.Null ∷ [])) ≡ true
-printable = json_seq (nodes.Word (codes "-1") ∷ nodes.Null ∷ []) ∙ (λ i. is_so (json_word (codes "-1") i) && (is_so (json_null i) && true))
+printable : is_printable (nodes.Seq (nodes.Word (codes "-1") ∷ nodes.Null ∷ [])) ≡ true
+printable = printable_seq (nodes.Word (codes "-1") ∷ nodes.Null ∷ []) ∙ (λ i. is_so (printable_word (codes "-1") i) && (is_so (printable_null i) && true))

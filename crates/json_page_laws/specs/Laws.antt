@@ -10,17 +10,16 @@ use Rattle.project_print.specs.Values.{value_of}
 use Rattle.project_print.specs.declared.node.Node.{Node}
 use Rattle.tree_base.specs.declared.Tree.{Tree}
 use Rattle.typed_project.specs.declared.project.Project.{Project}
-use Rattle.yaml_json_laws.specs.JsonNodes.{is_json_printable}
 use Rattle.yaml_laws.specs.Laws.{IsWithinLimits}
 use Rattle.yaml_lines.specs.Scan.{scan_of}
 use Rattle.yaml_nodes.specs.Progress.{◌>>=◌}
-use Rattle.yaml_print_laws.specs.Printed.{tree_of}
+use Rattle.yaml_print_laws.specs.Printed.{is_printable, tree_of}
 use Rattle.yaml_tree.specs.Reading.{reading}
-use Rattle.json_page_laws.specs.Held.{is_held}
+use Rattle.page_word_laws.specs.Held.{is_held}
 
 -- the JSON of a node spells a tree whose scalars have the values that the node means, whatever the variables are
 abbrev pub JsonGivesValues : Type 0
-JsonGivesValues = (env : Variables) (file : ℕ) (node : Node) → is_json_printable node ≡ true → IsWithinLimits (tree_of node)
+JsonGivesValues = (env : Variables) (file : ℕ) (node : Node) → is_printable node ≡ true → IsWithinLimits (tree_of node)
     → (tree : Tree) × ((scan_of file (json_page_text node) >>= reading) ≡ Ok tree) × (substituted_tree env tree ≡ Ok (value_of node))
 
 -- the JSON page of a project that some merged tree means, which has no marks and no key twice, spells a tree that means the

@@ -26,8 +26,9 @@ use Rattle.tree_base.specs.declared.tree.Tree.{Tree}
 use Rattle.tree_base.specs.declared.tree.Tree.TheVariants as trees
 use Rattle.yaml_laws.proofs.Sizes.{map_sizes, scalar_sizes, seq_sizes}
 use Rattle.yaml_node_laws.proofs.Induction.{OfAll, of_every}
-use Rattle.yaml_page_laws.specs.Readable.{are_distinct, begins_word, is_read_as_word, is_so}
-use Rattle.yaml_print_laws.proofs.Decoded.{keys_in, printable_in, printable_map, printable_seq}
+use Rattle.yaml_page_laws.specs.Readable.{are_distinct, is_so}
+use Rattle.yaml_page_laws.proofs.Words.{word_bytes}
+use Rattle.yaml_print_laws.proofs.Decoded.{keys_in, printable_in, printable_map, printable_seq, printable_word}
 use Rattle.yaml_print_laws.proofs.PrintedPages.{printed_back}
 use Rattle.yaml_print_laws.specs.Printed.{is_printable, tree_of}
 
@@ -70,9 +71,6 @@ value_seq xs = search (rules, nodes.the_lemmas)
 
 pub printable_text_is : (text : List ℕ) → is_printable (Text text) ≡ is_utf8 text
 printable_text_is text = search (rules, nodes.the_lemmas)
-
-printable_word : (text : List ℕ) → is_printable (Word text) ≡ is_read_as_word text
-printable_word text = search (rules, nodes.the_lemmas)
 
 -- a walk over a printed tree gives the tree that is meant, and counts no more bytes than are printed
 record IsWalked (env : Variables) (tree value : Tree) (size : ℕ) : Type 0 where
@@ -121,16 +119,13 @@ module _ (env : Variables) where
   null_claim : Claim env Null
   null_claim printable size room = again trees.Null (tree_of Null) trees.Null (value_of Null) size tree_null value_null (record { new = size; is = walk_null size; within = omega arith })
 
-  bytes_of_word : (text : List ℕ) → is_read_as_word text ≡ true → list_all is_plain_byte text ≡ true
-  bytes_of_word text reads = (and_parts (list_all is_plain_byte text) _ (and_parts (begins_word text) _ reads).1).0
-
   scalar_room : (text : List ℕ) (size : ℕ) → size + text_size (trees.Scalar text) ≤ 16777216 → size + length text ≤ 16777216
   scalar_room text size room = let sizes = scalar_sizes text in omega (arith, sizes.text, room)
 
   word_claim : (text : List ℕ) → Claim env (Word text)
   word_claim text printable size room =
       again (trees.Scalar text) (tree_of (Word text)) (trees.Scalar text) (value_of (Word text)) size (tree_word text) (value_word text)
-      (scalar_walked text text size (word_value env text (bytes_of_word text (sym (printable_word text) ∙ printable))) (omega arith)
+      (scalar_walked text text size (word_value env text (word_bytes text (sym (printable_word text) ∙ printable))) (omega arith)
       (scalar_room text size (room_at (tree_of (Word text)) (trees.Scalar text) size (tree_word text) room)))
 
   text_claim : (text : List ℕ) → Claim env (Text text)

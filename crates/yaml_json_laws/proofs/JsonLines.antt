@@ -29,17 +29,15 @@ use Rattle.yaml_tree.specs.Reading.{document, is_start, no_owner, reading}
 use Rattle.yaml_laws.proofs.NumberedLines.{row_with}
 use Rattle.yaml_laws.proofs.OneLine.{alone_by, last_of_three, node_is}
 use Rattle.yaml_laws.specs.Laws.{IsWithinLimits, chars_of}
-use Rattle.yaml_page_laws.proofs.Values.{IsValue, word_value}
+use Rattle.yaml_page_laws.proofs.Values.{IsValue}
+use Rattle.yaml_page_laws.proofs.Words.{word_value}
 use Rattle.yaml_page_laws.specs.Readable.{is_readable, spelled_by}
-use Rattle.yaml_node_laws.proofs.Layers.{of_each, shown_null, spelled_text, spelled_word}
+use Rattle.yaml_node_laws.proofs.Layers.{of_each, readable_word, shown_null, spelled_text, spelled_word}
 use Rattle.project_print.specs.Scalars.{doubled}
 use Rattle.yaml_node_laws.proofs.Pages as pages
 use Rattle.yaml_flow_laws.proofs.FlowTexts.{IsFlowText}
 use Rattle.yaml_json_laws.proofs.JsonTrees.{json_are, json_text, map_text, null_text, seq_text, text_text, word_text}
-use Rattle.yaml_json_laws.proofs.Legible.{of_json_word, readable_word}
-use Rattle.yaml_json_laws.proofs.MinusWords.{minus_value}
 use Rattle.yaml_json_laws.proofs.TextLines.{string_value, value_page}
-use Rattle.yaml_json_laws.specs.JsonNodes.{is_json_readable, is_json_word}
 use Rattle.yaml_json_laws.specs.Laws.{JsonReadsBack}
 
 -- no mark of a block stands in front of a line, and the value of the line begins there
@@ -114,7 +112,7 @@ one_line levels file (line ∷ []) text tree bare is nodes bytes are =
 
 -- what a file of one line with the JSON of a node spells
 abbrev Back : Node → Type 0
-Back node = (lines : Lines) → is_json_readable node ≡ true → IsWithinLimits (spelled_by node) → chars_of lines ≡ json_text node ∷ [] → reading lines ≡ Ok (spelled_by node)
+Back node = (lines : Lines) → is_readable node ≡ true → IsWithinLimits (spelled_by node) → chars_of lines ≡ json_text node ∷ [] → reading lines ≡ Ok (spelled_by node)
 
 -- a node that begins with a bracket
 collection_is : (node : Node) (text : List ℕ) → json_text node ≡ text → IsBare text → Back node
@@ -124,10 +122,7 @@ collection_is node text e bare lines readable within are =
 -- null
 null_is : Back nodes.Null
 null_is lines readable within are =
-    pages.read_back lines nodes.Null page_null within (are ∙ ap (λ t. t ∷ []) null_text ∙ sym (ap lines_of shown_null))
-  where
-    page_null : is_readable nodes.Null ≡ true
-    page_null = search (rules, the_lemmas)
+    pages.read_back lines nodes.Null readable within (are ∙ ap (λ t. t ∷ []) null_text ∙ sym (ap lines_of shown_null))
 
 -- a scalar, whose one line is a value
 value_is : (node : Node) (word bytes : List ℕ) → json_text node ≡ word → spelled_by node ≡ trees.Scalar bytes
@@ -136,12 +131,9 @@ value_is node word bytes e same value lines readable within are =
     let spelled = subst IsWithinLimits same within in
     value_page 63 lines.file lines.lines word bytes value spelled.text (are ∙ ap (λ t. t ∷ []) e) ∙ ap (λ tree. Ok tree) (sym same)
 
-word_value_is : (text : List ℕ) → is_json_word text ≡ true → IsValue text (trees.Scalar (encode_utf8_all text))
-word_value_is = of_json_word (λ text. IsValue text (trees.Scalar (encode_utf8_all text))) word_value minus_value
-
 word_is : (text : List ℕ) → Back (nodes.Word text)
 word_is text lines readable =
-    value_is (nodes.Word text) text (encode_utf8_all text) (word_text text) (spelled_word text) (word_value_is text (sym (readable_word text) ∙ readable)) lines readable
+    value_is (nodes.Word text) text (encode_utf8_all text) (word_text text) (spelled_word text) (word_value text (sym (readable_word text) ∙ readable)) lines readable
 
 each_is : (node : Node) → Back node
 each_is =

@@ -1,4 +1,4 @@
--- Strings and words of JSON as nodes of flow collections.
+-- Strings of JSON as nodes of flow collections.
 use Rattle.std.proofs.Common.{◌≡◌, ℕ, true, suc, List, [], ◌∷◌, ◌++◌, flat_map, length, refl}
 use Rattle.std.specs.Str.{encode_utf8_all}
 use Rattle.json.specs.Print.{escape_byte, quoted}
@@ -7,11 +7,8 @@ use Rattle.yaml_lines.specs.declared.plain.Context.TheVariants.{Flow}
 use Rattle.yaml_laws.proofs.Sizes.{scalar_sizes}
 use Rattle.yaml_page_laws.proofs.Tokens.{len_is, scalar_is}
 use Rattle.yaml_flow_laws.proofs.FlowTexts.{IsFlowText}
-use Rattle.yaml_flow_laws.proofs.ScalarTexts.{scalar_flow, word_flow}
-use Rattle.yaml_json_laws.proofs.Legible.{of_json_word}
-use Rattle.yaml_json_laws.proofs.MinusWords.{minus_flow}
+use Rattle.yaml_flow_laws.proofs.ScalarTexts.{scalar_flow}
 use Rattle.yaml_json_laws.proofs.Strings.{string_spelled}
-use Rattle.yaml_json_laws.specs.JsonNodes.{is_json_word}
 
 -- a string reads as its text
 pub string_flow : (levels : ℕ) (text : List ℕ)
@@ -21,10 +18,3 @@ string_flow levels text =
     (λ rest ends. len_is Flow (quoted text ++ rest) text (length (quoted text)) (string_spelled Flow text rest))
     (λ rest ends p row at here. scalar_is Flow (quoted text ++ rest) text (length (quoted text)) (string_spelled Flow text rest) p row at here)
     levels
-
--- a word that is read as it stands
-pub json_word_flow : (levels : ℕ) (text : List ℕ) → is_json_word text ≡ true
-    → IsFlowText (suc levels) text (Scalar (encode_utf8_all text))
-json_word_flow levels =
-    of_json_word (λ text. IsFlowText (suc levels) text (Scalar (encode_utf8_all text))) (word_flow levels)
-    (λ c cs start bytes closed. minus_flow c cs start bytes closed levels)

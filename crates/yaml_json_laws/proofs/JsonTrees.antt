@@ -12,17 +12,15 @@ use Rattle.json.specs.Print.{quoted}
 use Rattle.tree_base.specs.declared.tree.Tree.{Tree}
 use Rattle.tree_base.specs.Trees.{depth, greatest}
 use Rattle.yaml_laws.proofs.Sizes.{map_sizes, seq_sizes}
-use Rattle.yaml_page_laws.specs.Readable.{are_distinct, is_so, spelled_by}
+use Rattle.yaml_page_laws.specs.Readable.{are_distinct, is_readable, is_so, spelled_by}
 use Rattle.yaml_node_laws.proofs.Induction.{some_level}
-use Rattle.yaml_node_laws.proofs.Layers.{of_each, spelled_entry, spelled_keys, spelled_map, spelled_null, spelled_seq, spelled_text, spelled_word}
+use Rattle.yaml_node_laws.proofs.Layers.{of_each, readable_map, readable_seq, readable_word, spelled_entry, spelled_keys, spelled_map, spelled_null, spelled_seq, spelled_text, spelled_word}
 use Rattle.yaml_flow_laws.proofs.FlowTexts.{IsFlowText}
-use Rattle.yaml_flow_laws.proofs.ScalarTexts.{null_flow}
+use Rattle.yaml_flow_laws.proofs.ScalarTexts.{null_flow, word_flow}
 use Rattle.yaml_json_laws.proofs.Commas.{joined, listed_is}
 use Rattle.yaml_json_laws.proofs.JsonMappings.{object_is}
 use Rattle.yaml_json_laws.proofs.JsonSequences.{array_is}
-use Rattle.yaml_json_laws.proofs.JsonTexts.{json_word_flow, string_flow}
-use Rattle.yaml_json_laws.proofs.Legible.{readable_map, readable_seq, readable_word}
-use Rattle.yaml_json_laws.specs.JsonNodes.{is_json_readable}
+use Rattle.yaml_json_laws.proofs.JsonTexts.{string_flow}
 
 -- the JSON of a page
 abbrev pub json_text : Node → List ℕ
@@ -63,32 +61,32 @@ seq_text xs = seq_text_at xs ∙ ap (λ l. 91 ∷ (l ++ 93 ∷ [])) (listed_is (
 
 -- a node of so many levels that is readable reads back from its JSON
 abbrev Claim : ℕ → Node → Type 0
-Claim levels node = is_json_readable node ≡ true → depth (spelled_by node) ≤ levels → IsFlowText levels (json_text node) (spelled_by node)
+Claim levels node = is_readable node ≡ true → depth (spelled_by node) ≤ levels → IsFlowText levels (json_text node) (spelled_by node)
 
 as_json : (levels : ℕ) (text other : List ℕ) (tree same : Tree) → other ≡ text → same ≡ tree
     → IsFlowText levels text tree → IsFlowText levels other same
 as_json levels text other tree same e f is = subst (λ t. IsFlowText levels t same) (sym e) (subst (λ t. IsFlowText levels text t) (sym f) is)
 
 module _ (levels : ℕ) (back : (node : Node) → Claim levels node) where
-  each_value : (es : List (List ℕ × Node)) → list_all is_so (map (λ e. is_json_readable e.1) es) ≡ true
+  each_value : (es : List (List ℕ × Node)) → list_all is_so (map (λ e. is_readable e.1) es) ≡ true
       → greatest (map (λ (e : List ℕ × Tree). depth e.1) (map spelled_entry es)) ≤ levels
       → All (λ (e : List ℕ × Node). IsFlowText levels (json_text e.1) (spelled_by e.1)) es
   each_value [] so deep = All-nil (λ (e : List ℕ × Node). IsFlowText levels (json_text e.1) (spelled_by e.1))
   each_value (e ∷ es) so deep =
-      let p = and_parts (is_json_readable e.1) (list_all is_so (map (λ e. is_json_readable e.1) es)) so in
+      let p = and_parts (is_readable e.1) (list_all is_so (map (λ e. is_readable e.1) es)) so in
       All-cons (λ (e : List ℕ × Node). IsFlowText levels (json_text e.1) (spelled_by e.1)) e es (back e.1 p.0 (omega (arith, deep))) (each_value es p.1 (omega (arith, deep)))
 
-  each_item : (xs : List Node) → list_all is_so (map is_json_readable xs) ≡ true
+  each_item : (xs : List Node) → list_all is_so (map is_readable xs) ≡ true
       → greatest (map depth (map spelled_by xs)) ≤ levels
       → All (λ x. IsFlowText levels (json_text x) (spelled_by x)) xs
   each_item [] so deep = All-nil (λ x. IsFlowText levels (json_text x) (spelled_by x))
   each_item (x ∷ xs) so deep =
-      let p = and_parts (is_json_readable x) (list_all is_so (map is_json_readable xs)) so in
+      let p = and_parts (is_readable x) (list_all is_so (map is_readable xs)) so in
       All-cons (λ x. IsFlowText levels (json_text x) (spelled_by x)) x xs (back x p.0 (omega (arith, deep))) (each_item xs p.1 (omega (arith, deep)))
 
   map_claim : (es : List (List ℕ × Node)) → Claim (suc levels) (nodes.Map es)
   map_claim es readable deep =
-      let p = and_parts (are_distinct (spelled_keys es)) (list_all is_so (map (λ e. is_json_readable e.1) es)) (sym (readable_map es) ∙ readable) in
+      let p = and_parts (are_distinct (spelled_keys es)) (list_all is_so (map (λ e. is_readable e.1) es)) (sym (readable_map es) ∙ readable) in
       let sizes = map_sizes (map spelled_entry es) in
       let same = ap depth (spelled_map es) in
       as_json (suc levels) _ _ _ _ (map_text es) (spelled_map es)
@@ -103,7 +101,7 @@ module _ (levels : ℕ) (back : (node : Node) → Claim levels node) where
   more_levels : (node : Node) → Claim (suc levels) node
   more_levels =
       of_each (Claim (suc levels)) (λ readable deep. as_json (suc levels) _ _ _ _ null_text spelled_null (null_flow levels))
-      (λ text readable deep. as_json (suc levels) _ _ _ _ (word_text text) (spelled_word text) (json_word_flow levels text (sym (readable_word text) ∙ readable)))
+      (λ text readable deep. as_json (suc levels) _ _ _ _ (word_text text) (spelled_word text) (word_flow levels text (sym (readable_word text) ∙ readable)))
       (λ text readable deep. as_json (suc levels) _ _ _ _ (text_text text) (spelled_text text) (string_flow levels (doubled text)))
       map_claim seq_claim
 

@@ -8,8 +8,5 @@ pub mod JsonPieces
 pub mod JsonSequences
 pub mod JsonTexts
 pub mod JsonTrees
-pub mod Legible
-pub mod LoneScalars
-pub mod MinusWords
 pub mod Strings
 pub mod TextLines

@@ -6,20 +6,19 @@ use Rattle.project_print.specs.Json.{json_of, json_page_text}
 use Rattle.project_print.specs.Pages.{page_text}
 use Rattle.yaml_laws.specs.Laws.{IsWithinLimits, chars_of}
 use Rattle.yaml_lines.specs.declared.lines.Lines.{Lines}
-use Rattle.yaml_page_laws.specs.Readable.{spelled_by}
+use Rattle.yaml_page_laws.specs.Readable.{is_readable, spelled_by}
 use Rattle.yaml_tree.specs.Reading.{reading}
 use Rattle.yaml_lines.specs.Scan.{scan_of}
 use Rattle.yaml_nodes.specs.Progress.{◌>>=◌}
-use Rattle.yaml_json_laws.specs.JsonNodes.{is_json_printable, is_json_readable}
 use Rattle.yaml_print_laws.specs.Printed.{is_printable, tree_of}
 
 -- a file whose one line is the JSON of a node spells the tree of the node (YAML 1.2, chapter 1.3: each text of JSON is one of YAML)
 abbrev pub JsonReadsBack : Type 0
-JsonReadsBack = (lines : Lines) (node : Node) → is_json_readable node ≡ true → IsWithinLimits (spelled_by node) → chars_of lines ≡ json_of Twice node ∷ [] → reading lines ≡ Ok (spelled_by node)
+JsonReadsBack = (lines : Lines) (node : Node) → is_readable node ≡ true → IsWithinLimits (spelled_by node) → chars_of lines ≡ json_of Twice node ∷ [] → reading lines ≡ Ok (spelled_by node)
 
 -- a file that is the JSON of a node spells the tree of the node, byte for byte, whatever texts stand in it
 abbrev pub PrintedJsonReadsBack : Type 0
-PrintedJsonReadsBack = (file : ℕ) (node : Node) → is_json_printable node ≡ true → IsWithinLimits (tree_of node)
+PrintedJsonReadsBack = (file : ℕ) (node : Node) → is_printable node ≡ true → IsWithinLimits (tree_of node)
     → (scan_of file (json_page_text node) >>= reading) ≡ Ok (tree_of node)
 
 -- the page of a node and its JSON are read as one tree, byte for byte

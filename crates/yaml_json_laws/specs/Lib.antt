@@ -1,2 +1,1 @@
-pub mod JsonNodes
 pub mod Laws

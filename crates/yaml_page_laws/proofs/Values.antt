@@ -88,7 +88,8 @@ module _ (c : ℕ) (cs : List ℕ) (first : is_first c ≡ true) (tree : Tree) (
         alone = alone_is (c ∷ cs) bytes tree sizes (no_flow c cs first) (no_block c cs first) (no_alias c cs first) reads;
       }
 
-value_spelled : (word text : List ℕ) → IsSpelled Block word text (length word) → IsValue word (Scalar (encode_utf8_all text))
+-- a text that is spelled stands for itself
+pub value_spelled : (word text : List ℕ) → IsSpelled Block word text (length word) → IsValue word (Scalar (encode_utf8_all text))
 value_spelled word text is =
     let tree = Scalar (encode_utf8_all text) in
     let same : length word ≡ length (is.front ∷ is.more) = ap length is.is in

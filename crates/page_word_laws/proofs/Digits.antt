@@ -8,11 +8,11 @@ use Rattle.std.specs.List.{ends_with, list_all}
 use Rattle.project_print.proofs.PlainWords.{apart, ends_later}
 use Rattle.project_print.specs.Scalars.{is_plain_byte}
 use Rattle.short_forms.specs.MountLaws.{flag_word}
-use Rattle.yaml_json_laws.specs.JsonNodes.{is_json_word}
 use Rattle.yaml_nodes.specs.Scalars.{is_null_word}
 use Rattle.yaml_page_laws.proofs.Firsts.{excluded}
 use Rattle.yaml_page_laws.proofs.PlainRuns.{byte_below}
-use Rattle.yaml_page_laws.specs.Readable.{begins_word, is_read_as_word}
+use Rattle.yaml_page_laws.specs.Readable.{begins_word, is_read_as_word, is_unsigned_word}
+use Rattle.yaml_page_laws.proofs.Words.{unsigned_is}
 
 digit_plain : (c : ℕ) → is_ascii_digit c ≡ true → is_plain_byte c ≡ true
 digit_plain c digit = grind (arith, nat_tests)
@@ -41,8 +41,8 @@ no_null d ds digit = rw (apart is_ascii_digit d 110 digit refl, apart is_ascii_d
 neither : (a b : Bool) → a ≡ false → b ≡ false → not (a || b) ≡ true
 neither a b p q = rw (p, q) refl
 
--- one digit or more is a word
-digits_word : (d : ℕ) (ds : List ℕ) → list_all is_ascii_digit (d ∷ ds) ≡ true → is_read_as_word (d ∷ ds) ≡ true
+-- one digit or more is a word without a minus
+digits_word : (d : ℕ) (ds : List ℕ) → list_all is_ascii_digit (d ∷ ds) ≡ true → is_unsigned_word (d ∷ ds) ≡ true
 digits_word d ds are =
     let parts = and_parts (is_ascii_digit d) (list_all is_ascii_digit ds) are in
     let ends = neither (ends_with eqb (d ∷ ds) (58 ∷ [])) (is_null_word (d ∷ ds)) (unclosed d ds are) (no_null d ds parts.0) in
@@ -94,27 +94,23 @@ onto_nothing base upper n = refl
 decimal_is : (n : ℕ) → AreDigits (decimal n)
 decimal_is n = subst AreDigits (onto_nothing 10 false n) (first_digits 64 n (omega arith))
 
-decimal_word : (n : ℕ) → is_read_as_word (decimal n) ≡ true
-decimal_word n = let are = decimal_is n in ap is_read_as_word are.is ∙ digits_word are.front are.more are.digits
-
-word_json : (text : List ℕ) → is_read_as_word text ≡ true → is_json_word text ≡ true
-word_json [] reads = absurd (cc)
-word_json (c ∷ cs) reads = rw reads refl
+decimal_word : (n : ℕ) → is_unsigned_word (decimal n) ≡ true
+decimal_word n = let are = decimal_is n in ap is_unsigned_word are.is ∙ digits_word are.front are.more are.digits
 
 -- a number
-pub number_word : (n : ℕ) → is_json_word (decimal n) ≡ true
-number_word n = word_json (decimal n) (decimal_word n)
+pub number_word : (n : ℕ) → is_read_as_word (decimal n) ≡ true
+number_word n = unsigned_is (decimal n) (decimal_word n)
 
 or_right : (a : Bool) → (a || true) ≡ true
 or_right true = refl
 or_right false = refl
 
 -- a number that may be below zero
-pub int_word : (z : ℤ) → is_json_word (signed_decimal z) ≡ true
+pub int_word : (z : ℤ) → is_read_as_word (signed_decimal z) ≡ true
 int_word (pos n) = number_word n
-int_word (negsuc n) = ap (λ b. is_read_as_word (45 ∷ decimal (suc n)) || b) (decimal_word (suc n)) ∙ or_right (is_read_as_word (45 ∷ decimal (suc n)))
+int_word (negsuc n) = ap (λ b. is_unsigned_word (45 ∷ decimal (suc n)) || b) (decimal_word (suc n)) ∙ or_right (is_unsigned_word (45 ∷ decimal (suc n)))
 
 -- a flag
-pub flag_is : (b : Bool) → is_json_word (flag_word b) ≡ true
+pub flag_is : (b : Bool) → is_read_as_word (flag_word b) ≡ true
 flag_is true = refl
 flag_is false = refl

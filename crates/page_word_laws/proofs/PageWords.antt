@@ -29,8 +29,9 @@ use Rattle.project_pages.specs.AttributePages.{Shown, aliases_node, attribute_en
 use Rattle.project_print.specs.declared.node.Node.{Node}
 use Rattle.project_print.specs.declared.node.Node.TheVariants.{Map, Null, Seq, Text, Word}
 use Rattle.yaml_page_laws.specs.Readable.{is_so}
-use Rattle.json_page_laws.proofs.Digits.{flag_is, int_word, number_word}
-use Rattle.json_page_laws.proofs.HeldNodes.{has_words, words_in, words_map, words_null, words_seq, words_text, words_word}
+use Rattle.page_word_laws.proofs.Digits.{flag_is, int_word, number_word}
+use Rattle.page_word_laws.proofs.HeldNodes.{has_words, held_printable, words_in, words_map, words_null, words_seq, words_text, words_word}
+use Rattle.page_word_laws.specs.Laws.{PagesArePrintable}
 
 -- entries and items whose words are words
 abbrev Fine : Shown → Type 0
@@ -266,10 +267,13 @@ later_words project =
     (any (codes "secrets") (λ secrets. Map (map file_entry secrets)) files_words project.secrets) (last_words project))
 
 -- so are those of a project
-pub project_words : (project : Project) → has_words (project_node project) ≡ true
+project_words : (project : Project) → has_words (project_node project) ≡ true
 project_words project =
     let configs = if_any (codes "configs") (λ configs. Map (map file_entry configs)) project.configs in
     let named : Shown = (codes "name", Text project.name) ∷ later_sections project in
     mapping (configs ++ named)
     (with_all configs named (any (codes "configs") (λ configs. Map (map file_entry configs)) files_words project.configs)
     (with_entry (codes "name") (Text project.name) (later_sections project) (words_text project.name) (later_words project)))
+
+pub pages_printable : PagesArePrintable
+pages_printable project held = held_printable (project_node project) held (project_words project)
