@@ -1,5 +1,5 @@
 -- The page of a project is loaded as that project.
-use Rattle.std.proofs.Common.{◌≡◌, ◌∙◌, ◌≤◌, ℕ, List, [], ◌∷◌, ◌++◌, Some, Result, Ok, Err, codes, refl, ap, arith}
+use Rattle.std.proofs.Common.{◌≡◌, ◌∙◌, ◌≤◌, ℕ, true, List, [], ◌∷◌, ◌++◌, Some, Result, Ok, Err, codes, refl, ap, arith}
 use Rattle.std.proofs.lemmas.Bool.{le-leb}
 use Rattle.file_paths.specs.Shapes.{entries_in}
 use Rattle.loaded_file_laws.proofs.Loads.{files_loaded}
@@ -13,6 +13,7 @@ use Rattle.loaded_page_laws.specs.Pages.{IsReadable, PagesAreLoaded, page_tree}
 use Rattle.merge_rules.specs.Answers.{within}
 use Rattle.page_laws.proofs.PageElements.{any, page_out}
 use Rattle.page_laws.proofs.PagesMean.{pages_mean}
+use Rattle.page_word_laws.proofs.PageWords.{pages_printable}
 use Rattle.project_laws.proofs.Sizes.{no_larger}
 use Rattle.project_laws.proofs.Values.{value_text, values_given}
 use Rattle.project_pages.specs.AttributePages.{file_entry, page, project_node}
@@ -29,6 +30,7 @@ use Rattle.yaml_lines.specs.Scan.{scan_of}
 use Rattle.yaml_lines.specs.declared.Lines.{Lines}
 use Rattle.yaml_lines.specs.declared.YamlRefusal.{YamlRefusal}
 use Rattle.yaml_nodes.specs.Progress.{◌>>=◌}
+use Rattle.yaml_print_laws.specs.Printed.{is_printable}
 use Rattle.yaml_tree.specs.Reading.{reading}
 
 -- the two ways to say what lines spell
@@ -48,6 +50,9 @@ named project =
     ∙ ap (λ (t : Tree). Some t) (value_text project.name)
 
 module _ (profiles : Profiles) (project : Project) (is : IsReadable profiles project) where
+  printable : is_printable (project_node project) ≡ true
+  printable = pages_printable project is.held
+
   bounded : within (page_tree project) ≡ Ok (page_tree project)
   bounded =
       let smaller = no_larger (project_node project) in
@@ -65,7 +70,7 @@ module _ (profiles : Profiles) (project : Project) (is : IsReadable profiles pro
     names = named project;
     meant = pages_mean project.name is.meant.0 project is.meant.1 is.meant.2 is.meant.3;
     unmarked = value_clean (project_node project);
-    keys = value_own (project_node project) is.printable;
+    keys = value_own (project_node project) printable;
     alone = is.alone;
     bounded = bounded;
     long = is.long;
@@ -76,7 +81,7 @@ module _ (profiles : Profiles) (project : Project) (is : IsReadable profiles pro
 
   spells : (caller : Variables) → Spells caller (page project) (page_tree project)
   spells caller =
-      let given = values_given (value_at (with_all [] caller)) 0 (project_node project) is.printable is.tree in
+      let given = values_given (value_at (with_all [] caller)) 0 (project_node project) printable is.tree in
       record {
         spelled = given.0;
         read = same_reading (scan_of 0 (page_text (project_node project))) ∙ given.1;

@@ -16,6 +16,7 @@ use Rattle.merge_rules.specs.Laws.{no_mark, own_keys}
 use Rattle.normal_form.specs.ProjectNames.{is_name}
 use Rattle.normal_form.specs.Projects as normal
 use Rattle.outside_files.specs.Files.{Contents}
+use Rattle.page_word_laws.specs.Held.{is_held}
 use Rattle.project_meaning.specs.Meaning.{project_of}
 use Rattle.project_pages.specs.AttributePages.{page, project_node}
 use Rattle.project_print.specs.Values.{value_of}
@@ -23,7 +24,7 @@ use Rattle.tree_base.specs.Entries.{HasDistinctKeys}
 use Rattle.tree_base.specs.declared.Tree.{Tree}
 use Rattle.typed_project.specs.declared.project.Project.{Project}
 use Rattle.yaml_laws.specs.Laws.{IsWithinLimits}
-use Rattle.yaml_print_laws.specs.Printed.{is_printable, tree_of}
+use Rattle.yaml_print_laws.specs.Printed.{tree_of}
 
 -- the tree of a project's page
 abbrev pub page_tree : Project → Tree
@@ -35,13 +36,13 @@ IsMeant project =
     (tree : Tree) × (no_mark tree ≡ true) × (own_keys tree ≡ true)
     × (project_of project.name tree ≡ Ok project)
 
--- a project whose page is loaded as that project: a tree means it; its name is one; its texts are UTF-8; its page is within
--- the limits; no two of its entries are one where entries are unique; what its services are built from is in long forms; its
+-- a project whose page is loaded as that project: a tree means it; its name is one; its texts and keys are UTF-8, and no mapping of
+-- its page has a key twice; its page is within the limits; no two of its entries are one where entries are unique; what its services are built from is in long forms; its
 -- paths are absolute; its services have nothing left to load; and these profiles enable them
 pub record IsReadable (profiles : Profiles) (project : Project) : Type 0 where
   pub named : IsTrue (is_name project.name)
   pub meant : IsMeant project
-  pub printable : is_printable (project_node project) ≡ true
+  pub held : is_held (project_node project) ≡ true
   pub tree : IsWithinLimits (tree_of (project_node project))
   pub short : length (page project) ≤ file_limit
   pub alone : no_twins overlay_rules (page_tree project) ≡ true

@@ -1,11 +1,11 @@
 -- A file whose one line is JSON is read as the tree that it spells.
-use Rattle.std.proofs.Common.{◌≡◌, ◌∙◌, ℕ, zero, suc, ◌+◌, ◌≤◌, Bool, true, false, cond, List, [], ◌∷◌, None, Ok, length, map, take, refl, sym, ap, subst, append-nil, arith, rules}
+use Rattle.std.proofs.Common.{◌≡◌, ◌∙◌, ℕ, zero, suc, ◌+◌, ◌≤◌, Bool, true, false, cond, List, [], ◌∷◌, None, Ok, length, map, take, refl, sym, ap, subst, append-nil, arith}
 use Rattle.std.proofs.lemmas.Bool.{cond-false, cond-true}
 use Rattle.std.proofs.lemmas.List.{drop_all}
 use Rattle.std.specs.Str.{chars, encode_utf8_all}
 use Rattle.yaml_groups.specs.declared.line.LogicalLine.{LogicalLine}
 use Rattle.yaml_groups.specs.Grouped.{begins_flow, belonging, grouped, head_of, with_lines}
-use Rattle.project_print.specs.declared.node.Node.{Node, the_lemmas}
+use Rattle.project_print.specs.declared.node.Node.{Node}
 use Rattle.project_print.specs.declared.node.Node.TheVariants as nodes
 use Rattle.project_print.specs.Pages.{lines_of}
 use Rattle.tree_base.specs.declared.tree.Tree.{Tree}

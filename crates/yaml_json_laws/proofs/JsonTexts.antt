@@ -1,5 +1,5 @@
 -- Strings of JSON as nodes of flow collections.
-use Rattle.std.proofs.Common.{◌≡◌, ℕ, true, suc, List, [], ◌∷◌, ◌++◌, flat_map, length, refl}
+use Rattle.std.proofs.Common.{ℕ, suc, List, [], ◌∷◌, ◌++◌, flat_map, length, refl}
 use Rattle.std.specs.Str.{encode_utf8_all}
 use Rattle.json.specs.Print.{escape_byte, quoted}
 use Rattle.tree_base.specs.declared.tree.Tree.TheVariants.{Scalar}

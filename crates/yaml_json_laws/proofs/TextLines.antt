@@ -1,5 +1,5 @@
 -- A file whose one line is a string of JSON, or another word, is read as its text.
-use Rattle.std.proofs.Common.{◌≡◌, ℕ, suc, ◌≤◌, List, [], ◌∷◌, false, Ok, drop, length, map, refl, subst, append-nil, arith}
+use Rattle.std.proofs.Common.{◌≡◌, ℕ, suc, ◌≤◌, List, [], ◌∷◌, Ok, length, map, subst, append-nil, arith}
 use Rattle.std.specs.Str.{encode_utf8_all}
 use Rattle.json.specs.Print.{quoted}
 use Rattle.yaml_groups.specs.Grouped.{grouped}
