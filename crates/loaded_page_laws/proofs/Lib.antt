@@ -1,2 +1,4 @@
 pub mod Clean
 pub mod Loaded
+pub mod SettledPages
+pub mod TypedServices

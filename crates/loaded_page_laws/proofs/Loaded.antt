@@ -9,6 +9,8 @@ use Rattle.loaded_files.specs.FileTrees.{tree_in}
 use Rattle.loaded_files.specs.FileTrees as files
 use Rattle.loaded_files.specs.Paths.{Variables}
 use Rattle.loaded_page_laws.proofs.Clean.{value_clean, value_own}
+use Rattle.loaded_page_laws.proofs.SettledPages.{page_settled}
+use Rattle.loaded_page_laws.proofs.TypedServices.{services_typed}
 use Rattle.loaded_page_laws.specs.Pages.{IsReadable, PagesAreLoaded, page_tree}
 use Rattle.merge_rules.specs.Answers.{within}
 use Rattle.page_laws.proofs.PageElements.{any, page_out}
@@ -75,7 +77,7 @@ module _ (profiles : Profiles) (project : Project) (is : IsReadable profiles pro
     bounded = bounded;
     long = is.long;
     placed = is.placed;
-    settled = is.settled;
+    settled = page_settled project (value_clean (project_node project), value_own (project_node project) printable) (services_typed project.name is.meant.0 project is.meant.1 is.meant.2 is.meant.3) is.valued;
     enabled = is.enabled;
   }
 

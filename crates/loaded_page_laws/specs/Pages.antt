@@ -1,12 +1,13 @@
 -- Pages of projects, and what is read where a page is the Compose file.
-use Rattle.std.specs.Prelude.{◌≡◌, ◌≤◌, ℕ, true, IsTrue, List, [], Option, Ok, length}
+use Rattle.std.specs.Prelude.{◌≡◌, ◌≤◌, ℕ, Bool, true, IsTrue, List, [], Option, Ok, codes, is_some, length, unwrap_or}
 use Rattle.std.specs.List.{list_all}
 use Rattle.accepted_laws.specs.Accepted.{AreLongIfLoose}
 use Rattle.active_services.specs.Laws.{services_of}
+use Rattle.attribute_types.specs.Lookups.{pairs_at}
 use Rattle.active_services.specs.Profiles.{Profiles, is_enabled}
 use Rattle.file_paths.specs.Resolving.{resolved}
 use Rattle.include_extends.specs.Loading.{loading}
-use Rattle.loaded_file_laws.specs.Loads.{HasFile, IsSettledThroughout, NamesNoOther, plain_request}
+use Rattle.loaded_file_laws.specs.Loads.{HasFile, NamesNoOther, plain_request}
 use Rattle.loaded_files.specs.Paths.{Variables, joined}
 use Rattle.loaded_files.specs.Reads.{file_limit, loaded_from}
 use Rattle.loaded_files.specs.declared.Loaded.{Loaded}
@@ -23,6 +24,7 @@ use Rattle.project_print.specs.Values.{value_of}
 use Rattle.tree_base.specs.Entries.{HasDistinctKeys}
 use Rattle.tree_base.specs.declared.Tree.{Tree}
 use Rattle.typed_project.specs.declared.project.Project.{Project}
+use Rattle.typed_project.specs.declared.service.Service.{Service}
 use Rattle.yaml_laws.specs.Laws.{IsWithinLimits}
 use Rattle.yaml_print_laws.specs.Printed.{tree_of}
 
@@ -36,9 +38,15 @@ IsMeant project =
     (tree : Tree) × (no_mark tree ≡ true) × (own_keys tree ≡ true)
     × (project_of project.name tree ≡ Ok project)
 
--- a project whose page is loaded as that project: a tree means it; its name is one; its texts and keys are UTF-8, and no mapping of
--- its page has a key twice; its page is within the limits; no two of its entries are one where entries are unique; what its services are built from is in long forms; its
--- paths are absolute; its services have nothing left to load; and these profiles enable them
+-- each variable of a service's environment has a value, as in each project that is loaded
+abbrev pub has_values : Service → Bool
+has_values service =
+    list_all (λ pair. is_some pair.1) (unwrap_or (pairs_at service.attributes (codes "environment")) [])
+
+-- a project whose page is loaded as that project: a tree means it; its name is one; its texts and keys are UTF-8, and no
+-- mapping of its page has a key twice; its page is within the limits; no two of its entries are one where entries are unique;
+-- what its services are built from is in long forms; its paths are absolute; the variables of its services have values; and
+-- these profiles enable its services
 pub record IsReadable (profiles : Profiles) (project : Project) : Type 0 where
   pub named : IsTrue (is_name project.name)
   pub meant : IsMeant project
@@ -48,7 +56,7 @@ pub record IsReadable (profiles : Profiles) (project : Project) : Type 0 where
   pub alone : no_twins overlay_rules (page_tree project) ≡ true
   pub long : AreLongIfLoose (page_tree project)
   pub placed : (directory : List ℕ) (env : Variables) → resolved directory env (page_tree project) ≡ Ok (page_tree project)
-  pub settled : IsSettledThroughout (page_tree project)
+  pub valued : list_all has_values project.services ≡ true
   pub enabled : list_all (λ service. is_enabled profiles service.1) (services_of (page_tree project)) ≡ true
 
 -- the page of a project, as the Compose file of a directory, is loaded as that project
