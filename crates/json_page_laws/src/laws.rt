@@ -1,4 +1,4 @@
-ghost use Rattle.json_page_laws.specs.Laws.{JsonGivesValues, JsonPagesMeanTheirProjects};
+ghost use Rattle.json_page_laws.specs.Laws.{JsonGivesValues, JsonPagesMeanTheirProjects, PrintedPagesMeanTheirProjects, ProjectPagesAgree};
 
 /// The law that the bytes of a node's JSON, read as YAML and then with the values of its scalars, are the tree that the node
 /// means, whatever the variables are; where its texts are UTF-8, its words stand as they are, no mapping has a key twice,
@@ -12,4 +12,16 @@ pub fn json_gives_values()
 /// mapping in it has a key twice, and its tree is within the limits. Nothing runs.
 pub fn json_pages_mean_their_projects()
     ensures { JsonPagesMeanTheirProjects }
+{}
+
+/// The law that the page of such a project as YAML is read as a tree that means the project too, under the same conditions.
+/// Nothing runs.
+pub fn printed_pages_mean_their_projects()
+    ensures { PrintedPagesMeanTheirProjects }
+{}
+
+/// The law that the two pages of a project, as YAML and as JSON, are read as one tree, where their texts are UTF-8, no mapping
+/// in them has a key twice, and the tree is within the limits. Nothing runs.
+pub fn project_pages_agree()
+    ensures { ProjectPagesAgree }
 {}

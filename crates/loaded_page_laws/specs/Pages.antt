@@ -38,7 +38,7 @@ IsMeant project =
     (tree : Tree) × (no_mark tree ≡ true) × (own_keys tree ≡ true)
     × (project_of project.name tree ≡ Ok project)
 
--- each variable of a service's environment has a value, as in each project that is loaded
+-- each variable of a service's environment has a value: loading gives it one or takes it away (Compose Specification, environment)
 abbrev pub has_values : Service → Bool
 has_values service =
     list_all (λ pair. is_some pair.1) (unwrap_or (pairs_at service.attributes (codes "environment")) [])
