@@ -1,0 +1,21 @@
+use crate::requests::request;
+use crate::responses::response;
+use case_files::{Answers, Fields};
+
+/// The inputs of a call beside its main one; None where the call isn't one of this crate. No memory.
+pub fn inputs_of(call: &str) -> Option<&'static [&'static str]> {
+    match call {
+        "request" => Some(&["spec"]),
+        "response" => Some(&["to", "pieces", "failing_reads"]),
+        _ => None,
+    }
+}
+
+/// Makes the call of a case. It is no case where an input isn't of its form, and where the call isn't one of this crate.
+pub fn answer(call: &str, fields: &Fields, answers: &mut Answers) {
+    match call {
+        "request" => request(fields, answers),
+        "response" => response(fields, answers),
+        _ => answers.reading.no_call(call),
+    }
+}

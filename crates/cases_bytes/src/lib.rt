@@ -1,0 +1,19 @@
+//! Cases of the Engine's messages as bytes: the bytes of a request with its body, and what the bytes of a connection,
+//! however they are cut, answer to a request.
+//!
+//! `inputs_of` knows the calls and their inputs, and `answer` makes the call of a case.
+#![tactic(auto)]
+
+mod asked;
+mod calls;
+mod containers;
+mod health;
+mod pipe;
+mod requests;
+mod resources;
+mod responses;
+mod rows;
+mod told;
+mod values;
+
+pub use calls::{answer, inputs_of};
