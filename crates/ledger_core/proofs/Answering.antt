@@ -1,19 +1,18 @@
 -- Each answer of a ledger keeps its journal legal.
-use Rattle.std.proofs.Common.{◌≡◌, ◌⊎◌, ℕ, ◌<◌, ◌≤◌, Bool, true, false, List, [], length, Option, refl, sym, ap, ◌∙◌, subst, inl, inr}
+use Rattle.std.proofs.Common.{◌≡◌, ◌⊎◌, ℕ, ◌<◌, ◌≤◌, Bool, List, length, ap, inl, inr}
 use Rattle.std.proofs.lemmas.Bool.{cases_lt, le-leb}
-use Rattle.std.specs.Prelude.{nat_le}
 use Rattle.engine_types.specs.declared.Entry.{Entry}
 use Rattle.run_model.specs.Journals.{Setup, is_ending}
 use Rattle.run_model.specs.Legal.{Decision, Full, Go, Look, Pause, Take, answer_to, decision, entries_limit, is_other_out, next_action, next_poll}
 use Rattle.run_model.specs.Plans.{Aim}
 use Rattle.journal_laws.specs.Courses.{Course, MayAsk, entries, grown, setup_of}
-use Rattle.journal_laws.specs.Laws.{IsLegalRun, decided, decided_entry}
+use Rattle.journal_laws.specs.Laws.{IsLegalRun, decided}
 use Rattle.journal_laws.proofs.Following.{answers, shorts}
 use Rattle.ledger_core.specs.Answers.{Answers, answer_entry}
 use Rattle.ledger_core.specs.declared.asked.Asked.{Asked}
 
 -- a journal that isn't full
-below : (setup : Setup) (past : List Entry) (w : ℕ) → (decision setup past w ≡ Full → ⊥) → length past < entries_limit
+pub below : (setup : Setup) (past : List Entry) (w : ℕ) → (decision setup past w ≡ Full → ⊥) → length past < entries_limit
 below setup past w not_full = on (cases_lt (length past) entries_limit)
   where
     on : (length past < entries_limit) ⊎ (entries_limit ≤ length past) → length past < entries_limit

@@ -1,21 +1,19 @@
 -- What a ledger's rows say after each answer but the grant of an action.
-use Rattle.std.proofs.Common.{◌≡◌, ◌⊎◌, ℕ, zero, suc, ◌+◌, ◌<◌, ◌≤◌, Bool, true, false, cond, not, ◌&&◌, ◌||◌, ◌==◌, List, [], ◌∷◌, ◌++◌, length, reverse, get_or, set, Option, Some, None, if◌then◌else◌, refl, sym, ap, ◌∙◌, subst, inl, inr, arith}
+use Rattle.std.proofs.Common.{◌≡◌, ◌⊎◌, ℕ, zero, suc, ◌+◌, ◌<◌, ◌≤◌, Bool, true, false, cond, ◌||◌, ◌==◌, List, [], ◌∷◌, ◌++◌, length, reverse, get_or, set, Option, Some, None, if◌then◌else◌, refl, sym, ap, ◌∙◌, subst, inl, inr, arith}
 use Rattle.std.proofs.lemmas.Bool.{cases_eq, eq-eqb, eqb-true, leb-false}
 use Rattle.std.proofs.lemmas.Grind.{common_steps}
 use Rattle.std.proofs.lemmas.List.{get_or-set_other, get_or-set_same, set-get_or}
-use Rattle.std.specs.List.{list_any}
-use Rattle.std.specs.Option.{option_map_or}
 use Rattle.std.specs.Prelude.{find, nat_le}
 use Rattle.tree_base.specs.Reserved.{Reserved}
 use Rattle.engine_types.specs.declared.Entry.{Entry}
 use Rattle.engine_types.specs.declared.LateWhy.{LateWhy}
-use Rattle.run_model.specs.EngineRules.{Among}
-use Rattle.run_model.specs.Journals.{Holding, Nothing, Setup, Watch, has_left, has_stopped, holding, is_ending, is_open, is_watch_of, polls, seen_in}
-use Rattle.run_model.specs.Legal.{Decision, Full, Go, IsReady, Look, MayStand, Pause, answer_to, decision, entries_limit, is_looked_at, is_other_out, next_action, next_poll}
+use Rattle.run_model.specs.Journals.{Holding, Nothing, Setup, Watch, Work, has_left, has_stopped, holding, is_ending, is_open, is_watch_of, polls, seen_in}
+use Rattle.run_model.specs.Legal.{IsLegal, IsReady, Look, MayStand, Pause, answer_to, decision, entries_limit, is_looked_at, is_other_out, next_action, next_poll}
 use Rattle.run_model.specs.Numbers.{numbers_from}
+use Rattle.run_model.specs.Plans.{Aim}
 use Rattle.ledger_rows.specs.ActionRows.Values.{Actions}
 use Rattle.ledger_rows.specs.Laws.{is_quiet}
-use Rattle.ledger_rows.specs.Workers.{IsWorkerRow, no_worker}
+use Rattle.ledger_rows.specs.Workers.{no_worker}
 use Rattle.ledger_rows.specs.declared.worker_row.WorkerRow.{WorkerRow}
 use Rattle.ledger_rows.proofs.Fixed.{any_same}
 use Rattle.ledger_rows.proofs.Turns.{quiet_kept}
@@ -24,7 +22,7 @@ use Rattle.slot_rows.specs.Keys.{no_slot}
 use Rattle.slot_rows.specs.Slots.{AreSlots, IsSlotRow}
 use Rattle.slot_rows.specs.declared.slot_row.SlotRow.{SlotRow}
 use Rattle.ledger_core.specs.Answers.{IsLastEntry}
-use Rattle.ledger_core.specs.Ledgers.{IsLedger, room, worker_room}
+use Rattle.ledger_core.specs.Ledgers.{IsLedger, room}
 use Rattle.ledger_core.proofs.Entries.{ChangesNothing, Enters, KeepsPending, entered, pending_kept, room_of, row_after, slots_kept}
 
 or_true : (t : Bool) → true ≡ (t || true)
@@ -69,6 +67,34 @@ look_is setup past w s d = on (nat_le entries_limit (length past)) (is_ending pa
     on false false None (Some x) o ht hp h = let same : x ≡ s = cc h in record { next = hp ∙ ap (λ (k : ℕ). Some k) same; short = leb-false entries_limit (length past) ht }
     on false false None None true ht hp h = absurd (cc h)
     on false false None None false ht hp h = absurd (cc h)
+
+-- a slot that a worker looks at is declared
+pub watched_below : (aim : Aim) (setup : Setup) (past : List Entry) (w s : ℕ) → IsLegal aim setup past → holding past w ≡ Watch s → s < length setup.declared.slots
+watched_below aim setup [] w s legal h = absurd (cc h)
+watched_below aim setup (Entry.Seen observation ∷ past) w s legal h = watched_below aim setup past w s legal.0 h
+watched_below aim setup (Entry.Idle v ∷ past) w s legal h = watched_below aim setup past w s legal.0 h
+watched_below aim setup (Entry.Leave v ∷ past) w s legal h = watched_below aim setup past w s legal.0 h
+watched_below aim setup (Entry.Stop v ∷ past) w s legal h = watched_below aim setup past w s legal.0 h
+watched_below aim setup (Entry.Late v why ∷ past) w s legal h = watched_below aim setup past w s legal.0 h
+watched_below aim setup (Entry.Short v ∷ past) w s legal h = watched_below aim setup past w s legal.0 h
+watched_below aim setup (Entry.Claim v a ∷ past) w s legal h = on (v == w) h (watched_below aim setup past w s legal.0)
+  where
+    on : (t : Bool) → (if t then Work a else holding past w) ≡ Watch s → (holding past w ≡ Watch s → s < length setup.declared.slots) → s < length setup.declared.slots
+    on true k rest = absurd (cc k)
+    on false k rest = rest k
+watched_below aim setup (Entry.Ended v outcome ∷ past) w s legal h = on (v == w) h (watched_below aim setup past w s legal.0)
+  where
+    on : (t : Bool) → (if t then Nothing else holding past w) ≡ Watch s → (holding past w ≡ Watch s → s < length setup.declared.slots) → s < length setup.declared.slots
+    on true k rest = absurd (cc k)
+    on false k rest = rest k
+watched_below aim setup (Entry.Poll v t ∷ past) w s legal h = on (v == w) h (watched_below aim setup past w s legal.0)
+  where
+    on : (x : Bool) → (if x then Watch t else holding past w) ≡ Watch s → (holding past w ≡ Watch s → s < length setup.declared.slots) → s < length setup.declared.slots
+    on true k rest =
+        let same : t ≡ s = cc k in
+        let l = found_below _ 0 (length setup.declared.slots) t (look_is setup past v t legal.1.1).next in
+        omega (arith, l, same)
+    on false k rest = rest k
 
 -- no worker needs more than three entries without memory
 pub room_most : (workers : List WorkerRow) → room workers ≤ length workers + length workers + length workers

@@ -1,5 +1,5 @@
 -- What an ask is answered, by the rows.
-use Rattle.std.proofs.Common.{◌≡◌, ◌⊎◌, ℕ, ◌+◌, ◌<◌, ◌≤◌, Bool, true, false, not, ◌&&◌, ◌==◌, List, length, map, reverse, get_or, Option, Some, None, refl, sym, ap, ◌∙◌, subst, arith}
+use Rattle.std.proofs.Common.{◌≡◌, ℕ, ◌<◌, ◌≤◌, Bool, true, false, not, ◌&&◌, ◌==◌, List, length, map, reverse, get_or, Option, Some, None, refl, sym, ap, ◌∙◌}
 use Rattle.std.proofs.lemmas.Bool.{le-leb, lt-leb}
 use Rattle.std.proofs.lemmas.List.{length-reverse}
 use Rattle.std.specs.List.{list_any}
@@ -7,7 +7,7 @@ use Rattle.std.specs.Prelude.{find, nat_le}
 use Rattle.tree_base.specs.Reserved.{Reserved}
 use Rattle.engine_types.specs.declared.Entry.{Entry}
 use Rattle.run_model.specs.Journals.{Setup, is_ending}
-use Rattle.run_model.specs.Legal.{Decision, Full, Go, Look, Pause, Take, answer_to, decision, entries_limit, is_other_out, next_action, next_poll}
+use Rattle.run_model.specs.Legal.{Decision, Full, Go, Look, Take, answer_to, decision, entries_limit, is_other_out, next_action, next_poll}
 use Rattle.run_model.specs.Numbers.{places}
 use Rattle.rank_rows.specs.Ranks.{least}
 use Rattle.ledger_rows.specs.ActionRows.{is_ready, numbers}

@@ -1,24 +1,24 @@
 -- What a ledger's rows say after the good end of an action.
-use Rattle.std.proofs.Common.{◌≡◌, ◌⊎◌, ℕ, zero, suc, ◌+◌, ◌<◌, ◌≤◌, Bool, true, false, cond, not, ◌&&◌, ◌||◌, ◌==◌, List, [], ◌∷◌, ◌++◌, length, reverse, get_or, set, Option, Some, None, if◌then◌else◌, refl, sym, ap, ◌∙◌, subst, inl, inr, arith}
+use Rattle.std.proofs.Common.{◌≡◌, ◌⊎◌, ℕ, zero, suc, ◌+◌, ◌<◌, ◌≤◌, Bool, true, false, cond, not, ◌&&◌, ◌==◌, List, [], ◌∷◌, ◌++◌, length, reverse, get_or, set, Option, Some, None, if◌then◌else◌, refl, sym, ap, ◌∙◌, subst, inl, inr, arith}
 use Rattle.std.proofs.lemmas.Bool.{cases_eq, eq-eqb, eqb-true}
 use Rattle.std.proofs.lemmas.Grind.{common_steps}
 use Rattle.std.proofs.lemmas.List.{get_or-set_other, get_or-set_same}
 use Rattle.std.specs.Option.{option_map_or}
-use Rattle.std.specs.Prelude.{find, nat_le}
+use Rattle.std.specs.Prelude.{find}
 use Rattle.tree_base.specs.Reserved.{Reserved}
 use Rattle.engine_types.specs.declared.ActionKind.{ActionKind}
 use Rattle.engine_types.specs.declared.Entry.{Entry}
 use Rattle.engine_types.specs.declared.Outcome.{Outcome}
 use Rattle.run_model.specs.Conditions.{counts, is_blocked, is_pending}
-use Rattle.run_model.specs.Journals.{Free, Holding, Nothing, Out, Setup, Standing, Watch, Well, Work, ended_as, has_left, has_stopped, holding, is_badly, is_ending, is_free, is_open, is_watch_of, is_well, is_work_on, polls, seen_in, standing}
-use Rattle.run_model.specs.Legal.{Decision, IsLegal, Look, Take, answer_to, decision, entries_limit, is_looked_at, is_other_out, next_action, next_poll}
-use Rattle.run_model.specs.Numbers.{numbers_from, places}
+use Rattle.run_model.specs.Journals.{Free, Nothing, Out, Setup, Standing, Watch, Well, Work, ended_as, holding, is_badly, is_free, is_open, is_watch_of, is_well, standing}
+use Rattle.run_model.specs.Legal.{IsLegal, is_looked_at}
+use Rattle.run_model.specs.Numbers.{numbers_from}
 use Rattle.run_model.specs.Plans.{Aim, is_start_of, kind_of, start_of}
 use Rattle.journal_laws.proofs.Holders.{is_held}
 use Rattle.ledger_rows.specs.ActionRows.Values.{Actions}
 use Rattle.ledger_rows.specs.Entries.{IsDueTo, RowsSay}
 use Rattle.ledger_rows.specs.Facts.{facts_of, has_cause}
-use Rattle.ledger_rows.specs.Workers.{IsWorkerRow, no_worker}
+use Rattle.ledger_rows.specs.Workers.{no_worker}
 use Rattle.ledger_rows.specs.declared.worker_row.WorkerRow.{WorkerRow}
 use Rattle.ledger_rows.proofs.Changes.{blocked_kept}
 use Rattle.ledger_rows.proofs.Entering.{ended_changes, ended_stands}
@@ -28,7 +28,7 @@ use Rattle.ledger_rows.proofs.Watching.{differs}
 use Rattle.slot_rows.specs.Keys.{no_slot}
 use Rattle.slot_rows.specs.Slots.{AreSlots, IsSlotRow}
 use Rattle.slot_rows.specs.declared.slot_row.SlotRow.{SlotRow}
-use Rattle.ledger_core.specs.Ledgers.{IsLedger, StartsAreSingle, counting, worker_room}
+use Rattle.ledger_core.specs.Ledgers.{IsLedger, StartsAreSingle, counting}
 use Rattle.ledger_core.proofs.Entries.{Enters, KeepsPending, entered, room_of, row_after}
 
 -- what is found among numbers passes the test

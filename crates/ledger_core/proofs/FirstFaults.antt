@@ -1,11 +1,11 @@
 -- The status of a run is that of the first entry that gives one.
 use Rattle.std.proofs.Common.{◌≡◌, ◌⊎◌, ℕ, zero, suc, ◌+◌, ◌<◌, ◌≤◌, Bool, true, false, cond, not, ◌&&◌, ◌||◌, ◌==◌, List, [], ◌∷◌, ◌++◌, length, get_or, take, drop, reverse, map, slice_get, Option, Some, None, if◌then◌else◌, refl, sym, ap, ◌∙◌, subst, inl, inr, arith}
-use Rattle.std.proofs.lemmas.Bool.{cases_eq, eq-eqb, eqb-true}
+use Rattle.std.proofs.lemmas.Bool.{cases_eq, eq-eqb}
 use Rattle.std.proofs.lemmas.List.{reverse-append, take-append-drop, take_all, take_more}
 use Rattle.std.proofs.lemmas.Option.{slice_get_within}
 use Rattle.std.specs.List.{list_any}
 use Rattle.std.specs.Option.{option_map_or, option_or}
-use Rattle.std.specs.Prelude.{find, flat_map, is_some, option_map, unwrap_or}
+use Rattle.std.specs.Prelude.{find, flat_map, is_some, option_map}
 use Rattle.engine_types.specs.declared.Condition.{Condition}
 use Rattle.engine_types.specs.declared.Entry.{Entry}
 use Rattle.engine_types.specs.declared.Need.{Need}
@@ -20,7 +20,7 @@ use Rattle.engine_types.specs.declared.WireEnd.{WireEnd}
 use Rattle.run_model.specs.Conditions.{fails, goal_of, has_failed, is_blocked, is_failed_verdict, is_pending, is_started, judge, poll_counts, report_of}
 use Rattle.run_model.specs.Ending.{Failing, ended_fault, exchange_fault, fails_now, fault_of, fault_status, first_fault, lost_status, outcome_status, report_fault, seen_fault, seen_status, slot_name, status_of, wanted_conditions}
 use Rattle.run_model.specs.EngineRules.{Among}
-use Rattle.run_model.specs.Journals.{Free, Holding, Nothing, Out, Setup, Watch, Work, ended_as, holding, is_free, is_watch_of, is_well, is_work_on, standing}
+use Rattle.run_model.specs.Journals.{Holding, Nothing, Out, Setup, Watch, Work, ended_as, holding, is_free, is_watch_of, is_well, is_work_on, standing}
 use Rattle.run_model.specs.Legal.{IsLegal}
 use Rattle.run_model.specs.Numbers.{numbers_from, places}
 use Rattle.run_model.specs.Plans.{Aim, kind_of, slot_at, slot_needs}

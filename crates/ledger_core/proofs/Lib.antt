@@ -6,3 +6,4 @@ pub mod Entries
 pub mod FirstFaults
 pub mod Stopping
 pub mod Permits
+pub mod Seeing

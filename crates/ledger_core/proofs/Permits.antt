@@ -1,5 +1,5 @@
 -- What a ledger's rows say after a claim, and after the end of what a worker holds, where those of the actions and slots do.
-use Rattle.std.proofs.Common.{◌≡◌, ◌⊎◌, ℕ, zero, suc, ◌+◌, ◌<◌, ◌≤◌, Bool, true, false, cond, not, ◌&&◌, ◌||◌, ◌==◌, List, [], ◌∷◌, ◌++◌, length, reverse, get_or, set, Option, Some, None, if◌then◌else◌, refl, sym, ap, ◌∙◌, subst, inl, inr, arith}
+use Rattle.std.proofs.Common.{◌≡◌, ◌⊎◌, ℕ, zero, suc, ◌+◌, ◌<◌, ◌≤◌, Bool, true, false, cond, List, [], ◌∷◌, ◌++◌, length, reverse, get_or, set, Option, Some, None, if◌then◌else◌, refl, sym, ap, ◌∙◌, subst, inl, inr, arith}
 use Rattle.std.proofs.lemmas.Bool.{cases_lt, eq-eqb}
 use Rattle.std.specs.Prelude.{find, nat_le}
 use Rattle.tree_base.specs.Reserved.{Reserved}
@@ -7,20 +7,19 @@ use Rattle.engine_types.specs.declared.ActionKind.{ActionKind}
 use Rattle.engine_types.specs.declared.Entry.{Entry}
 use Rattle.engine_types.specs.declared.Outcome.{Outcome}
 use Rattle.run_model.specs.Journals.{Free, Nothing, Out, Setup, Standing, Well, Work, ended_as, holding, is_ending, is_open, is_well, standing}
-use Rattle.run_model.specs.Legal.{Decision, IsReady, Look, Take, answer_to, decision, entries_limit, is_other_out, next_action, next_poll}
-use Rattle.run_model.specs.Plans.{kind_of}
+use Rattle.run_model.specs.Legal.{IsReady, Take, answer_to, decision, entries_limit, is_other_out, next_action, next_poll}
 use Rattle.ledger_rows.specs.ActionRows.{is_ready, numbers}
 use Rattle.ledger_rows.specs.ActionRows.Values.{Actions}
 use Rattle.ledger_rows.specs.Entries.{RowsSay}
 use Rattle.ledger_rows.specs.Rows.{StandsAs}
 use Rattle.ledger_rows.specs.declared.action_rows.State.{State}
-use Rattle.ledger_rows.specs.Workers.{IsWorkerRow, no_worker}
+use Rattle.ledger_rows.specs.Workers.{no_worker}
 use Rattle.ledger_rows.specs.declared.worker_row.WorkerRow.{WorkerRow}
 use Rattle.ledger_rows.proofs.Watching.{differs}
 use Rattle.slot_rows.specs.Slots.{AreSlots}
 use Rattle.slot_rows.specs.declared.slot_row.SlotRow.{SlotRow}
 use Rattle.ledger_ends.specs.Entries.{reply_of}
-use Rattle.ledger_core.specs.Ledgers.{IsLedger, worker_room}
+use Rattle.ledger_core.specs.Ledgers.{IsLedger}
 use Rattle.ledger_core.proofs.Asking.{found_below, room_most}
 use Rattle.ledger_core.proofs.Deciding.{action_is}
 use Rattle.ledger_core.proofs.Ending.{found_passes, holder_below}

@@ -1,34 +1,21 @@
 -- A worker stops: what a ledger's rows say after an entry that changes no action and no slot.
-use Rattle.std.proofs.Common.{◌≡◌, ◌⊎◌, ℕ, zero, suc, ◌+◌, ◌<◌, ◌≤◌, Bool, true, false, cond, not, ◌&&◌, ◌||◌, ◌==◌, List, [], ◌∷◌, ◌++◌, length, reverse, get_or, set, Option, Some, None, if◌then◌else◌, refl, sym, ap, ◌∙◌, subst, inl, inr, arith}
-use Rattle.std.proofs.lemmas.Bool.{cases_eq, eqb-true, eq-eqb, true≢false}
-use Rattle.std.proofs.lemmas.Grind.{common_steps}
-use Rattle.std.proofs.lemmas.List.{reverse-append}
-use Rattle.std.specs.List.{list_any}
-use Rattle.std.specs.Option.{option_map_or}
+use Rattle.std.proofs.Common.{◌≡◌, ℕ, zero, suc, ◌+◌, ◌<◌, ◌≤◌, Bool, true, false, cond, ◌==◌, List, [], ◌∷◌, ◌++◌, length, reverse, get_or, set, if◌then◌else◌, refl, sym, ap, ◌∙◌, arith}
+use Rattle.std.proofs.lemmas.Bool.{eq-eqb, true≢false}
 use Rattle.std.specs.Prelude.{is_some, IsSomeAnd}
 use Rattle.tree_base.specs.Reserved.{Reserved}
-use Rattle.engine_types.specs.declared.Condition.{Condition}
 use Rattle.engine_types.specs.declared.Entry.{Entry}
 use Rattle.engine_types.specs.declared.LateWhy.{LateWhy}
-use Rattle.run_model.specs.Conditions.{counts, has_failed, is_blocked, is_pending, was_met}
-use Rattle.run_model.specs.Journals.{Holding, Setup, Standing, has_left, has_stopped, holding, is_ending, is_free, is_open, is_watch_of, is_well, polls, seen_in, standing}
-use Rattle.run_model.specs.Legal.{IsLegal, IsReady, MayStand, is_looked_at, workers}
-use Rattle.run_model.specs.Plans.{IsOrderly, start_of}
+use Rattle.run_model.specs.Journals.{Holding, Setup, has_left, has_stopped, holding, is_ending, is_open, seen_in}
+use Rattle.run_model.specs.Legal.{IsReady, MayStand}
 use Rattle.journal_laws.specs.Courses.{first_seen}
 use Rattle.ledger_rows.specs.ActionRows.Values.{Actions}
-use Rattle.ledger_rows.specs.Entries.{RowsSay}
-use Rattle.ledger_rows.specs.Facts.{AreBlocked, Facts, askers, facts_of}
 use Rattle.ledger_rows.specs.Laws.{is_quiet}
-use Rattle.ledger_rows.specs.Workers.{IsWorkerRow, no_worker}
+use Rattle.ledger_rows.specs.Workers.{no_worker}
 use Rattle.ledger_rows.specs.declared.worker_row.WorkerRow.{WorkerRow}
-use Rattle.ledger_rows.proofs.Fixed.{are_blocked, unique}
-use Rattle.ledger_rows.proofs.Steps.{functions_same}
 use Rattle.ledger_rows.proofs.Turns.{quiet_kept}
 use Rattle.ledger_rows.proofs.Watching.{differs}
-use Rattle.slot_rows.specs.Keys.{no_slot}
-use Rattle.slot_rows.specs.Slots.{AreSlots, IsSlotRow, verdict_by, verdict_in}
 use Rattle.slot_rows.specs.declared.slot_row.SlotRow.{SlotRow}
-use Rattle.ledger_core.specs.Ledgers.{IsLedger, room, worker_room}
+use Rattle.ledger_core.specs.Ledgers.{IsLedger}
 use Rattle.ledger_core.proofs.Entries.{ChangesNothing, Enters, entered, room_of, slots_kept}
 
 module _ (setup : Setup) (journal : Reserved Entry) (rows : Actions) (slots : List SlotRow) (workers : List WorkerRow) (ending : Bool) (is : IsLedger setup journal rows slots workers ending)

@@ -1,15 +1,13 @@
 -- What an ask is answered, and the entry that each answer leaves.
-use Rattle.std.specs.Prelude.{◌≡◌, ℕ, ◌<◌, Option, Some, List, length}
+use Rattle.std.specs.Prelude.{◌≡◌, ℕ, ◌<◌, Some, List, length}
 use Rattle.engine_types.specs.declared.Entry.{Entry}
 use Rattle.engine_types.specs.declared.LateWhy.{LateWhy}
-use Rattle.engine_types.specs.declared.Request.{Request}
 use Rattle.run_model.specs.Journals.{Holding, Setup, Watch, Work}
 use Rattle.run_model.specs.Legal.{Decision, Full, Go, Look, Pause, Take, decision, entries_limit}
 use Rattle.run_model.specs.Requests.{action_request, poll_request}
 use Rattle.journal_laws.specs.Laws.{decided_entry}
 use Rattle.ledger_core.specs.declared.asked.Asked.{Asked}
 use Rattle.ledger_core.specs.declared.permit.Grant.{Grant}
-use Rattle.ledger_core.specs.declared.permit.Permit.{Permit}
 
 -- what a worker holds that has a permit for this
 abbrev pub held_by : Grant → Holding

@@ -9,7 +9,7 @@ use Rattle.engine_types.specs.declared.Seen.{Seen}
 use Rattle.engine_types.specs.declared.SeenEnd.{SeenEnd}
 use Rattle.run_model.specs.Legal.{IsObserved}
 use Rattle.run_model.specs.Observation.{is_up}
-use Rattle.run_model.specs.Plans.{Aim, AreKeptPlaces, Basis, HasPlan, IsOrderly, IsWhole}
+use Rattle.run_model.specs.Plans.{Aim, AreKeptPlaces, HasPlan, IsOrderly, IsWhole}
 use Rattle.journal_laws.specs.Courses.{Course}
 
 -- what a run may begin with: an observation that ended well, and a plan for what it saw and for its aim, perhaps with more

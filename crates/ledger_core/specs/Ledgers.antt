@@ -1,5 +1,5 @@
 -- What holds of every ledger.
-use Rattle.std.specs.Prelude.{◌≡◌, ℕ, ◌+◌, ◌<◌, ◌≤◌, Bool, false, true, if◌then◌else◌, List, [], ◌∷◌, Option, None, Some, get_or, is_some, length, reverse, set, slice_get}
+use Rattle.std.specs.Prelude.{◌≡◌, ℕ, ◌+◌, ◌<◌, ◌≤◌, Bool, true, if◌then◌else◌, List, [], ◌∷◌, Option, None, Some, get_or, is_some, length, reverse, set, slice_get}
 use Rattle.tree_base.specs.Reserved.{Reserved}
 use Rattle.engine_types.specs.declared.ActionKind.{ActionKind}
 use Rattle.engine_types.specs.declared.Entry.{Entry}

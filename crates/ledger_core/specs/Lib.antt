@@ -3,3 +3,4 @@ pub mod Beginning
 pub mod Ledgers
 pub mod Laws
 pub mod Statuses
+pub mod Seeing

@@ -136,8 +136,8 @@ fn end_status(
     }
 }
 
-/// Whether an action that ended so ended well.
-fn ended_well(plan: &Plan, action: u32, outcome: &Outcome) -> bool
+/// Whether an action that ended so ended well. No memory.
+pub(crate) fn ended_well(plan: &Plan, action: u32, outcome: &Outcome) -> bool
     ensures { result ≡ is_well (ended_as (kind_of plan.now.actions action) outcome.now) }
 {
     match (plan.actions.get(action as usize), outcome) {

@@ -1,24 +1,34 @@
-ghost use Rattle.std.specs.Prelude.{◌≡◌, ◌∷◌, ◌≤◌, ◌||◌, ◌<◌, [], ℕ, IsSomeAnd, OnErr, OnOk, Some, false, length, true};
+ghost use Rattle.std.specs.Prelude.{◌≡◌, ◌∷◌, ◌≤◌, ◌||◌, ◌<◌, [], ℕ, IfOk, IsSomeAnd, OnErr, OnOk, Some, false, length, true};
 ghost use Rattle.engine_types.specs.declared.Entry.{Entry};
 ghost use Rattle.engine_types.specs.declared.LateWhy.{LateWhy};
 ghost use Rattle.engine_types.specs.declared.ActionKind.TheVariants.{StartSlot};
-ghost use Rattle.run_model.specs.Journals.{Badly, Work, ended_as, holding, is_ending, is_well};
+ghost use Rattle.run_model.specs.Journals.{Badly, Watch, Work, ended_as, holding, is_ending, is_well};
 ghost use Rattle.run_model.specs.Legal.{Look, Pause, Take};
 ghost use Rattle.run_model.specs.Plans.{kind_of};
+ghost use Rattle.run_model.specs.Requests.{action_request, poll_request};
 ghost use Rattle.journal_laws.specs.Courses.{MayAsk, MayStop, entries, grown, setup_of};
 ghost use Rattle.journal_laws.specs.Laws.{decided};
 ghost use Rattle.ledger_core.specs.Answers.{IsLastEntry};
 ghost use Rattle.ledger_ends.specs.Losses.{HasNoLosses};
+ghost use Rattle.ledger_requests.specs.Sources.{AreSources, past_in, setup_in};
 ghost use Rattle.ledger_core.specs.Beginning.{run_of};
 ghost use Rattle.ledger_core.specs.Ledgers.{IsLedger, IsPlanned, counting, decision_of};
 
+use crate::exit_status::ended_well;
 use crate::places::Places;
+use crate::seen::first_seen;
 use crate::started::Started;
 use crate::step::Step;
-use engine_types::{ActionKind, Declared, Entry, LateWhy as Why, Outcome, Plan, RunLimits};
+use engine_types::{
+    ActionKind, Declared, Entry, LateWhy as Why, Outcome, Plan, Request, RunLimits,
+};
 use ledger_ends::{Dependents, Losses, RunSoFar, claim, end_badly, end_well};
+use ledger_polls::end_poll;
+use ledger_requests::{Sources, action_request, poll_request};
 use ledger_rows::{ActionRows, WorkerRow, is_other_out};
+use run_requests::Run;
 use slot_rows::SlotRows;
+use std::alloc::Global;
 use std::marker::Model;
 use tree_base::{List, Memory, ReservedList};
 
@@ -109,7 +119,7 @@ impl Ledger {
     }
 
     /// What a worker's ask is answered. No memory; the work doesn't grow with the actions.
-    fn decide(&self, worker: u32) -> Step
+    pub(crate) fn decide(&self, worker: u32) -> Step
         requires { MayAsk self.now worker }
         ensures { decision_of result ≡ decided self.now worker }
     {
@@ -129,6 +139,58 @@ impl Ledger {
             return Step::Pause;
         }
         Step::Go
+    }
+
+    /// The request of an action, by what was told so far.
+    pub(crate) fn action_request(
+        &self,
+        alloc: Global,
+        action: u32,
+    ) -> Result<Option<Request>, Memory>
+        ensures { IfOk result (λ request.
+            request ≡ action_request (setup_of self.now) (entries self.now) action) }
+    {
+        action_request(alloc, &self.sources(), action)
+    }
+
+    /// The request of a poll of a slot, by what was told so far.
+    pub(crate) fn poll_request(&self, alloc: Global, slot: u32) -> Result<Option<Request>, Memory>
+        ensures { IfOk result (λ request.
+            request ≡ poll_request (setup_of self.now) (entries self.now) slot) }
+    {
+        poll_request(alloc, &self.sources(), slot)
+    }
+
+    /// Where the requests find what they name. No memory.
+    fn sources(&self) -> Sources<'_>
+        ensures sources { AreSources result }
+        ensures setup { setup_in result ≡ setup_of self.now }
+        ensures past { past_in result ≡ entries self.now }
+    {
+        let journal = self.journal.as_slice();
+        let Some(seen) = first_seen(journal) else {
+            unreachable!();
+        };
+        Sources {
+            run: Run {
+                declared: &self.declared,
+                seen,
+                plan: &self.plan,
+                limits: self.limits,
+            },
+            rows: &self.rows,
+            journal,
+            creates: self.places.creates.as_slice(),
+            makes: self.places.makes.as_slice(),
+            seconds: self.places.seconds.as_slice(),
+        }
+    }
+
+    /// Whether an action that ends so ends well. No memory.
+    pub(crate) fn ends_well(&self, action: u32, outcome: &Outcome) -> bool
+        ensures { result ≡ is_well (ended_as (kind_of self.now.plan.actions action) outcome.now) }
+    {
+        ended_well(&self.plan, action, outcome)
     }
 
     /// A worker leaves, by its last entry. No memory.
@@ -240,6 +302,32 @@ impl Ledger {
             &self.dependents,
             worker,
             action,
+            &outcome,
+        );
+        let own = &mut self.workers[worker as usize];
+        own.out = false;
+        self.journal.push(Entry::Ended { worker, outcome }).unwrap();
+    }
+
+    /// The poll of a worker's permit ends. No memory.
+    pub(crate) fn end_poll(&mut self, worker: u32, slot: u32, outcome: Outcome)
+        requires { holding (entries self.old) worker ≡ Watch slot }
+        ensures { self.new ≡ grown self.old (Entry.Ended worker outcome) }
+    {
+        let so_far = RunSoFar {
+            declared: &self.declared,
+            plan: &self.plan,
+            limits: self.limits,
+            journal: self.journal.as_slice(),
+        };
+        end_poll(
+            so_far,
+            &mut self.rows,
+            &mut self.slots,
+            &mut self.losses,
+            &self.dependents,
+            worker,
+            slot,
             &outcome,
         );
         let own = &mut self.workers[worker as usize];

@@ -6,16 +6,19 @@
 #![tactic(auto)]
 
 mod asked;
+mod calls;
 mod exit_status;
 mod held;
 mod laws;
 mod ledger;
 mod permit;
 mod places;
+mod seen;
 mod started;
 mod step;
 
 pub use asked::Asked;
+pub use calls::{ask, end};
 pub use exit_status::status;
 pub use laws::{answers_are_legal, good_ends_keep_ledgers};
 pub use ledger::Ledger;

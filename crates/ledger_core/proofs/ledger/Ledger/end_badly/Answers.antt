@@ -1,27 +1,18 @@
-use Rattle.std.proofs.Common.{rules, ◌≡◌, ◌<◌, ◌≤◌, ◌+◌, ◌∷◌, ◌++◌, [], ℕ, List, Some, length, set, get_or, reverse, Bool, true, false, refl, sym, ap, ◌∙◌, subst, arith}
-use Rattle.engine_types.specs.declared.ActionKind.{ActionKind}
+use Rattle.std.proofs.Common.{rules, ◌≡◌, ◌∷◌, ◌++◌, [], List, set, get_or, reverse, false, refl, sym, ap, ◌∙◌, subst}
 use Rattle.engine_types.specs.declared.Entry.{Entry}
-use Rattle.engine_types.specs.declared.Outcome.{Outcome}
 use Rattle.engine_types.specs.declared.Seen.{Seen}
-use Rattle.run_model.specs.Journals.{Badly, Nothing, Well, Work, ended_as, holding, is_open, is_well}
-use Rattle.run_model.specs.Legal.{Take}
-use Rattle.run_model.specs.Plans.{IsOrderly, IsWhole, kind_of}
-use Rattle.journal_laws.specs.Courses.{Course, MayAsk, entries, first_seen, setup_of}
-use Rattle.journal_laws.specs.Laws.{decided}
+use Rattle.run_model.specs.Journals.{Badly, Work, ended_as, holding, is_open}
+use Rattle.run_model.specs.Plans.{kind_of}
+use Rattle.journal_laws.specs.Courses.{Course, entries, first_seen}
 use Rattle.journal_laws.proofs.Holders.{is_held}
-use Rattle.ledger_rows.specs.ActionRows.{is_ready}
 use Rattle.ledger_rows.specs.Entries.{IsDueTo, RowsSay}
 use Rattle.ledger_rows.specs.Workers.{no_worker}
 use Rattle.ledger_rows.specs.declared.worker_row.WorkerRow.{WorkerRow}
 use Rattle.slot_rows.specs.Slots.{AreSlots}
-use Rattle.slot_rows.specs.declared.slot_row.SlotRow.{SlotRow}
 use Rattle.ledger_ends.specs.Dependents.{AreDependents}
-use Rattle.ledger_ends.specs.Entries.{reply_of}
 use Rattle.ledger_ends.specs.Losses.{HasNoLosses}
-use Rattle.ledger_core.specs.Ledgers.{IsLedger, IsPlanned, counting}
-use Rattle.ledger_core.proofs.Ending.{ended_well}
-use Rattle.ledger_core.proofs.Entries.{roomier}
-use Rattle.ledger_core.proofs.Permits.{answered_well, ended, may_be_claimed, may_end, out_below, own_below, ready_there, taken}
+use Rattle.ledger_core.specs.Ledgers.{IsLedger, IsPlanned}
+use Rattle.ledger_core.proofs.Permits.{ended, may_end, out_below, own_below}
 use Rattle.ledger_core.proofs.Stopping.{row_read, seen_kept}
 use Rattle.ledger_core.proofs.ledger.Ledger.end_badly.Goals as goal
 

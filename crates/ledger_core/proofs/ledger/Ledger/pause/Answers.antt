@@ -1,17 +1,13 @@
-use Rattle.std.proofs.Common.{◌≡◌, ◌<◌, ◌≤◌, ◌+◌, ◌∷◌, ◌++◌, [], ℕ, List, length, set, get_or, Bool, true, false, refl, sym, ap, ◌∙◌, subst, arith}
+use Rattle.std.proofs.Common.{◌≡◌, ◌≤◌, ◌∷◌, ◌++◌, [], List, sym, ap, ◌∙◌, subst, arith}
 use Rattle.engine_types.specs.declared.Entry.{Entry}
 use Rattle.engine_types.specs.declared.Seen.{Seen}
-use Rattle.run_model.specs.Legal.{Look, Pause}
-use Rattle.journal_laws.specs.Courses.{Course, MayAsk, entries, first_seen, setup_of}
+use Rattle.run_model.specs.Legal.{Pause}
+use Rattle.journal_laws.specs.Courses.{Course, MayAsk, first_seen}
 use Rattle.journal_laws.specs.Laws.{decided}
-use Rattle.ledger_rows.specs.Workers.{no_worker}
-use Rattle.ledger_rows.specs.declared.worker_row.WorkerRow.{WorkerRow}
-use Rattle.slot_rows.specs.Keys.{no_slot}
-use Rattle.slot_rows.specs.declared.slot_row.SlotRow.{SlotRow}
 use Rattle.ledger_core.specs.Ledgers.{IsLedger, IsPlanned}
-use Rattle.ledger_core.proofs.Asking.{looked, paused, polls_small, slot_there}
+use Rattle.ledger_core.proofs.Asking.{paused}
 use Rattle.ledger_core.proofs.Entries.{roomier}
-use Rattle.ledger_core.proofs.Stopping.{row_read, seen_kept}
+use Rattle.ledger_core.proofs.Stopping.{seen_kept}
 use Rattle.ledger_ends.specs.Losses.{HasNoLosses}
 use Rattle.ledger_core.proofs.ledger.Ledger.pause.Goals as goal
 
