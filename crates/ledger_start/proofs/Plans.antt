@@ -1,9 +1,9 @@
 -- What may begin a run has a plan of few actions.
-use Rattle.std.proofs.Common.{◌≡◌, ◌⊎◌, ℕ, suc, ◌+◌, ◌<◌, ◌≤◌, Bool, true, false, List, [], ◌∷◌, length, map, Option, Some, None, if◌then◌else◌, refl, sym, ap, ◌∙◌, inl, inr, arith}
+use Rattle.std.proofs.Common.{◌≡◌, ◌⊎◌, ℕ, zero, suc, ◌+◌, ◌<◌, ◌≤◌, Bool, true, false, cond, List, [], ◌∷◌, length, map, Option, Some, None, get_or, if◌then◌else◌, refl, sym, ap, ◌∙◌, inl, inr, arith}
 use Rattle.std.proofs.lemmas.Bool.{cases_lt, ltb-false}
 use Rattle.std.proofs.lemmas.Option.{slice_get_past}
 use Rattle.std.specs.Option.{option_map_or}
-use Rattle.std.specs.Prelude.{option_map}
+use Rattle.std.specs.Prelude.{find, option_map}
 use Rattle.engine_types.specs.declared.Action.{Action}
 use Rattle.engine_types.specs.declared.Declared.{Declared}
 use Rattle.engine_types.specs.declared.Observed.{Observed}
@@ -12,9 +12,12 @@ use Rattle.engine_types.specs.declared.RunLimits.{RunLimits}
 use Rattle.engine_types.specs.declared.Seen.{Seen}
 use Rattle.engine_types.specs.declared.SeenEnd.{SeenEnd}
 use Rattle.engine_types.specs.declared.SeenFault.{SeenFault}
+use Rattle.run_model.specs.Journals.{Setup}
+use Rattle.run_model.specs.Numbers.{numbers_from}
 use Rattle.run_model.specs.Legal.{IsObserved, seen_end, whole_end}
 use Rattle.run_model.specs.Observation.{Asks, Ends, Onward, Strays, observed}
-use Rattle.run_model.specs.Plans.{Aim, Basis, action_count, is_too_long, kind_of, needs_of, planned_kinds, slot_needs}
+use Rattle.run_model.specs.Plans.{Aim, Basis, action_count, is_start_of, is_too_long, kind_of, needs_of, planned_kinds, slot_needs}
+use Rattle.plan_needs.specs.Laws.{AreStarts}
 use Rattle.ledger_core.specs.Beginning.{MayBegin}
 
 -- what a plan is made from
@@ -69,3 +72,17 @@ few_needs declared actions each a = by (cases_lt a (length actions))
         let none : length (needs_of actions a) + length (slot_needs declared (kind_of actions a)) ≡ 0 =
         ap (λ (o : Option Action). length (option_map_or (λ x. x.needs) o []) + length (slot_needs declared (option_map (λ (x : Action). x.kind) o))) (slice_get_past actions a l) in
         omega (arith, none)
+
+-- what is found among numbers is below the last one
+found_below : (p : ℕ → Bool) (i n k : ℕ) → find p (numbers_from i n) ≡ Some k → k < i + n
+found_below p i zero k e = absurd (cc e)
+found_below p i (suc n) k e = by (p i) (found_below p (i + 1) n k) e
+  where
+    by : (t : Bool) → (find p (numbers_from (i + 1) n) ≡ Some k → k < i + 1 + n) → cond t (Some i) (find p (numbers_from (i + 1) n)) ≡ Some k → k < i + suc n
+    by true rest h = let same : i ≡ k = cc h in omega (arith, same)
+    by false rest h = let r = rest h in omega (arith, r)
+
+-- the starts of slots are actions
+pub starts_below : (setup : Setup) (starts : List (Option ℕ)) → AreStarts setup starts → (s b : ℕ) → get_or starts s None ≡ Some b → b < length setup.actions
+starts_below setup starts are s b e =
+    let k = found_below (λ a. is_start_of s (kind_of setup.actions a)) 0 (length setup.actions) b (sym (are s) ∙ e) in omega (arith, k)

@@ -1,4 +1,5 @@
 pub mod Outsets
-pub mod Openings
+pub mod Seconds
+pub mod Starts
 pub mod TwoServices
 pub mod Laws

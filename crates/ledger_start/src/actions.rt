@@ -7,25 +7,25 @@ use crate::outset::Outset;
 use engine_types::Declared;
 use plan_rows::{Row, first_rows};
 use std::alloc::Global;
-use tree_base::Memory;
+use tree_base::{List, Memory};
 
 /// For each slot or network its action of this row; there is none where it is past the last one. There is no room for more of
 /// them than 32 bits number.
-pub fn first_actions(
+pub(crate) fn first_actions(
     alloc: Global,
     outset: &Outset<'_>,
     row: Row,
-) -> Result<Vec<Option<u32>>, Memory>
+) -> Result<List<Option<u32>>, Memory>
     requires { MayStart outset.now }
     ensures size { IfOk result (λ places.
-        length places.items ≡ place_count row outset.now.declared.now) }
-    ensures few { IfOk result (λ places. length places.items < 4294967296) }
+        length places ≡ place_count row outset.now.declared.now) }
+    ensures few { IfOk result (λ places. length places < 4294967296) }
     ensures each { IfOk result (λ places. (s : ℕ)
-        → get_or places.items s None ≡ first_of row outset.now.plan.now.actions s) }
+        → get_or places s None ≡ first_of row outset.now.plan.now.actions s) }
 {
     let count = count_of(row, outset.declared)?;
     let places = first_rows(alloc, row, outset.plan.actions.as_slice(), count)?;
-    Ok(places)
+    Ok(List::from_vec(places))
 }
 
 /// How many slots or networks there are.

@@ -1,16 +1,19 @@
-//! The start of a ledger: from an observation that ended well and its plan, all the rows that the ledger begins with.
+//! The start of a ledger: from an observation that ended well and its plan, all the rows that the ledger begins with, and the
+//! ledger itself.
 //!
-//! The contract of `opening_of` says what the rows are; `openings_are_ledgers` is the law that with the journal that has only its
-//! observation they are what every ledger keeps to, and `two_services_may_begin` that a run with a condition may begin.
+//! The contract of `begin` says that its run has only its observation, and so, by what every ledger keeps to, that its rows are
+//! what they have to be; `two_services_may_begin` is the law that a run with a condition may begin.
 #![tactic(auto)]
 
 mod actions;
+mod beginning;
+mod fixed;
 mod laws;
-mod opening;
 mod outset;
+mod places;
 mod rows;
+mod seconds;
+mod started;
 
-pub use actions::first_actions;
-pub use laws::{openings_are_ledgers, two_services_may_begin};
-pub use opening::{Opening, opening_of};
-pub use outset::Outset;
+pub use beginning::begin;
+pub use laws::two_services_may_begin;

@@ -2,7 +2,7 @@ use engine_types::{Declared, Observed, Plan, RunLimits};
 
 /// What a run begins with.
 #[derive(Clone, Copy)]
-pub struct Outset<'a> {
+pub(crate) struct Outset<'a> {
     pub declared: &'a Declared,
     pub observed: &'a Observed,
     pub plan: &'a Plan,

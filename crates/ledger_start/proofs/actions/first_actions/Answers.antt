@@ -1,4 +1,4 @@
-use Rattle.std.proofs.Common.{◌≡◌, List, length, ap, ◌∙◌, arith}
+use Rattle.std.proofs.Common.{◌≡◌, ℕ, List, Option, None, length, get_or, ap, ◌∙◌, arith}
 use Rattle.engine_types.specs.declared.Action.{Action}
 use Rattle.plan_rows.specs.Firsts.{first_of}
 use Rattle.start_rows.proofs.Starting.{firsts}
@@ -12,6 +12,7 @@ first_rows-requires c =
     omega (arith, few, n)
 
 pub returns-clause-each : goal.returns-clause-each
-returns-clause-each c = firsts (basis_of c.args.outset.now.declared.now c.requires.seen c.requires.aim) c.args.outset.now.plan.now.actions c.requires.has_plan c.args.row c.in_ok-places.places.items
+returns-clause-each c = λ s. ap (λ (places : List (Option ℕ)). get_or places s None) c.from_vec.ensures
+    ∙ firsts (basis_of c.args.outset.now.declared.now c.requires.seen c.requires.aim) c.args.outset.now.plan.now.actions c.requires.has_plan c.args.row c.in_ok-places.places.items
     (c.in_ok-places.ensures.size ∙ c.in_ok-count.ensures.same)
-    (λ s l. c.in_ok-places.ensures.each s (let e = c.in_ok-count.ensures.same in omega (arith, l, e)) ∙ ap (λ (actions : List Action). first_of c.args.row actions s) c.as_slice.ensures)
+    (λ t l. c.in_ok-places.ensures.each t (let e = c.in_ok-count.ensures.same in omega (arith, l, e)) ∙ ap (λ (actions : List Action). first_of c.args.row actions t) c.as_slice.ensures) s

@@ -3,9 +3,8 @@ use Rattle.engine_types.specs.declared.Action.{Action}
 use Rattle.run_model.specs.Plans.{kind_of, slot_needs}
 use Rattle.ledger_rows.specs.Counts.{counted}
 use Rattle.start_rows.specs.Asks.{asked_by}
-use Rattle.start_rows.specs.declared.ask.Ask.{Ask}
 use Rattle.ledger_start.proofs.Plans.{few_actions}
-use Rattle.ledger_start.proofs.opening.asked.Goals as goal
+use Rattle.ledger_start.proofs.fixed.asked.Goals as goal
 
 pub asking_rows-requires : goal.asking_rows-requires
 asking_rows-requires c =
@@ -15,5 +14,5 @@ asking_rows-requires c =
 
 pub returns-clause-each : goal.returns-clause-each
 returns-clause-each c =
-    subst (λ (actions : List Action). (s a : ℕ) → s < length c.args.outset.now.declared.now.slots → counted (λ b. b == a) (get_or c.in_ok-rows.rows s []) ≡ counted (asked_by Ask.Any s c.args.condition) (slot_needs c.args.outset.now.declared.now (kind_of actions a)))
+    subst (λ (actions : List Action). (s a : ℕ) → s < length c.args.outset.now.declared.now.slots → counted (λ b. b == a) (get_or c.in_ok-rows.rows s []) ≡ counted (asked_by c.args.ask s c.args.condition) (slot_needs c.args.outset.now.declared.now (kind_of actions a)))
     c.as_slice-actions.ensures c.in_ok-rows.ensures.each
