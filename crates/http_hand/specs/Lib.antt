@@ -1,0 +1,3 @@
+pub mod Speaking
+pub mod Hearing
+pub mod HttpHands
