@@ -1,0 +1,3 @@
+pub mod PipesInMemory
+pub mod WiresInMemory
+pub mod WireClocks
