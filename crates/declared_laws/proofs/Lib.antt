@@ -1,0 +1,9 @@
+pub mod Ascending
+pub mod Dashes
+pub mod Endpoints
+pub mod Firsts
+pub mod Labelled
+pub mod Names
+pub mod OwnSpecs
+pub mod Twice
+pub mod Whole

@@ -1,0 +1,63 @@
+-- What holds of the declared set of each project.
+use Rattle.std.specs.Prelude.{◌≡◌, ℕ, ◌<◌, ◌^◌, List, None, Ok, codes, map}
+use Rattle.std.specs.List.{IsDistinct}
+use Rattle.std.specs.Str.{bytes_eq}
+use Rattle.attribute_types.specs.Lookups.{text_at}
+use Rattle.compose_words.specs.declared.options.Scale.{Scale}
+use Rattle.declared_set.specs.Declaring.{declared, declared_of}
+use Rattle.declared_set.specs.Refusing.{names_of}
+use Rattle.declared_slots.specs.Counts.{scale_of}
+use Rattle.declared_slots.specs.Named.{name_of}
+use Rattle.declared_slots.specs.Refusing.{twice_named}
+use Rattle.engine_types.specs.declared.declared.Declared.{Declared}
+use Rattle.run_model.specs.EngineRules.{Among}
+use Rattle.run_model.specs.Plans.{IsWhole}
+use Rattle.service_hashes.specs.declared.digest.FileDigest.{FileDigest}
+use Rattle.typed_project.specs.Projects.{IsInOrder}
+use Rattle.typed_project.specs.declared.project.Project.{Project}
+use Rattle.typed_project.specs.declared.service.Service.{Service}
+use Rattle.world_laws.specs.OwnSpecs.{HasOwnSpecs}
+
+-- what a project declares whose services stand in byte order of their keys is a whole declared set
+abbrev pub DeclaredSetsAreWhole : Type 0
+DeclaredSetsAreWhole =
+    (project : Project) (scales : List Scale) (digests : List FileDigest)
+    → IsInOrder project.services → IsWhole (declared_of project scales digests)
+
+-- 32 bits number the containers of each service
+abbrev pub AreNumbered : List Scale → List Service → Type 0
+AreNumbered scales services =
+    (service : Service) → Among services service → scale_of scales service < 2 ^ 32
+
+-- what the Engine is sent for each slot is made for it: it has the slot's labels, its hash and its image, and begins on its first network
+abbrev pub SpecsAreTheirSlots : Type 0
+SpecsAreTheirSlots =
+    (project : Project) (scales : List Scale) (digests : List FileDigest)
+    → AreNumbered scales project.services → HasOwnSpecs (declared_of project scales digests)
+
+-- a service gives its containers no name of its own (the Compose Specification, `container_name`)
+abbrev pub IsUnnamed : Service → Type 0
+IsUnnamed service = text_at service.attributes (codes "container_name") ≡ None
+
+-- the names by project, service and number tell the service and the number, also where a key has a dash in it
+abbrev pub NamesTellSlots : Type 0
+NamesTellSlots =
+    (project : List ℕ) (service other : Service) (number another : ℕ)
+    → IsUnnamed service → IsUnnamed other → number < 2 ^ 32 → another < 2 ^ 32
+    → name_of project service number ≡ name_of project other another
+    → (service.key ≡ other.key) × (number ≡ another)
+
+-- the names of all slots differ, in each declared set that isn't refused
+abbrev pub DeclaredNamesDiffer : Type 0
+DeclaredNamesDiffer =
+    (project : Project) (scales : List Scale) (digests : List FileDigest) (given : Declared)
+    → declared project scales digests ≡ Ok given
+    → IsDistinct bytes_eq (map (λ slot. slot.name) given.slots)
+
+-- and none is refused for its names where no service gives a name of its own
+abbrev pub UnnamedAreNotRefused : Type 0
+UnnamedAreNotRefused =
+    (project : Project) (scales : List Scale)
+    → IsInOrder project.services → AreNumbered scales project.services
+    → ((service : Service) → Among project.services service → IsUnnamed service)
+    → twice_named (names_of project scales) ≡ None

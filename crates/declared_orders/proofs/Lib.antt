@@ -1,0 +1,4 @@
+pub mod Circles
+pub mod Heights
+pub mod Places
+pub mod Ways

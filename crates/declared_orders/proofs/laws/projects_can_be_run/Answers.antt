@@ -1,0 +1,12 @@
+use Rattle.declared_laws.proofs.OwnSpecs.{declares_own}
+use Rattle.declared_laws.proofs.Whole.{declares_whole}
+use Rattle.declared_set.specs.Declaring.{declared_of}
+use Rattle.declared_orders.proofs.Circles.{none_declared}
+use Rattle.declared_orders.proofs.Places.{needs_dependencies}
+use Rattle.declared_orders.proofs.laws.projects_can_be_run.Goals as goal
+
+pub returns : goal.returns
+returns c project scales digests seen orphans volumes order numbered none =
+    c.runs_are_orderly.ensures (declared_of project scales digests) seen orphans volumes (declares_whole project scales digests order)
+    (λ slot m. (declares_own project scales digests numbered slot m).number) (none_declared project scales digests order none)
+    (needs_dependencies project scales digests)

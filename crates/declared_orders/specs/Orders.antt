@@ -1,0 +1,34 @@
+-- In which order the slots of a project's services can be started.
+use Rattle.std.specs.Prelude.{◌≡◌, Bool, List, None}
+use Rattle.compose_words.specs.declared.options.Scale.{Scale}
+use Rattle.declared_laws.specs.Laws.{AreNumbered}
+use Rattle.declared_set.specs.Declaring.{declared_of}
+use Rattle.engine_types.specs.declared.Seen.{Seen}
+use Rattle.plan_core.specs.Order.{HasNoCycle}
+use Rattle.run_laws.specs.Orders.{NeedsDependencies}
+use Rattle.run_model.specs.Plans.{IsOrderly, down_basis, up_basis}
+use Rattle.run_model.specs.Rolling.{run_actions}
+use Rattle.service_graph.specs.Cycles.{cycle}
+use Rattle.service_hashes.specs.declared.digest.FileDigest.{FileDigest}
+use Rattle.typed_project.specs.Projects.{IsInOrder}
+use Rattle.typed_project.specs.declared.project.Project.{Project}
+
+-- slots need only slots of the services that their own service depends on (the Compose Specification, `depends_on`)
+abbrev pub SlotsNeedDependencies : Type 0
+SlotsNeedDependencies =
+    (project : Project) (scales : List Scale) (digests : List FileDigest) → NeedsDependencies (declared_of project scales digests)
+
+-- where no services need one another in a circle, neither do the slots that are declared
+abbrev pub NoCircleIsDeclared : Type 0
+NoCircleIsDeclared =
+    (project : Project) (scales : List Scale) (digests : List FileDigest)
+    → IsInOrder project.services → cycle project.services ≡ None → HasNoCycle (declared_of project scales digests)
+
+-- the actions of runs that bring a project up or down, whatever was seen of it, can be carried out in some order
+abbrev pub ProjectsCanBeRun : Type 0
+ProjectsCanBeRun =
+    (project : Project) (scales : List Scale) (digests : List FileDigest) (seen : Seen) (orphans volumes : Bool)
+    → IsInOrder project.services → AreNumbered scales project.services → cycle project.services ≡ None
+    → let declared = declared_of project scales digests in
+    IsOrderly declared (run_actions (up_basis declared seen orphans))
+    × IsOrderly declared (run_actions (down_basis declared seen orphans volumes))
