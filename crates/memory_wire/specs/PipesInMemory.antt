@@ -1,5 +1,5 @@
 -- What a connection in memory shows, and what its calls answer.
-use Rattle.std.specs.Prelude.{ℕ, ◌-◌, Bool, List, [], ◌∷◌, length, take, drop, min, max, if◌then◌else◌}
+use Rattle.std.specs.Prelude.{◌≡◌, ℕ, ◌-◌, Bool, List, [], ◌∷◌, length, take, drop, min, max, if◌then◌else◌}
 use Rattle.outside_files.specs.Failures.{next_fails}
 use Rattle.outside_files.specs.declared.sink.SinkAnswer.{SinkAnswer}
 use Rattle.outside_api.specs.Pipes.{Talk}
@@ -70,3 +70,11 @@ getting pipe room = min (min (length (bytes_left pipe)) room) (next_size pipe)
 -- the answer to a read into a room of so many bytes
 abbrev pub read_of : MemoryPipe → ℕ → PipeAnswer
 read_of pipe room = if next_call_fails pipe then PipeAnswer.Failed else PipeAnswer.Got (getting pipe room)
+
+-- a connection begins anew: it gives all its bytes in all its pieces, has the same room, and the same calls of it fail
+pub record Begins (old new : MemoryPipe) : Type 0 where
+  pub gives : bytes_left new ≡ all_gives old
+  pub sizes : sizes_left new ≡ all_sizes old
+  pub room : room_of new ≡ room_of old
+  pub fails : failing_calls new ≡ failing_calls old
+  pub calls : calls new ≡ 0

@@ -1,6 +1,8 @@
-ghost use Rattle.std.specs.Prelude.{◌≡◌, ◌≤◌, ◌+◌, ◌<◌, ◌^◌, [], Some, length, map};
+ghost use Rattle.std.specs.Prelude.{◌≡◌, ◌≤◌, ◌+◌, ◌<◌, ◌^◌, [], IfSome, Some, length, map};
 ghost use Rattle.outside_api.specs.Clock.{new_clock};
-ghost use Rattle.memory_wire.specs.PipesInMemory.{talk_of};
+ghost use Rattle.memory_wire.specs.PipesInMemory.{failed_calls, talk_of};
+ghost use Rattle.outside_api.specs.Pipes.{silence};
+ghost use Rattle.outside_api.specs.Wires.{Dials};
 
 use crate::failing::Failing;
 use crate::memory_pipe::MemoryPipe;
@@ -56,6 +58,8 @@ impl Wire for MemoryWire {
     type P = MemoryPipe;
 
     ghost use Rattle.memory_wire.specs.WireClocks.{counts_of};
+    ghost use Rattle.memory_wire.specs.WiresInMemory.{DialsNext, closed_pipes, failing_dials, next_dial_fails, next_pipes};
+    ghost use Rattle.memory_wire.specs.declared.memory_pipe.MemoryPipe.{MemoryPipe};
 
     ghost past = { λ wire. Some (map talk_of wire.closed.items) };
 
@@ -66,7 +70,20 @@ impl Wire for MemoryWire {
     ghost clock = { λ wire. counts_of wire.clock };
 
     /// Dials the next connection, which begins anew.
-    fn dial(&mut self, _alloc: Global) -> DialAnswer<MemoryPipe> {
+    fn dial(&mut self, _alloc: Global) -> DialAnswer<MemoryPipe>
+        requires { self.old.dialled < 2 ^ 62 }
+        ensures counted { self.old.failing.failed ≤ self.new.failing.failed }
+        ensures answer { Dials self.old.failing.failed self.new.failing.failed self.old.dialled
+            self.new.dialled result }
+        ensures fresh { (pipe : MemoryPipe) → result ≡ DialAnswer.Dialled pipe
+            → IfSome (Some (talk_of pipe)) (λ talk. talk ≡ silence) × (failed_calls pipe ≡ 0) }
+        ensures past { Some (map talk_of (closed_pipes self.new))
+            ≡ Some (map talk_of (closed_pipes self.old)) }
+        ensures clock { counts_of self.new.clock ≡ counts_of self.old.clock }
+        ensures next { DialsNext (next_dial_fails self.old) (next_pipes self.old)
+            (next_pipes self.new) result }
+        ensures fails { failing_dials self.new ≡ failing_dials self.old }
+    {
         if self.failing.next_fails() {
             return DialAnswer::Failed;
         }
