@@ -27,9 +27,9 @@ use Rattle.typed_project.specs.declared.service.Service.{Service}
 use Rattle.declared_laws.specs.Laws.{AreNumbered, IsUnnamed}
 use Rattle.declared_laws.proofs.Ascending.{Up, ascending_up, from_range, range_up, up_flat_map, up_map}
 use Rattle.declared_laws.proofs.Dashes.{names_tell}
-use Rattle.declared_laws.proofs.Firsts.{differ, other_text, up_distinct}
+use Rattle.declared_laws.proofs.Firsts.{differ, other_text}
 use Rattle.declared_laws.proofs.Labelled.{not_before_itself}
-use Rattle.declared_laws.proofs.Twice.{all_differ_once, none_twice}
+use Rattle.declared_laws.proofs.Twice.{all_differ_once, none_twice, up_is_distinct}
 use Rattle.declared_laws.proofs.Whole.{slot_of}
 
 second_none : {X : Type 0} (a b : Option X) → option_or a b ≡ None → b ≡ None
@@ -58,13 +58,6 @@ module _ (project : Project) (scales : List Scale) (digests : List FileDigest) w
       ∙ ap (λ (names : List (List ℕ)). names ++ map (λ (slot : Slot). slot.name) (flat_map (slots_in project scales digests) services)) (names_on service (range_with_len 1 (scale_of scales service)))
       ∙ ap (λ (names : List (List ℕ)). names_in project scales service ++ names) (names_are services)
 
-  up_names : (slots : List Slot) → Up (differ (λ t. t)) (map (λ (slot : Slot). slot.name) slots) → IsDistinct bytes_eq (map (λ (slot : Slot). slot.name) slots)
-  up_names slots up = subst (λ (names : List (List ℕ)). IsDistinct bytes_eq names) (map_same (map (λ (slot : Slot). slot.name) slots)) (up_distinct (λ t. t) (map (λ (slot : Slot). slot.name) slots) up)
-    where
-      map_same : (names : List (List ℕ)) → map (λ t. t) names ≡ names
-      map_same [] = refl
-      map_same (name ∷ names) = ap (λ l. name ∷ l) (map_same names)
-
   pub given_names_differ : (given : Declared) → declared project scales digests ≡ Ok given → IsDistinct bytes_eq (map (λ slot. slot.name) given.slots)
   given_names_differ given e =
       let r = given_is (declared_of project scales digests) given (refusal_of project scales) e in
@@ -72,7 +65,7 @@ module _ (project : Project) (scales : List Scale) (digests : List FileDigest) w
       let last = second_none (too_many (need_count (ranges_of scales project.services) project.services)) _ later in
       let none = none_mapped IdentityRefusal.NameTwice (twice_named (names_of project scales)) last in
       subst (λ (d : Declared). IsDistinct bytes_eq (map (λ (slot : Slot). slot.name) d.slots)) r.1
-      (up_names (slots_of project scales digests) (subst (λ (names : List (List ℕ)). Up (differ (λ t. t)) names) (sym (names_are project.services)) (none_twice (names_of project scales) none)))
+      (up_is_distinct (map (λ (slot : Slot). slot.name) (slots_of project scales digests)) (subst (λ (names : List (List ℕ)). Up (differ (λ t. t)) names) (sym (names_are project.services)) (none_twice (names_of project scales) none)))
 
 module _ (project : Project) (scales : List Scale) (few : AreNumbered scales project.services)
     (unnamed : (service : Service) → Among project.services service → IsUnnamed service) where

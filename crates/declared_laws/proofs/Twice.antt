@@ -1,5 +1,7 @@
 -- No name is told to stand twice exactly where all names differ.
-use Rattle.std.proofs.Common.{◌≡◌, ◌∙◌, ℕ, Bool, true, false, cond, not, List, [], ◌∷◌, Some, None, refl, sym, ap, subst, inl, inr}
+use Rattle.std.proofs.Common.{◌≡◌, ◌∙◌, ℕ, Bool, true, false, cond, not, List, [], ◌∷◌, Some, None, refl, sym, ap, subst, inl, inr, map}
+use Rattle.std.specs.Prelude.{◌↔◌}
+use Rattle.std.specs.List.{AllByRecursion, IsDistinct}
 use Rattle.std.specs.Ordering.{is_lt, nat_cmp, ordering_reverse}
 use Rattle.std.specs.Cmp.Lexicographic.{slice_cmp}
 use Rattle.std.specs.Str.{bytes_eq}
@@ -13,7 +15,7 @@ use Rattle.run_model.proofs.DistinctLists.{Distinct, among_by_key, among_placed,
 use Rattle.tree_base.proofs.Sorting.{same_place}
 use Rattle.tree_base.specs.ByteOrder.{by_key, is_before, placed}
 use Rattle.declared_laws.proofs.Ascending.{Up}
-use Rattle.declared_laws.proofs.Firsts.{differ, not_same, other_text}
+use Rattle.declared_laws.proofs.Firsts.{differ, not_same, other_text, up_distinct}
 
 abbrev put : List ℕ → List (List ℕ) → List (List ℕ)
 put = placed (λ t. t)
@@ -126,3 +128,24 @@ none_of_order (x ∷ xs) d = none_of_behind x xs d
 
 pub all_differ_once : (xs : List (List ℕ)) → Up (differ (λ t. t)) xs → twice_named xs ≡ None
 all_differ_once xs up = none_of_order (sorted xs) (distinct_by_key (λ t. t) xs (up_distinct_texts xs up))
+
+-- texts that differ are distinct lists, and the other way round
+apart_from : (x : List ℕ) (xs : List (List ℕ)) → AllByRecursion (λ y. bytes_eq x y ≡ false) xs → Among xs x → ⊥
+apart_from x [] all m = m
+apart_from x (y ∷ ys) all (inl e) = not_same x y all.0 e
+apart_from x (y ∷ ys) all (inr m) = apart_from x ys all.1 m
+
+from_distinct : (xs : List (List ℕ)) → IsDistinct bytes_eq xs → Distinct xs
+unfolding IsDistinct
+from_distinct [] d = tt
+from_distinct (x ∷ xs) d = (apart_from x xs d.0, from_distinct xs d.1)
+
+map_same : (xs : List (List ℕ)) → map (λ t. t) xs ≡ xs
+map_same [] = refl
+map_same (x ∷ xs) = ap (λ l. x ∷ l) (map_same xs)
+
+pub up_is_distinct : (xs : List (List ℕ)) → Up (differ (λ t. t)) xs → IsDistinct bytes_eq xs
+up_is_distinct xs up = subst (λ (l : List (List ℕ)). IsDistinct bytes_eq l) (map_same xs) (up_distinct (λ t. t) xs up)
+
+pub told_of_twins : (names : List (List ℕ)) → (twice_named names ≡ None) ↔ IsDistinct bytes_eq names
+told_of_twins names = (λ e. up_is_distinct names (none_twice names e), λ d. none_of_order (sorted names) (distinct_by_key (λ t. t) names (from_distinct names d)))

@@ -1,5 +1,5 @@
 -- What holds of the declared set of each project.
-use Rattle.std.specs.Prelude.{◌≡◌, ℕ, ◌<◌, ◌^◌, List, None, Ok, codes, map}
+use Rattle.std.specs.Prelude.{◌≡◌, ◌↔◌, ℕ, ◌<◌, ◌^◌, List, None, Ok, codes, map}
 use Rattle.std.specs.List.{IsDistinct}
 use Rattle.std.specs.Str.{bytes_eq}
 use Rattle.attribute_types.specs.Lookups.{text_at}
@@ -53,6 +53,10 @@ DeclaredNamesDiffer =
     (project : Project) (scales : List Scale) (digests : List FileDigest) (given : Declared)
     → declared project scales digests ≡ Ok given
     → IsDistinct bytes_eq (map (λ slot. slot.name) given.slots)
+
+-- no name is told to stand twice exactly where all names differ
+abbrev pub TwiceIsToldOfTwins : Type 0
+TwiceIsToldOfTwins = (names : List (List ℕ)) → (twice_named names ≡ None) ↔ IsDistinct bytes_eq names
 
 -- and none is refused for its names where no service gives a name of its own
 abbrev pub UnnamedAreNotRefused : Type 0

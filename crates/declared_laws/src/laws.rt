@@ -1,4 +1,4 @@
-ghost use Rattle.declared_laws.specs.Laws.{DeclaredNamesDiffer, DeclaredSetsAreWhole, NamesTellSlots, SpecsAreTheirSlots, UnnamedAreNotRefused};
+ghost use Rattle.declared_laws.specs.Laws.{DeclaredNamesDiffer, DeclaredSetsAreWhole, NamesTellSlots, SpecsAreTheirSlots, TwiceIsToldOfTwins, UnnamedAreNotRefused};
 
 /// The law that what a project declares is a whole declared set: slots, services, networks and volumes stand in their order, each slot
 /// is of a declared service, what it attaches to and needs is there, and it waits for no other one to run. Nothing runs.
@@ -25,4 +25,9 @@ pub fn declared_names_differ()
 /// The law that no declared set is refused for its names where no service gives its containers a name of its own. Nothing runs.
 pub fn unnamed_are_not_refused()
     ensures { UnnamedAreNotRefused }
+{}
+
+/// The law that a name is told to stand twice exactly where not all names differ. Nothing runs.
+pub fn twice_is_told_of_twins()
+    ensures { TwiceIsToldOfTwins }
 {}

@@ -9,6 +9,6 @@ mod numbers;
 
 pub use laws::{
     declared_names_differ, declared_sets_are_whole, names_tell_slots, specs_are_their_slots,
-    unnamed_are_not_refused,
+    twice_is_told_of_twins, unnamed_are_not_refused,
 };
 pub use numbers::numbered;
