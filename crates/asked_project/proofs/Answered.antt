@@ -15,7 +15,7 @@ use Rattle.loaded_files.specs.declared.Loaded.{Loaded}
 use Rattle.outside_files.specs.Counts.{Rose}
 use Rattle.outside_files.specs.Files.{Contents}
 use Rattle.refusals.proofs.Joined.{one_load}
-use Rattle.refusals.specs.Origins.{IsBeforeDial, is_of_words, load_refusal}
+use Rattle.refusals.specs.Origins.{IsOfAsking, is_of_words, load_refusal}
 use Rattle.refusals.specs.Refused.{is_failed_read, is_free, wants_memory}
 use Rattle.refusals.specs.declared.Refusal.{Refusal}
 use Rattle.refusals.specs.declared.Unbuilt.{Unbuilt}
@@ -151,11 +151,14 @@ load_no_words LoadRefusal.Memory h = cc h
 project_no_words : (refusal : Refusal) → IsOfProject refusal → IsTrue (is_of_words refusal) → ⊥
 project_no_words (Refusal.NotBuilt Unbuilt.Words) k h = k
 project_no_words (Refusal.NotBuilt (Unbuilt.Attribute path)) k h = cc h
+project_no_words (Refusal.NotBuilt Unbuilt.Run) k h = k
 project_no_words (Refusal.Words words) k h = k
 project_no_words (Refusal.Load refusal) k h = k
 project_no_words (Refusal.Name name) k h = cc h
 project_no_words (Refusal.Active active) k h = cc h
 project_no_words (Refusal.Project project) k h = cc h
+project_no_words (Refusal.Digest digest) k h = k
+project_no_words (Refusal.Identity identity) k h = k
 project_no_words (Refusal.Seen fault) k h = k
 project_no_words (Refusal.Request request outcome) k h = k
 project_no_words (Refusal.Condition slot condition report) k h = k
@@ -164,20 +167,24 @@ project_no_words (Refusal.Late why) k h = k
 project_no_words (Refusal.Outside part) k h = k
 project_no_words Refusal.Memory k h = cc h
 
-project_before_dial : (refusal : Refusal) → IsOfProject refusal → IsBeforeDial refusal
-project_before_dial (Refusal.NotBuilt unbuilt) k = tt
-project_before_dial (Refusal.Words words) k = tt
-project_before_dial (Refusal.Load refusal) k = tt
-project_before_dial (Refusal.Name name) k = tt
-project_before_dial (Refusal.Active active) k = tt
-project_before_dial (Refusal.Project project) k = tt
-project_before_dial (Refusal.Seen fault) k = absurd k
-project_before_dial (Refusal.Request request outcome) k = absurd k
-project_before_dial (Refusal.Condition slot condition report) k = absurd k
-project_before_dial Refusal.Stopped k = absurd k
-project_before_dial (Refusal.Late why) k = absurd k
-project_before_dial (Refusal.Outside part) k = absurd k
-project_before_dial Refusal.Memory k = tt
+project_of_asking : (refusal : Refusal) → IsOfProject refusal → IsOfAsking refusal
+project_of_asking (Refusal.NotBuilt Unbuilt.Words) k = tt
+project_of_asking (Refusal.NotBuilt (Unbuilt.Attribute path)) k = tt
+project_of_asking (Refusal.NotBuilt Unbuilt.Run) k = absurd k
+project_of_asking (Refusal.Words words) k = tt
+project_of_asking (Refusal.Load refusal) k = tt
+project_of_asking (Refusal.Name name) k = tt
+project_of_asking (Refusal.Active active) k = tt
+project_of_asking (Refusal.Project project) k = tt
+project_of_asking (Refusal.Digest digest) k = absurd k
+project_of_asking (Refusal.Identity identity) k = absurd k
+project_of_asking (Refusal.Seen fault) k = absurd k
+project_of_asking (Refusal.Request request outcome) k = absurd k
+project_of_asking (Refusal.Condition slot condition report) k = absurd k
+project_of_asking Refusal.Stopped k = absurd k
+project_of_asking (Refusal.Late why) k = absurd k
+project_of_asking (Refusal.Outside part) k = absurd k
+project_of_asking Refusal.Memory k = tt
 
 module _ (options : Options) where
   -- how a project that was loaded, or its refusal, answers
@@ -189,9 +196,9 @@ module _ (options : Options) where
   with_options (Ok project) = refl
   with_options (Err refusal) = tt
 
-  pub with_kind : (project : Result Project Refusal) → IfErr project IsOfProject → IfErr (asked_with options project) IsBeforeDial
+  pub with_kind : (project : Result Project Refusal) → IfErr project IsOfProject → IfErr (asked_with options project) IsOfAsking
   with_kind (Ok project) h = tt
-  with_kind (Err refusal) h = project_before_dial refusal h
+  with_kind (Err refusal) h = project_of_asking refusal h
 
   pub with_no_words : (project : Result Project Refusal) → IfErr project IsOfProject → IfErr (asked_with options project) (λ refusal. IsTrue (is_of_words refusal) → ⊥)
   with_no_words (Ok project) h = tt

@@ -1,5 +1,6 @@
 -- What the words of a call ask for, of what is built so far.
-use Rattle.std.specs.Prelude.{ℕ, ◌==◌, Bool, true, false, not, ◌&&◌, if◌then◌else◌, List, Option, Some, None, Result, Ok, Err, is_none, length}
+use Rattle.std.specs.Prelude.{ℕ, Bool, true, false, not, ◌&&◌, if◌then◌else◌, List, Option, Some, None, Result, Ok, Err, is_none}
+use Rattle.asked_target.specs.Targets.{has_bad_host}
 use Rattle.compose_words.specs.Reading.{options_of}
 use Rattle.compose_words.specs.declared.Command.{Command}
 use Rattle.compose_words.specs.declared.Options.{Options}
@@ -13,48 +14,45 @@ use Rattle.tree_base.specs.Answers.{◌>>=◌}
 abbrev pub Variables : Type 0
 Variables = List (List ℕ × List ℕ)
 
--- a list without items
-abbrev pub is_empty : {X : Type 0} → List X → Bool
-is_empty xs = length xs == 0
+-- a command that is built, with its own options
+abbrev pub is_built_command : Command → Bool
+is_built_command (Command.Config json quiet) = true
+is_built_command (Command.Up orphans wait seconds scale) = not wait && is_none seconds
+is_built_command (Command.Down orphans volumes seconds) = is_none seconds
+is_built_command (Command.Simulate number) = false
+is_built_command Command.Wait = false
+is_built_command Command.Logs = false
+is_built_command (Command.EngineSim connections) = false
 
--- no option is given that isn't built for any command: sockets and stop files
-abbrev pub has_only_built : Options → Bool
-has_only_built options = is_none options.socket && is_none options.stop_file
-
--- a command that is built, with its own options, on an Engine in memory or not
-abbrev pub is_built_command : Bool → Command → Bool
-is_built_command memory (Command.Config json quiet) = true
-is_built_command memory (Command.Up orphans wait seconds scale) =
-    memory && (not wait && (is_none seconds && is_empty scale))
-is_built_command memory (Command.Down orphans volumes seconds) =
-    memory && (not volumes && is_none seconds)
-is_built_command memory (Command.Simulate number) = false
-is_built_command memory Command.Wait = false
-is_built_command memory Command.Logs = false
-is_built_command memory (Command.EngineSim connections) = false
-
--- the command that options name is built
-abbrev pub has_built_command : Options → Bool
-has_built_command options = is_built_command options.in_memory options.command
-
--- all is built that options ask for
+-- all is built that options ask for: the command, and no file stops it
 abbrev pub are_built : Options → Bool
-are_built options = has_only_built options && has_built_command options
+are_built options = is_none options.stop_file && is_built_command options.command
 
--- options, unless something of them isn't built
-abbrev pub built_or_not : Options → Result Options Refusal
-built_or_not options =
-    if are_built options then Ok options else Err (Refusal.NotBuilt Unbuilt.Words)
+-- what options are refused with that read well: something of them isn't built, or they use a variable that names no Engine
+abbrev pub options_refusal : Variables → Options → Option Refusal
+options_refusal env options =
+    if not (are_built options) then Some (Refusal.NotBuilt Unbuilt.Words)
+    else if has_bad_host options env then Some (Refusal.Words WordsRefusal.BadHost)
+    else None
+
+-- options, unless they are refused
+abbrev pub unless_refused : Options → Option Refusal → Result Options Refusal
+unless_refused options None = Ok options
+unless_refused options (Some refusal) = Err refusal
+
+-- options that read well, unless they are refused under these variables
+abbrev pub asked_or_not : Variables → Options → Result Options Refusal
+asked_or_not env options = unless_refused options (options_refusal env options)
 
 -- the options of words, or what a call is refused with where these are none
 abbrev pub read_or_refused : Result Options WordsRefusal → Result Options Refusal
 read_or_refused (Ok options) = Ok options
 read_or_refused (Err refusal) = Err (words_refusal refusal)
 
--- the command with its options that words ask for, under the caller's variables: first the words are read, and then
--- it is asked what is built; no variable has a say in either
+-- the command with its options that words ask for, under the caller's variables: first the words are read, then it is asked
+-- what is built, and then whether DOCKER_HOST, where it is used, names an Engine; no other variable has a say
 abbrev pub options_asked : List (List ℕ) → Variables → Result Options Refusal
-options_asked words env = read_or_refused (options_of words) >>= built_or_not
+options_asked words env = read_or_refused (options_of words) >>= asked_or_not env
 
 -- the command of options, where there are such
 abbrev pub command_in : Result Options Refusal → Option Command

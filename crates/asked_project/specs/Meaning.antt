@@ -1,9 +1,8 @@
 -- What a call's words, variables, working directory and files mean: a project, or the first refusal.
 use Rattle.std.specs.Prelude.{◌≡◌, ℕ, List, Option, Result, Ok, Err}
-use Rattle.active_services.specs.Profiles.{Profiles, profiles_given}
+use Rattle.active_services.specs.Profiles.{profiles_given}
 use Rattle.asked_project.specs.Asking.{Variables, options_asked}
 use Rattle.asked_project.specs.declared.asking.Asked.{Asked}
-use Rattle.compose_words.specs.declared.Command.{Command}
 use Rattle.compose_words.specs.declared.Options.{Options}
 use Rattle.include_extends.specs.Loading.{loading}
 use Rattle.loaded_files.specs.Reads.{Load, Ran, loaded_from}
@@ -13,7 +12,6 @@ use Rattle.loaded_files.specs.declared.Loaded.{Loaded}
 use Rattle.outside_files.specs.Counts.{Rose}
 use Rattle.outside_files.specs.Files.{Contents}
 use Rattle.normal_form.specs.Projects.{project_of}
-use Rattle.normal_form.specs.Runnable.{runnable}
 use Rattle.loading_words.specs.declared.TreeRefusal.{TreeRefusal}
 use Rattle.refusals.specs.Origins.{load_refusal, project_refusal}
 use Rattle.refusals.specs.Refused.{is_free}
@@ -31,23 +29,12 @@ abbrev pub project_or_refused : Result Project TreeRefusal → Result Project Re
 project_or_refused (Ok project) = Ok project
 project_or_refused (Err refusal) = Err (project_refusal refusal)
 
--- a project as a command takes it: a run has to do all of it, and the other commands take every project
-abbrev pub taken_by : Command → Project → Result Project TreeRefusal
-taken_by (Command.Up orphans wait seconds scale) project = runnable project
-taken_by (Command.Down orphans volumes seconds) project = runnable project
-taken_by command project = Ok project
-
--- the project of what was loaded, by the name of `-p` and by profiles, as the command takes it
-abbrev pub project_by : Options → Profiles → Loaded → Result Project TreeRefusal
-project_by options profiles loaded =
-    project_of options.project profiles loaded >>= taken_by options.command
-
--- the project of what was loaded for options: by the profiles of `--profile` and of the variables, those of env files
--- among them
+-- the project of what was loaded for options: by the name of `-p`, and by the profiles of `--profile` and of the variables,
+-- those of env files among them
 abbrev pub project_loaded : Options → Loaded → Result Project Refusal
 project_loaded options loaded =
     project_or_refused
-    (project_by options (profiles_given options.profiles loaded.env) loaded)
+    (project_of options.project (profiles_given options.profiles loaded.env) loaded)
 
 -- what options, variables and a working directory ask to be loaded
 abbrev pub request_for : Options → Variables → List ℕ → LoadRequest

@@ -1,11 +1,11 @@
-ghost use Rattle.std.specs.Prelude.{◌≡◌, ◌<◌, ◌^◌, Err, Ok, IfErr, IfOk, IfSome, IsTrue, length};
+ghost use Rattle.std.specs.Prelude.{◌≡◌, ◌<◌, ◌≤◌, ◌^◌, Err, Ok, IfErr, IfOk, IfSome, IsTrue, length};
 ghost use Rattle.asked_project.specs.Asking.{options_asked};
 ghost use Rattle.asked_project.specs.Meaning.{IsFailedLoad, IsFailedRead, IsLoaded, IsSpelled, MeansAs, load_for, meaning, request_for};
 ghost use Rattle.asked_project.specs.Parts.{MeansFor, asked_with};
 ghost use Rattle.loaded_files.specs.Reads as loads;
 ghost use Rattle.loaded_files.specs.declared.LoadRefusal.{LoadRefusal};
 ghost use Rattle.outside_files.specs.Counts.{Rose};
-ghost use Rattle.refusals.specs.Origins.{IsBeforeDial, is_of_words};
+ghost use Rattle.refusals.specs.Origins.{IsOfAsking, is_of_words};
 ghost use Rattle.refusals.specs.Refused.{wants_memory};
 ghost use Rattle.refusals.specs.declared.Refusal.{Refusal};
 ghost use Rattle.typed_project.specs.DistinctNames.{IsKeyed};
@@ -30,8 +30,8 @@ pub struct Asked {
 
 /// The command with its options that words ask for, and the project that the variables, the working directory `cwd`
 /// and the files give. The refusals, in their order: `Words` where the words are none; `NotBuilt(Words)` where they
-/// ask for what isn't built yet; those of loading; and those of the project: of its name, of its active services, of what
-/// it declares, and of what a run doesn't do yet.
+/// ask for what isn't built yet; `Words(BadHost)` where they use `DOCKER_HOST`, and that names no Engine; those of loading; and those of the project: of its name, of its active services, and of
+/// what stands in it.
 pub fn project_asked<F: Files>(
     alloc: Global,
     words: &List<Text>,
@@ -59,10 +59,11 @@ pub fn project_asked<F: Files>(
     ensures read { (path : _) → result ≡ Err (Refusal.Load (LoadRefusal.ReadFault path))
         → IsFailedRead words.now env.now cwd.now (F.told files.old)
         (F.faults files.old) (F.faults files.new) path }
-    ensures kind { IfErr result IsBeforeDial }
+    ensures kind { IfErr result IsOfAsking }
+    ensures counted { F.faults files.old ≤ F.faults files.new }
     ensures kept { F.told files.new ≡ F.told files.old }
 {
-    match options_asked(alloc, words) {
+    match options_asked(alloc, words, env) {
         Ok(options) => project_for(alloc, options, env, cwd, files),
         Err(refusal) => Err(refusal),
     }
@@ -86,7 +87,8 @@ fn project_for<F: Files>(
     ensures read { (path : _) → result ≡ Err (Refusal.Load (LoadRefusal.ReadFault path))
         → IsFailedLoad options env.now cwd.now (F.told files.old)
         (F.faults files.old) (F.faults files.new) path }
-    ensures kind { IfErr result IsBeforeDial }
+    ensures kind { IfErr result IsOfAsking }
+    ensures counted { F.faults files.old ≤ F.faults files.new }
     ensures kept { F.told files.new ≡ F.told files.old }
 {
     match load_for(alloc, &options, env, cwd, files) {
@@ -114,6 +116,7 @@ fn load_for<F: Files>(
     ensures given { loads.Gives (F.told files.old) result (load_for options.now env.now cwd.now) }
     ensures fault { (at : _) → result ≡ Err (LoadRefusal.ReadFault at)
         → Rose (F.faults files.old) (F.faults files.new) }
+    ensures counted { F.faults files.old ≤ F.faults files.new }
     ensures kept { F.told files.new ≡ F.told files.old }
 {
     match request_for(alloc, options, env, cwd) {

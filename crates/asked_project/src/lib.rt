@@ -2,8 +2,8 @@
 //! give; or why it is refused.
 //!
 //! The contract of `project_asked` says the project or the first refusal, in this order: the words, then what isn't
-//! built of them, then what they load, the project's name and its services. Nothing is asked of the files where the
-//! words are refused.
+//! built of them, then what they load, the project's name and its services. Every command is given the same project.
+//! Nothing is asked of the files where the words are refused.
 #![tactic(auto)]
 
 mod asking;

@@ -1,16 +1,16 @@
-ghost use Rattle.std.specs.Prelude.{◌≡◌, IfErr, IfOk};
+ghost use Rattle.std.specs.Prelude.{IfErr, IfOk};
 ghost use Rattle.active_services.specs.Profiles.{profiles_given};
-ghost use Rattle.asked_project.specs.Meaning.{project_by, project_loaded, project_or_refused, taken_by};
+ghost use Rattle.asked_project.specs.Meaning.{project_loaded, project_or_refused};
 ghost use Rattle.asked_project.specs.Parts.{IsOfProject};
-ghost use Rattle.normal_form.specs.Runnable.{runnable};
+ghost use Rattle.normal_form.specs.Projects.{project_of};
 ghost use Rattle.refusals.specs.Refused.{wants_memory};
 ghost use Rattle.typed_project.specs.DistinctNames.{IsKeyed};
 ghost use Rattle.tree_base.specs.Answers.{Gives};
 
 use active_services::profiles_given;
-use compose_words::{Command, Options};
+use compose_words::Options;
 use include_extends::Loaded;
-use normal_form::{project_of, runnable};
+use normal_form::project_of;
 use refusals::Refusal;
 use std::alloc::Global;
 use tree_base::{List, Memory, Text};
@@ -37,7 +37,7 @@ pub(crate) fn project_loaded(
     }
 }
 
-/// The project of what was loaded, by the profiles of the call, as its command takes it.
+/// The project of what was loaded, by the profiles of the call.
 fn project_by(
     alloc: Global,
     options: &Options,
@@ -45,40 +45,11 @@ fn project_by(
     loaded: &Loaded,
 ) -> Result<Project, Refusal>
     ensures told { Gives wants_memory result (project_or_refused
-        (project_by options.now profiles.now loaded.now)) }
+        (project_of options.now.project profiles.now loaded.now)) }
     ensures keyed { IfOk result IsKeyed }
     ensures kind { IfErr result IsOfProject }
 {
     match project_of(alloc, options.project.as_ref(), profiles, loaded) {
-        Ok(project) => taken_by(alloc, &options.command, project),
-        Err(refusal) => Err(Refusal::from(refusal)),
-    }
-}
-
-/// A project as a command takes it: a run has to do all of it.
-fn taken_by(alloc: Global, command: &Command, project: Project) -> Result<Project, Refusal>
-    ensures told { Gives wants_memory result (project_or_refused (taken_by command.now project)) }
-    ensures same { IfOk result (λ taken. taken ≡ project) }
-    ensures kind { IfErr result IsOfProject }
-{
-    match command {
-        Command::Up { .. } => to_run(alloc, project),
-        Command::Down { .. } => to_run(alloc, project),
-        Command::Config { .. } => Ok(project),
-        Command::Simulate { .. } => Ok(project),
-        Command::Wait => Ok(project),
-        Command::Logs => Ok(project),
-        Command::EngineSim { .. } => Ok(project),
-    }
-}
-
-/// A project of which a run does all so far.
-fn to_run(alloc: Global, project: Project) -> Result<Project, Refusal>
-    ensures told { Gives wants_memory result (project_or_refused (runnable project)) }
-    ensures same { IfOk result (λ taken. taken ≡ project) }
-    ensures kind { IfErr result IsOfProject }
-{
-    match runnable(alloc, project) {
         Ok(project) => Ok(project),
         Err(refusal) => Err(Refusal::from(refusal)),
     }

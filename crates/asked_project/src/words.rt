@@ -1,37 +1,56 @@
-ghost use Rattle.std.specs.Prelude.{◌≡◌, ◌<◌, ◌^◌, ◌||◌, IfErr, IsTrue, length};
-ghost use Rattle.asked_project.specs.Asking.{Variables, are_built, built_or_not, has_built_command, has_only_built, options_asked};
+ghost use Rattle.std.specs.Prelude.{◌≡◌, ◌<◌, ◌^◌, ◌||◌, IfErr, IfSome, IsTrue, length};
+ghost use Rattle.asked_project.specs.Asking.{are_built, asked_or_not, is_built_command, options_asked, options_refusal};
 ghost use Rattle.refusals.specs.Origins.{is_of_words};
 ghost use Rattle.refusals.specs.Refused.{wants_memory};
 ghost use Rattle.tree_base.specs.Answers.{Gives};
 
-use compose_words::{Command, Options, read_words};
+use asked_target::has_bad_host;
+use compose_words::{Command, Options, WordsRefusal, read_words};
 use refusals::{Refusal, Unbuilt};
 use std::alloc::Global;
-use tree_base::{List, Text};
+use tree_base::{Env, List, Text};
 
-/// The command with its options that words ask for, whatever the variables are. `Words` where they are none, and
-/// `NotBuilt(Words)` where they ask for what isn't built yet.
-pub(crate) fn options_asked(alloc: Global, words: &List<Text>) -> Result<Options, Refusal>
+/// The command with its options that words ask for. `Words` where they are none; `NotBuilt(Words)` where they ask for what
+/// isn't built yet; and `Words(BadHost)` where they use `DOCKER_HOST`, and that names no Engine.
+pub(crate) fn options_asked(
+    alloc: Global,
+    words: &List<Text>,
+    env: &Env,
+) -> Result<Options, Refusal>
     requires { length words.now < 2 ^ 32 }
-    ensures answer { (env : Variables)
-        → Gives wants_memory result (options_asked words.now env) }
+    ensures answer { Gives wants_memory result (options_asked words.now env.now) }
     ensures kind { IfErr result (λ refusal. IsTrue (is_of_words refusal || wants_memory refusal)) }
 {
     match read_words(alloc, words) {
-        Ok(options) => built_or_not(options),
+        Ok(options) => asked_or_not(options, env),
         Err(refusal) => Err(Refusal::from(refusal)),
     }
 }
 
-fn built_or_not(options: Options) -> Result<Options, Refusal>
-    ensures answer { result ≡ built_or_not options }
+fn asked_or_not(options: Options, env: &Env) -> Result<Options, Refusal>
+    ensures answer { result ≡ asked_or_not env.now options }
     ensures kind { IfErr result (λ refusal. IsTrue (is_of_words refusal || wants_memory refusal)) }
 {
-    if are_built(&options) {
-        Ok(options)
+    match options_refusal(&options, env) {
+        None => Ok(options),
+        Some(refusal) => {
+            drop(options);
+            Err(refusal)
+        }
+    }
+}
+
+/// What options are refused with that read well. No memory.
+fn options_refusal(options: &Options, env: &Env) -> Option<Refusal>
+    ensures answer { result ≡ options_refusal env.now options.now }
+    ensures kind { IfSome result (λ refusal. IsTrue (is_of_words refusal)) }
+{
+    if !are_built(options) {
+        Some(Refusal::NotBuilt(Unbuilt::Words))
+    } else if has_bad_host(options, env) {
+        Some(Refusal::Words(WordsRefusal::BadHost))
     } else {
-        drop(options);
-        Err(Refusal::NotBuilt(Unbuilt::Words))
+        None
     }
 }
 
@@ -39,33 +58,21 @@ fn built_or_not(options: Options) -> Result<Options, Refusal>
 fn are_built(options: &Options) -> bool
     ensures { result ≡ are_built options.now }
 {
-    has_only_built(options) && has_built_command(options)
+    options.stop_file.is_none() && is_built_command(&options.command)
 }
 
-/// Whether none of the options is given that isn't built for any command.
-fn has_only_built(options: &Options) -> bool
-    ensures { result ≡ has_only_built options.now }
+/// Whether a command is built, with its own options.
+fn is_built_command(command: &Command) -> bool
+    ensures { result ≡ is_built_command command.now }
 {
-    options.socket.is_none() && options.stop_file.is_none()
-}
-
-/// Whether the command is built with its own options; `up` and `down` are on an Engine in memory.
-fn has_built_command(options: &Options) -> bool
-    ensures { result ≡ has_built_command options.now }
-{
-    match &options.command {
+    match command {
         Command::Config { .. } => true,
         Command::Up {
             wait,
             wait_seconds,
-            scale,
             ..
-        } => options.in_memory && !*wait && wait_seconds.is_none() && scale.is_empty(),
-        Command::Down {
-            volumes,
-            seconds,
-            ..
-        } => options.in_memory && !*volumes && seconds.is_none(),
+        } => !*wait && wait_seconds.is_none(),
+        Command::Down { seconds, .. } => seconds.is_none(),
         Command::Simulate { .. } => false,
         Command::Wait => false,
         Command::Logs => false,

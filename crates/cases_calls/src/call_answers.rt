@@ -1,20 +1,20 @@
 ghost use Rattle.std.specs.Prelude.{◌<◌, ◌^◌, length};
+ghost use Rattle.typed_project.specs.DistinctNames.{IsKeyed};
 
 use crate::config_call::put_ended;
 use crate::files::sound_files_of;
 use crate::scene::Scene;
 use crate::stage::Stage;
 use asked_project::{Asked, Command, project_asked};
+use asked_run::declared_asked;
 use case_files::{Answers, Fields, Lines, Reading};
 use cases_messages::exchange_lines;
 use cases_values::{engine_lines, journal_lines};
 use compose_cli::Ended;
 use engine_hand::MemoryHand;
-use engine_types::Engine;
-use identity::declare;
+use engine_types::{Declared, Engine};
 use outside_files::MemoryFiles;
 use std::alloc::Global;
-use tree_base::Memory;
 use world_laws::exact;
 
 /// Puts what came of a whole call.
@@ -56,35 +56,62 @@ fn put_hand(fields: &Fields, scene: &Scene, hand: &MemoryHand, answers: &mut Ans
     put_exact(fields, scene, engine, answers);
 }
 
+/// What a call declares, and whether orphans are to go.
+#[derive(Drop)]
+struct Wanted {
+    declared: Declared,
+    orphans: bool,
+}
+
 /// Puts whether an Engine holds exactly what the project of a call declares; null where the call is refused.
 fn put_exact(fields: &Fields, scene: &Scene, engine: &Engine, answers: &mut Answers)
     requires words { length scene.now.words < 2 ^ 32 }
 {
-    match asked_in(&mut answers.reading, fields, scene) {
-        Some(asked) => {
-            let told = holds(answers.reading.alloc, &asked, engine);
-            drop(asked);
+    match wanted_in(&mut answers.reading, fields, scene) {
+        Some(Wanted { declared, orphans }) => {
+            let told = exact(answers.reading.alloc, &declared, engine, orphans);
+            drop(declared);
             answers.put_told("exact", told);
         }
         None => answers.put_null("exact"),
     }
 }
 
-/// What a call is asked, from files of which every read goes well; None where it is refused.
-fn asked_in(reading: &mut Reading, fields: &Fields, scene: &Scene) -> Option<Asked>
+/// What a call declares, by files of which every read goes well; None where it is refused.
+fn wanted_in(reading: &mut Reading, fields: &Fields, scene: &Scene) -> Option<Wanted>
     requires words { length scene.now.words < 2 ^ 32 }
 {
     let mut files = sound_files_of(reading, fields, scene.directory.as_str());
-    let asked = asked_of(reading.alloc, scene, &mut files);
+    let wanted = wanted_of(reading.alloc, scene, &mut files);
     drop(files);
-    asked
+    wanted
 }
 
-fn asked_of(alloc: Global, scene: &Scene, files: &mut MemoryFiles) -> Option<Asked>
+fn wanted_of(alloc: Global, scene: &Scene, files: &mut MemoryFiles) -> Option<Wanted>
     requires words { length scene.now.words < 2 ^ 32 }
 {
     match project_asked(alloc, &scene.words, &scene.env, &scene.directory, files) {
-        Ok(asked) => Some(asked),
+        Ok(asked) => {
+            let wanted = wanted_for(alloc, &asked, files);
+            drop(asked);
+            wanted
+        }
+        Err(refusal) => {
+            drop(refusal);
+            None
+        }
+    }
+}
+
+fn wanted_for(alloc: Global, asked: &Asked, files: &mut MemoryFiles) -> Option<Wanted>
+    requires { IsKeyed asked.now.project }
+{
+    let command = &asked.options.command;
+    match declared_asked(alloc, command, &asked.project, files) {
+        Ok(declared) => Some(Wanted {
+            declared,
+            orphans: goes_for_orphans(command),
+        }),
         Err(refusal) => {
             drop(refusal);
             None
@@ -98,16 +125,4 @@ fn goes_for_orphans(command: &Command) -> bool {
         Command::Up { orphans, .. } | Command::Down { orphans, .. } => *orphans,
         _ => false,
     }
-}
-
-fn holds(alloc: Global, asked: &Asked, engine: &Engine) -> Result<bool, Memory> {
-    let declared = declare(alloc, &asked.project)?;
-    let is_exact = exact(
-        alloc,
-        &declared,
-        engine,
-        goes_for_orphans(&asked.options.command),
-    );
-    drop(declared);
-    is_exact
 }

@@ -1,4 +1,4 @@
-use crate::{declaring, ending, exactness, labelled, planning, refused, running, serving, values};
+use crate::{ending, exactness, labelled, planning, refused, running, serving, values};
 use case_files::{Answers, Fields};
 
 /// The inputs of a call beside its main one, or None where the call isn't one of this crate.
@@ -11,7 +11,6 @@ pub fn inputs_of(call: &str) -> Option<&'static [&'static str]> {
         "exact" => Some(&["engine"]),
         "membership" => Some(&["project", "image", "container"]),
         "refusal" => Some(&[]),
-        "declare" => Some(&["project"]),
         _ => values::inputs_of(call),
     }
 }
@@ -26,7 +25,6 @@ pub fn answer(call: &str, fields: &Fields, answers: &mut Answers) {
         "exact" => exactness::exact(fields, answers),
         "membership" => labelled::membership(fields, answers),
         "refusal" => refused::refusal(fields, answers),
-        "declare" => declaring::declare(fields, answers),
         _ => values::answer(call, fields, answers),
     }
 }

@@ -2,17 +2,19 @@ use crate::ending::put_refusal_line;
 use case_files::{Answers, Fields, Reading};
 use cases_values::run_fault_of;
 use refusals::{
-    ActiveRefusal, LoadRefusal, Part, ProjectRefusal, Refusal, Unbuilt, WordsRefusal, refusal_of,
-    status_of,
+    ActiveRefusal, DigestRefusal, IdentityRefusal, LoadRefusal, Part, ProjectRefusal, Refusal,
+    Unbuilt, WordsRefusal, refusal_of, status_of,
 };
 use tree_base::{List, Path, Place, Step, Text, Tree};
 use yaml_lines::{YamlFault, YamlRefusal};
 
 /// What a refusal prints, `line`, and its exit `status`; `none: true` is no refusal. It is that of a run's fault, by the
 /// keys of `run_fault_of`, or another one: `words` with the name of their refusal, and its place `at` where it has one;
-/// `not_built: words`, or `not_built` with the steps of a path, `[12]` for a place; `load` with the fault's name and a
-/// `path`, and `line` and `column` where it is one of a text; `name`, a project's name that is none; `disabled`, a
-/// dependency of a `service` that isn't enabled; `services`, how many there are too many; `outside: Plug` or `Out`.
+/// `not_built: words` or `run`, or `not_built` with the steps of a path, `[12]` for a place; `load` with the fault's name and
+/// a `path`, and `line` and `column` where it is one of a text; `name`, a project's name that is none; `disabled`, a
+/// dependency of a `service` that isn't enabled; `services`, how many there are too many; `digest` with the fault's name and
+/// a `path`; `unknown_scale`, a service that isn't there, `needs`, how many there are too many, or `name_twice`;
+/// `outside: Plug` or `Out`.
 pub(crate) fn refusal(fields: &Fields, answers: &mut Answers) {
     if let Some(fields) = answers.reading.fields_at(fields, "refusal") {
         let refusal = refusal_where(&mut answers.reading, &fields);
@@ -65,6 +67,24 @@ fn other_refusal(reading: &mut Reading, fields: &Fields) -> Refusal {
         Refusal::Project(ProjectRefusal::TooManyServices {
             count: reading.small_at(fields, "services"),
         })
+    } else if fields.has("digest") {
+        Refusal::Digest(digest_refusal(reading, fields))
+    } else {
+        declaring_refusal(reading, fields)
+    }
+}
+
+/// The refusal of what a project declares, else a fault of the outside.
+fn declaring_refusal(reading: &mut Reading, fields: &Fields) -> Refusal {
+    if fields.has("unknown_scale") {
+        let service = reading.text_at(fields, "unknown_scale");
+        Refusal::Identity(IdentityRefusal::UnknownScale(service))
+    } else if fields.has("needs") {
+        let count = reading.number_at(fields, "needs");
+        Refusal::Identity(IdentityRefusal::TooManyNeeds(count))
+    } else if fields.has("name_twice") {
+        let name = reading.text_at(fields, "name_twice");
+        Refusal::Identity(IdentityRefusal::NameTwice(name))
     } else {
         Refusal::Outside(part_at(reading, fields))
     }
@@ -107,8 +127,9 @@ fn unbuilt_of(reading: &mut Reading, tree: &Tree) -> Unbuilt {
             path: path_of(reading, steps.as_slice()),
         },
         Tree::Scalar(text) if text.as_str() == "words" => Unbuilt::Words,
+        Tree::Scalar(text) if text.as_str() == "run" => Unbuilt::Run,
         _ => {
-            reading.wants("not_built", "`words` or steps");
+            reading.wants("not_built", "`words`, `run` or steps");
             Unbuilt::Words
         }
     }
@@ -149,6 +170,20 @@ fn load_refusal(reading: &mut Reading, fields: &Fields) -> LoadRefusal {
             path,
             cause: yaml_refusal(reading, fields, word),
         },
+    }
+}
+
+fn digest_refusal(reading: &mut Reading, fields: &Fields) -> DigestRefusal {
+    let word = reading.text_at(fields, "digest");
+    let path = reading.text_at(fields, "path");
+    match word.as_str() {
+        "NotFound" => DigestRefusal::NotFound { path },
+        "ReadFault" => DigestRefusal::ReadFault { path },
+        "FileTooLarge" => DigestRefusal::FileTooLarge { path },
+        _ => {
+            reading.wants("digest", "the name of a fault");
+            DigestRefusal::Memory
+        }
     }
 }
 

@@ -7,8 +7,9 @@ mod variables;
 
 ghost use Rattle.std.specs.Prelude.{◌<◌, ◌^◌, length};
 
-use compose_cli::{MainPlug, serial_main};
+use compose_cli::serial_main;
 use compose_words::{Notice, help_text, notice_of, version_text};
+use engine_plugs::MainPlug;
 use outside_files::{DiskFiles, OutSink, write_all};
 use std::env;
 use std::process::ExitCode;
@@ -62,7 +63,7 @@ fn call(rt: &HostRuntime, words: &List<Text>) -> Result<u8, Memory>
     let variables = variables(rt)?;
     let directory = working_directory(rt)?;
     let mut files = DiskFiles::new(rt);
-    let mut plug = MainPlug::new();
+    let mut plug = MainPlug::new(rt);
     let mut out = OutSink::new(rt.stdout());
     let mut err = OutSink::new(rt.stderr());
     let ended = serial_main(

@@ -9,10 +9,11 @@ use Rattle.compose_cli.specs.declared.ended.Ended.{Ended}
 use Rattle.compose_config.proofs.Loads.{answered, loads_weaker, not_loaded, said_refusal}
 use Rattle.compose_config.specs.Commands.{IfLoads, IsConfig, IsReadFault}
 use Rattle.compose_words.specs.declared.Command.{Command}
+use Rattle.file_digests.specs.declared.DigestRefusal.{DigestRefusal}
 use Rattle.loaded_files.specs.declared.LoadRefusal.{LoadRefusal}
 use Rattle.outside_files.specs.Files.{Contents}
 use Rattle.refusals.proofs.Said.{said}
-use Rattle.refusals.specs.Origins.{IsBeforeDial, IsOfLoading, is_of_words}
+use Rattle.refusals.specs.Origins.{IsOfAsking, IsOfLoading, is_of_words}
 use Rattle.refusals.specs.Refused.{IsRefusal}
 use Rattle.refusals.specs.Saying.{IsSaid}
 use Rattle.refusals.specs.declared.Refusal.{Refusal}
@@ -46,18 +47,17 @@ module _ (words : List (List ℕ)) (env : Variables) (cwd : List ℕ) (told : Op
 
   pub only_reads : (refusal : Refusal) (found : Option Refusal) → IfSome told (λ contents. MeansAs (meaning words env cwd contents) (answered refusal))
       → ((path : List ℕ) → refusal ≡ Refusal.Load (LoadRefusal.ReadFault path) → IsFailedRead words env cwd told old new path) → IsSaid refusal found → IsOfLoading found
-      → IfRuns words env (λ _. IfLoads words env cwd told (Failed found))
+      → IfLoads words env cwd told (Failed found)
   only_reads refusal found means read is_said of_loading =
-      if_runs words env (IfLoads words env cwd told (Failed found))
-      (loads_weaker words env cwd told (OnlyRead (Some refusal)) (Failed found)
+      loads_weaker words env cwd told (OnlyRead (Some refusal)) (Failed found)
       (not_loaded words env cwd told (λ r. OnlyRead (Some r)) refusal means (λ never. absurd never) (λ path e _. read path e))
-      (λ only. said refusal found is_said OnlyRead (λ never. absurd never) only of_loading))
+      (λ only. said refusal found is_said OnlyRead (λ never. absurd never) only of_loading)
 
--- what comes before the dial begins no run
-pub before_unbegun : (refusal : Refusal) (found : Option Refusal) → IsBeforeDial refusal → IsSaid refusal found → IsUnbegun found
+-- a refusal of what is asked for begins no run
+pub before_unbegun : (refusal : Refusal) (found : Option Refusal) → IsOfAsking refusal → IsSaid refusal found → IsUnbegun found
 before_unbegun refusal found before is_said = said refusal found is_said IsUnbegun tt (at refusal before)
   where
-    at : (refusal : Refusal) → IsBeforeDial refusal → IsUnbegun (Some refusal)
+    at : (refusal : Refusal) → IsOfAsking refusal → IsUnbegun (Some refusal)
     at Refusal.Memory h = tt
     at (Refusal.Words words) h = tt
     at (Refusal.NotBuilt unbuilt) h = tt
@@ -65,6 +65,8 @@ before_unbegun refusal found before is_said = said refusal found is_said IsUnbeg
     at (Refusal.Name name) h = tt
     at (Refusal.Active active) h = tt
     at (Refusal.Project project) h = tt
+    at (Refusal.Digest cause) h = absurd h
+    at (Refusal.Identity cause) h = absurd h
     at (Refusal.Seen fault) h = absurd h
     at (Refusal.Request request outcome) h = absurd h
     at (Refusal.Condition slot condition report) h = absurd h
@@ -94,6 +96,8 @@ no_words refusal words none h e = none (subst IsOfLoading (sym e) (at words h))
     at (Refusal.Name name) h = tt
     at (Refusal.Active active) h = tt
     at (Refusal.Project project) h = tt
+    at (Refusal.Digest cause) h = tt
+    at (Refusal.Identity cause) h = tt
     at (Refusal.Seen fault) h = absurd (cc h)
     at (Refusal.Request request outcome) h = absurd (cc h)
     at (Refusal.Condition slot condition report) h = absurd (cc h)
@@ -108,3 +112,24 @@ counts_none None ended nothing = refl
 counts_none {H} (Some n) ended nothing =
     let size : length ended.hands ≡ 0 = ap (length {A = H}) nothing.0 in
     let same : n ≡ n + length ended.hands = omega (arith, size) in ap (λ (k : ℕ). Some k) same
+
+-- no digest is refused by what a call asks for
+pub asking_no_digest : (refusal : Refusal) (found : Option Refusal) (cause : DigestRefusal) → IsOfAsking refusal → IsSaid refusal found → found ≡ Some (Refusal.Digest cause) → ⊥
+asking_no_digest refusal found cause asking is_said = said refusal found is_said (λ f. f ≡ Some (Refusal.Digest cause) → ⊥) (λ e. cc e) (at refusal asking)
+  where
+    at : (r : Refusal) → IsOfAsking r → Some r ≡ Some (Refusal.Digest cause) → ⊥
+    at (Refusal.Digest other) h e = h
+    at (Refusal.Words words) h e = cc e
+    at (Refusal.NotBuilt unbuilt) h e = cc e
+    at (Refusal.Load load) h e = cc e
+    at (Refusal.Name name) h e = cc e
+    at (Refusal.Active active) h e = cc e
+    at (Refusal.Project project) h e = cc e
+    at (Refusal.Identity other) h e = cc e
+    at (Refusal.Seen fault) h e = cc e
+    at (Refusal.Request request outcome) h e = cc e
+    at (Refusal.Condition slot condition report) h e = cc e
+    at Refusal.Stopped h e = cc e
+    at (Refusal.Late why) h e = cc e
+    at (Refusal.Outside part) h e = cc e
+    at Refusal.Memory h e = cc e

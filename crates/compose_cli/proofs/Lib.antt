@@ -1,5 +1,5 @@
 pub mod Ending
 pub mod Ran
-pub mod Declares
-pub mod EnginesKept
+pub mod Declaring
+pub mod Reachable
 pub mod Statuses

@@ -2,21 +2,24 @@
 use Rattle.std.proofs.Common.{◌≡◌, ℕ, zero, suc, ◌≤◌, Bool, true, false, List, [], ◌∷◌, ◌++◌, Option, Some, None, length, take, refl, sym, ap, ◌∙◌, subst, inl, inr, arith, append-nil}
 use Rattle.std.specs.Prelude.{IfSome, Ok, if◌then◌else◌, option_map, slice_get}
 use Rattle.std.specs.Option.{option_map_or}
+use Rattle.engine_types.specs.declared.Declared.{Declared}
 use Rattle.engine_types.specs.declared.Engine.{Engine}
 use Rattle.engine_types.specs.declared.RunFault.{RunFault}
 use Rattle.asked_project.specs.Asking.{Variables, command_of}
 use Rattle.asked_project.specs.Meaning.{IsSpelled, MeansAs, meaning}
 use Rattle.asked_project.specs.declared.Asked.{Asked}
-use Rattle.compose_cli.specs.Runs.{ForTask, HoldsExactly, HoldsNone, IfRuns, IsCausedAnew, IsRefusalOf, IsStatusOf, IsUnbegun, LeadsOn, Reports, RunsTask, aim_asked, aim_for, run_options, task_for}
+use Rattle.asked_run.specs.Declaring.{ForDeclared}
+use Rattle.compose_cli.specs.Runs.{ForTask, HoldsExactly, HoldsNone, IfRuns, IsCausedAnew, IsRefusalOf, IsStatusOf, IsUnbegun, LeadsOn, MovesEngine, Reports, RunsTask, RunsWhole, aim_asked, aim_for, run_options}
 use Rattle.engine_types.specs.declared.Entry.{Entry}
 use Rattle.engine_types.specs.declared.Exchange.{Exchange}
 use Rattle.compose_config.proofs.Loads.{for_project}
+use Rattle.compose_config.specs.Commands.{ForProject}
 use Rattle.compose_words.specs.declared.Command.{Command}
 use Rattle.outside_files.specs.Files.{Contents}
 use Rattle.outside_api.specs.Accounts.{Account, account}
 use Rattle.outside_api.specs.Hands.{BeginsWith, Heard, HeardNothing}
 use Rattle.outside_files.specs.Sinks.{GrewBy}
-use Rattle.project_run.specs.Whole.{IfBegun, IsCaused, IsFault, IsReport, SparesKept}
+use Rattle.project_run.specs.Whole.{IfBegun, IsCaused, IsFault, IsReport, SparesKept, task_of}
 use Rattle.project_run.specs.Worlds.{EndsExact, EndsGone, GoesThrough}
 use Rattle.refusals.specs.Origins.{IsOfRun, run_refusal}
 use Rattle.refusals.specs.Statuses.{refusal_status, status_of}
@@ -30,6 +33,7 @@ use Rattle.run_model.specs.Plans.{Aim}
 use Rattle.run_model.specs.Runs.{IsLeftByAll, IsRun, IsWorldOfRun, Task, limits_of, run_exchanges, run_fault, run_report}
 use Rattle.run_model.specs.Worlds.{Move}
 use Rattle.serial_run.specs.Serial.{aim_of}
+use Rattle.typed_project.specs.declared.project.Project.{Project}
 use Rattle.serial_run.specs.declared.plan_aim as given
 use Rattle.refusals.specs.Saying.{IsSaid, IsSaidIfAny}
 use Rattle.outside_files.specs.Writing.{Says, Wrote}
@@ -179,6 +183,11 @@ pub if_begun : (journal : List Entry) {A R : Type 0} → IfBegun journal A → (
 if_begun [] a f = tt
 if_begun (entry ∷ rest) a f = f a
 
+-- the same, where other facts on the journal's run are at hand
+pub if_begun_in : (journal : List Entry) {A R : Type 0} → IfBegun journal A → (((B : Type 0) → IfBegun journal B → B) → A → R) → IfBegun journal R
+if_begun_in [] a f = tt
+if_begun_in (entry ∷ rest) a f = f (λ B b. b) a
+
 if_begun_of : (journal : List Entry) {A B C D R : Type 0} → IfBegun journal A → IfBegun journal B → IfBegun journal C → IfBegun journal D → (A → B → C → D → R) → IfBegun journal R
 if_begun_of [] a b c d f = tt
 if_begun_of (entry ∷ rest) a b c d f = f a b c d
@@ -278,12 +287,28 @@ said_not_zero refusal found status h e z =
 pub has_begun : (journal : List Entry) {A : Type 0} (refusal : Option Refusal) → (journal ≡ [] → IsUnbegun refusal) → refusal ≡ None → IfBegun journal A → A
 has_begun journal refusal unbegun e a = begun_by journal a (λ n. subst IsUnbegun e (unbegun n))
 
--- a fact on the task that the words ask for of the project that was asked for
-pub for_task : (words : List (List ℕ)) (env : Variables) (cwd : List ℕ) (told : Option Contents) (first : ℕ) (aim : Aim) (asked : Asked) (Fact : Task → Type 0) → aim_asked (command_of words env) ≡ Some aim
-    → IfSome told (λ contents. MeansAs (meaning words env cwd contents) (Ok asked)) → IsSpelled words env cwd told asked.project → Fact (task_for aim (limits_of run_options first) asked.project)
-    → ForTask words env cwd told first Fact
-for_task words env cwd told first aim asked Fact runs means spelled fact =
-    rw runs (for_project words env cwd told asked (λ p. Fact (task_for aim (limits_of run_options first) p)) means spelled fact)
+-- a fact on what is declared, from another one
+pub declared_weaker : (told : Option Contents) (command : Command) (project : Project) (P Q : Declared → Type 0) → ForDeclared told command project P → ((declared : Declared) → P declared → Q declared) → ForDeclared told command project Q
+declared_weaker None command project P Q h k = (h.0, h.1, k h.0 h.2)
+declared_weaker (Some contents) command project P Q h k = (h.0, h.1, k h.0 h.2)
+
+-- a fact on the task that the words ask for, from one on what the project that was asked for declares, as the files tell it later
+pub task_by : (words : List (List ℕ)) (env : Variables) (cwd : List ℕ) (told later : Option Contents) (first : ℕ) (aim : Aim) (asked : Asked) (Whole Fact : Task → Type 0) → later ≡ told
+    → command_of words env ≡ Some asked.options.command → aim_for asked.options.command ≡ Some aim
+    → IfSome told (λ contents. MeansAs (meaning words env cwd contents) (Ok asked)) → IsSpelled words env cwd told asked.project
+    → ForDeclared later asked.options.command asked.project (λ declared. Whole (task_of declared aim (limits_of run_options first)))
+    → ((task : Task) → Whole task → Fact task) → ForTask words env cwd told first Fact
+task_by words env cwd told later first aim asked Whole Fact same is runs means spelled whole weaker =
+    let now : ForDeclared told asked.options.command asked.project (λ declared. Whole (task_of declared aim (limits_of run_options first))) =
+    subst (λ (t : Option Contents). ForDeclared t asked.options.command asked.project (λ declared. Whole (task_of declared aim (limits_of run_options first)))) same whole in
+    let fact : ForDeclared told asked.options.command asked.project (λ declared. Fact (task_of declared aim (limits_of run_options first))) =
+    declared_weaker told asked.options.command asked.project (λ declared. Whole (task_of declared aim (limits_of run_options first))) (λ declared. Fact (task_of declared aim (limits_of run_options first)))
+    now (λ declared h. weaker (task_of declared aim (limits_of run_options first)) h) in
+    rw is (rw runs (for_project words env cwd told asked (λ p. ForDeclared told asked.options.command p (λ declared. Fact (task_of declared aim (limits_of run_options first)))) means spelled fact))
+
+-- what a command's run is for, by the call that found it
+pub aims : (command : Command) (found : Option given.Aim.Aim) (aim : given.Aim.Aim) → option_map aim_of found ≡ aim_for command → found ≡ Some aim → aim_for command ≡ Some (aim_of aim)
+aims command found aim finds e = sym finds ∙ ap (option_map aim_of) e
 
 -- what the words' run is for, by the calls that found it
 pub asked : (words : List (List ℕ)) (env : Variables) (command : Command) (found : Option given.Aim.Aim) (aim : given.Aim.Aim) → command_of words env ≡ Some command → option_map aim_of found ≡ aim_for command → found ≡ Some aim
@@ -298,3 +323,11 @@ unasked words env command found is finds e = ap aim_asked is ∙ (sym finds ∙ 
 -- a fact on what a run is for holds where nothing is run
 pub idle : (words : List (List ℕ)) (env : Variables) (Fact : Aim → Type 0) → aim_asked (command_of words env) ≡ None → IfRuns words env Fact
 idle words env Fact none = subst (λ (aim : Option Aim). IfSome aim Fact) (sym none) tt
+
+-- words that run nothing have no task
+pub idle_task : (words : List (List ℕ)) (env : Variables) (cwd : List ℕ) (told : Option Contents) (first : ℕ) (Fact : Task → Type 0) → aim_asked (command_of words env) ≡ None → ForTask words env cwd told first Fact
+idle_task words env cwd told first Fact none = by (command_of words env) (λ command aim. ForProject words env cwd told (λ project. ForDeclared told command project (λ declared. Fact (task_of declared aim (limits_of run_options first))))) none
+  where
+    by : (command : Option Command) (F : Command → Aim → Type 0) → aim_asked command ≡ None → IfSome command (λ c. IfSome (aim_for c) (F c))
+    by None F e = tt
+    by (Some command) F e = subst (λ (aim : Option Aim). IfSome aim (F command)) (sym e) tt

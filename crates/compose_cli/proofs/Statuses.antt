@@ -6,7 +6,9 @@ use Rattle.engine_types.specs.declared.SeenFault.{SeenFault}
 use Rattle.engine_types.specs.declared.WireEnd.{WireEnd}
 use Rattle.active_services.specs.declared.ActiveRefusal.{ActiveRefusal}
 use Rattle.compose_words.specs.declared.WordsRefusal.{WordsRefusal}
+use Rattle.declared_set.specs.declared.IdentityRefusal.{IdentityRefusal}
 use Rattle.dotenv.specs.declared.refusal.EnvRefusal.{EnvRefusal}
+use Rattle.file_digests.specs.declared.DigestRefusal.{DigestRefusal}
 use Rattle.loaded_files.specs.declared.LoadRefusal.{LoadRefusal}
 use Rattle.interpolate.specs.declared.refusal.SubstTreeRefusal.{SubstTreeRefusal}
 use Rattle.merge_rules.specs.declared.refusal.MergeRefusal.{MergeRefusal}
@@ -96,6 +98,7 @@ refusal_not_zero : (refusal : Refusal) → refusal_status refusal ≡ 0 → ⊥
 refusal_not_zero (Refusal.Words refusal) e = words_not_zero refusal e
 refusal_not_zero (Refusal.NotBuilt Unbuilt.Words) e = absurd (cc e)
 refusal_not_zero (Refusal.NotBuilt (Unbuilt.Attribute path)) e = absurd (cc e)
+refusal_not_zero (Refusal.NotBuilt Unbuilt.Run) e = absurd (cc e)
 refusal_not_zero (Refusal.Load (LoadRefusal.NotFound path)) e = absurd (cc e)
 refusal_not_zero (Refusal.Load (LoadRefusal.ReadFault path)) e = absurd (cc e)
 refusal_not_zero (Refusal.Load (LoadRefusal.FileTooLarge path)) e = absurd (cc e)
@@ -114,6 +117,14 @@ refusal_not_zero (Refusal.Load LoadRefusal.Memory) e = absurd (cc e)
 refusal_not_zero (Refusal.Name refusal) e = project_not_zero refusal e
 refusal_not_zero (Refusal.Active refusal) e = active_not_zero refusal e
 refusal_not_zero (Refusal.Project refusal) e = project_not_zero refusal e
+refusal_not_zero (Refusal.Digest (DigestRefusal.NotFound path)) e = absurd (cc e)
+refusal_not_zero (Refusal.Digest (DigestRefusal.ReadFault path)) e = absurd (cc e)
+refusal_not_zero (Refusal.Digest (DigestRefusal.FileTooLarge path)) e = absurd (cc e)
+refusal_not_zero (Refusal.Digest DigestRefusal.Memory) e = absurd (cc e)
+refusal_not_zero (Refusal.Identity (IdentityRefusal.UnknownScale service)) e = absurd (cc e)
+refusal_not_zero (Refusal.Identity (IdentityRefusal.TooManyNeeds count)) e = absurd (cc e)
+refusal_not_zero (Refusal.Identity (IdentityRefusal.NameTwice name)) e = absurd (cc e)
+refusal_not_zero (Refusal.Identity IdentityRefusal.Memory) e = absurd (cc e)
 refusal_not_zero (Refusal.Seen fault) e = seen_not_zero fault e
 refusal_not_zero (Refusal.Request request outcome) e = outcome_not_zero outcome e
 refusal_not_zero (Refusal.Condition slot condition report) e = absurd (cc e)

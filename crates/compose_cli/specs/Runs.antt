@@ -1,15 +1,17 @@
 -- What a call leaves that ran a project.
-use Rattle.std.specs.Prelude.{◌≡◌, ◌⊎◌, ◌≤◌, ℕ, true, false, List, [], ◌∷◌, Option, Some, None, IfSome, length, option_map, slice_get, take}
+use Rattle.std.specs.Prelude.{◌≡◌, ◌⊎◌, ◌≤◌, ◌||◌, ℕ, true, false, List, [], ◌∷◌, Option, Some, None, Result, Ok, IfOk, IfSome, length, option_map, slice_get, take}
+use Rattle.engine_types.specs.declared.Declared.{Declared}
 use Rattle.engine_types.specs.declared.Engine.{Engine}
 use Rattle.engine_types.specs.declared.Entry.{Entry}
 use Rattle.engine_types.specs.declared.Exchange.{Exchange}
 use Rattle.engine_types.specs.declared.Purpose.{Purpose}
 use Rattle.engine_types.specs.declared.RunFault.{RunFault}
 use Rattle.engine_types.specs.declared.RunLimits.{RunLimits}
-use Rattle.asked_project.specs.Asking.{Variables, command_of}
+use Rattle.asked_project.specs.Asking.{Variables, command_of, options_asked}
+use Rattle.asked_project.specs.Meaning.{IsLoaded, meaning}
+use Rattle.asked_run.specs.Declaring.{ForDeclared, IsFailedDigest, declared_from}
 use Rattle.compose_cli.specs.declared.ended.Ended.{Ended}
-use Rattle.compose_config.specs.Commands.{ForProject}
-use Rattle.identity.specs.Declaring.{declared_of}
+use Rattle.compose_config.specs.Commands.{ForProject, IsReadFault}
 use Rattle.outside_files.specs.Counts.{Rose}
 use Rattle.outside_files.specs.Files.{Contents}
 use Rattle.outside_api.specs.Accounts.{Account, account}
@@ -17,10 +19,13 @@ use Rattle.outside_api.specs.Clock.{Clock}
 use Rattle.outside_api.specs.Hands.{Heard, HeardNothing}
 use Rattle.outside_files.specs.Sinks.{GrewBy}
 use Rattle.compose_words.specs.declared.Command.{Command}
+use Rattle.compose_words.specs.declared.Options.{Options}
+use Rattle.file_digests.specs.declared.DigestRefusal.{DigestRefusal}
 use Rattle.typed_project.specs.declared.project.Project.{Project}
 use Rattle.project_run.specs.Whole.{IfBegun, IsCaused, SparesKept, task_of}
 use Rattle.project_run.specs.Worlds.{EndsExact, EndsGone}
 use Rattle.refusals.specs.Origins.{run_refusal}
+use Rattle.refusals.specs.Refused.{is_failed_digest, is_free}
 use Rattle.refusals.specs.declared.Part.{Part}
 use Rattle.refusals.specs.declared.Refusal.{Refusal}
 use Rattle.run_model.specs.EngineRules.{Among}
@@ -31,13 +36,14 @@ use Rattle.run_model.specs.Plans.{Aim}
 use Rattle.run_model.specs.Runs.{IsLeftByAll, IsRun, IsWorldOfRun, RunOptions, Task, limits_of, run_exchanges, run_fault, run_report}
 use Rattle.run_model.specs.Worlds.{Move}
 use Rattle.outside_files.specs.Writing.{Says}
+use Rattle.tree_base.specs.Answers.{Unless}
 
--- what a command's run is for: `up` and `down` leave volumes; the others run nothing
+-- what a command's run is for: `down` takes volumes away where it is asked to; the others run nothing
 abbrev pub aim_for : Command → Option Aim
 aim_for (Command.Up orphans wait seconds scale) =
     Some (record { purpose = Purpose.Up; orphans = orphans; volumes = false })
 aim_for (Command.Down orphans volumes seconds) =
-    Some (record { purpose = Purpose.Down; orphans = orphans; volumes = false })
+    Some (record { purpose = Purpose.Down; orphans = orphans; volumes = volumes })
 aim_for _ = None
 
 -- what the run of words is for, where they are built and run anything
@@ -58,18 +64,63 @@ abbrev pub first_reading : {H : Type 0} → (H → Clock) → List H → ℕ
 first_reading clock [] = 0
 first_reading clock (hand ∷ others) = (clock hand).first
 
--- to do with what a project declares what a run is for, within limits
-abbrev pub task_for : Aim → RunLimits → Project → Task
-task_for aim limits project = task_of (declared_of project) aim limits
+-- a fact on what words declare, with the command that they are, what it runs for and the project that they load: on the set that
+-- the files give where these are told, else on one that some answers of reads give
+abbrev pub ForAsked :
+    List (List ℕ) → Variables → List ℕ → Option Contents → (Command → Aim → Declared → Type 0) → Type 0
+ForAsked words env cwd told Fact =
+    IfSome (command_of words env) (λ command. IfSome (aim_for command) (λ aim.
+    ForProject words env cwd told (λ project. ForDeclared told command project (Fact command aim))))
 
 -- a fact on the task that a call runs: what its words ask for, within the limits that its options and the first
--- reading of hand 0's clock set, of the project that the words, their variables and the files mean where the files
--- are told, else of some project
+-- reading of hand 0's clock set, of what is declared
 abbrev pub ForTask :
     List (List ℕ) → Variables → List ℕ → Option Contents → ℕ → (Task → Type 0) → Type 0
 ForTask words env cwd told first Fact =
-    IfRuns words env (λ aim. ForProject words env cwd told (λ project.
-    Fact (task_for aim (limits_of run_options first) project)))
+    ForAsked words env cwd told (λ command aim declared.
+    Fact (task_of declared aim (limits_of run_options first)))
+
+-- a fact on what a run's project is declared as, or refused with, where the files are told and a project is meant
+abbrev pub IfDeclared :
+    List (List ℕ) → Variables → List ℕ → Option Contents → (Result Declared Refusal → Type 0) → Type 0
+IfDeclared words env cwd told Fact =
+    IfSome told (λ contents. IfOk (meaning words env cwd contents) (λ project.
+    IfSome (command_of words env) (λ command. IfSome (aim_for command) (λ aim.
+    Fact (declared_from contents command project)))))
+
+-- the refusal is the one of what is declared; reads that failed and a want of memory may stand in its place
+abbrev pub IsUndeclared : Refusal → Option Refusal → Type 0
+IsUndeclared expected None = ⊥
+IsUndeclared expected (Some found) =
+    Unless (is_free found || is_failed_digest found) (found ≡ expected)
+
+-- a run is refused since the read of a file for a digest of the project failed
+abbrev pub IsDigestOf : Command → Project → Option Contents → ℕ → ℕ → Option Refusal → Type 0
+IsDigestOf command project told old new refusal =
+    (path : List ℕ) × (refusal ≡ Some (Refusal.Digest (DigestRefusal.ReadFault path)))
+    × IsFailedDigest told command project old new path
+
+-- the read of a file for its digest failed: words that are built load a project, whose run asks for that digest, and the
+-- files' count of faults rose
+abbrev pub IsFailedDigestRead :
+    List (List ℕ) → Variables → List ℕ → Option Contents → ℕ → ℕ → List ℕ → Type 0
+IsFailedDigestRead words env cwd told old new path =
+    (options : Options) × (options_asked words env ≡ Ok options)
+    × (project : Project) × IsLoaded options env cwd told project
+    × IsFailedDigest told options.command project old new path
+
+-- a call is refused since the read of a file for its digest failed
+abbrev pub IsDigestFault :
+    List (List ℕ) → Variables → List ℕ → Option Contents → ℕ → ℕ → Option Refusal → Type 0
+IsDigestFault words env cwd told old new refusal =
+    (path : List ℕ) × (refusal ≡ Some (Refusal.Digest (DigestRefusal.ReadFault path)))
+    × IsFailedDigestRead words env cwd told old new path
+
+-- a call is refused since some read failed
+abbrev pub IsFaultOfReads :
+    List (List ℕ) → Variables → List ℕ → Option Contents → ℕ → ℕ → Option Refusal → Type 0
+IsFaultOfReads words env cwd told old new refusal =
+    IsReadFault words env cwd told old new refusal ⊎ IsDigestFault words env cwd told old new refusal
 
 -- what a call is refused with whose run has this fault, if any: that fault, or a fault of the output where the run
 -- has none, or want of memory
@@ -99,6 +150,8 @@ IsUnbegun (Some (Refusal.Load refusal)) = Unit {0}
 IsUnbegun (Some (Refusal.Name refusal)) = Unit {0}
 IsUnbegun (Some (Refusal.Active refusal)) = Unit {0}
 IsUnbegun (Some (Refusal.Project refusal)) = Unit {0}
+IsUnbegun (Some (Refusal.Digest refusal)) = Unit {0}
+IsUnbegun (Some (Refusal.Identity refusal)) = Unit {0}
 IsUnbegun (Some (Refusal.Outside Part.Plug)) = Unit {0}
 IsUnbegun (Some Refusal.Memory) = Unit {0}
 IsUnbegun _ = ⊥
@@ -152,3 +205,10 @@ pub record MovesEngine {H : Type 0} (engine : H → Option Engine) (task : Task)
       → Among ended.hands hand → HoldsExactly task (engine hand)
   pub gone : ended.refusal ≡ None → is_up task.aim.purpose ≡ false → (hand : H)
       → Among ended.hands hand → HoldsNone task (engine hand)
+
+-- a call ran a task, and so did the Engine that its hand tells
+pub record RunsWhole {H : Type 0} (log : H → List Exchange) (heard : H → Option (List Heard))
+    (faults : H → ℕ) (engine : H → Option Engine) (began : Option Engine) (task : Task) (ended : Ended H)
+    (written_old written_new : Option (List ℕ)) (faults_old faults_new : ℕ) : Type 0 where
+  pub ran : RunsTask log heard faults task ended written_old written_new faults_old faults_new
+  pub moved : MovesEngine engine task ended began

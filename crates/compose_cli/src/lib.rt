@@ -9,11 +9,11 @@
 #![tactic(auto)]
 
 mod ended;
-mod main_plug;
+mod reaching;
 mod run;
+mod running;
 mod top;
 
 pub use compose_config::{ConfigEnd, config_run};
 pub use ended::Ended;
-pub use main_plug::MainPlug;
 pub use top::serial_main;

@@ -25,13 +25,15 @@ use outside_files::{Sink, write_all};
 use project_run::{Aim, Ran, run_project};
 use refusals::{Part, Refusal, refusal_of, refusal_status, say, say_if_any, status_of};
 use std::alloc::Global;
-use tree_base::{List, Text};
+use tree_base::{List, Memory, Text};
 
-/// Dials the hand, and does with it what an aim asks for of what is declared.
+/// Dials the hand that speaks with the Engine at a target, where there was memory for that, and does with it what an aim asks
+/// for of what is declared.
 pub(crate) fn run_declared<P: Plug, O: Sink, G: Sink>(
     alloc: Global,
     declared: &Declared,
     aim: Aim,
+    target: Result<Target, Memory>,
     plug: &mut P,
     out: &mut O,
     err: &mut G,
@@ -61,10 +63,13 @@ pub(crate) fn run_declared<P: Plug, O: Sink, G: Sink>(
     ensures quiet { result.refusal ≡ Some (Refusal.Outside Part.Plug)
         → O.written out.new ≡ O.written out.old }
 {
+    let Ok(target) = target else {
+        return refused(alloc, Refusal::Memory, err);
+    };
     let Ok(hands) = Vec::with_capacity(alloc, 1) else {
         return refused(alloc, Refusal::Memory, err);
     };
-    match plug.dial(alloc, &Target::InMemory, None, 0) {
+    match plug.dial(alloc, &target, None, 0) {
         DialAnswer::Dialled(hand) => run_with(alloc, declared, aim, hand, hands, out, err),
         DialAnswer::Failed => refused(alloc, Refusal::Outside(Part::Plug), err),
         DialAnswer::Memory => refused(alloc, Refusal::Memory, err),

@@ -1,15 +1,15 @@
-ghost use Rattle.std.specs.Prelude.{◌≡◌, ◌⊎◌, ℕ, ◌<◌, ◌^◌, [], Some, None, Err, IfSome, IfErr, IsTrue, length, true, false, option_map, slice_get};
+ghost use Rattle.std.specs.Prelude.{◌≡◌, ◌⊎◌, ℕ, ◌<◌, ◌^◌, [], Some, None, Err, IfSome, IfErr, IfOk, IsTrue, length, true, false, option_map, slice_get};
 ghost use Rattle.std.specs.Option.{ForSome};
 ghost use Rattle.asked_project.specs.Asking.{command_of, options_asked};
 ghost use Rattle.asked_project.specs.Meaning.{IsFailedRead, meaning};
 ghost use Rattle.compose_cli.specs.Ends.{CountsHands, IsRefusedWith, SendsNothing};
-ghost use Rattle.compose_cli.specs.Runs.{ForTask, HoldsExactly, HoldsNone, IfRuns, IsCausedAnew, IsRefusalOf, IsStatusOf, IsUnbegun, LeadsOn, MovesEngine, Reports, RunsTask, aim_asked, aim_for, first_reading, task_for};
+ghost use Rattle.compose_cli.specs.Runs.{ForTask, HoldsExactly, HoldsNone, IfDeclared, IfRuns, IsCausedAnew, IsFailedDigestRead, IsFaultOfReads, IsRefusalOf, IsStatusOf, IsUnbegun, IsUndeclared, LeadsOn, Reports, aim_asked, aim_for, first_reading};
 ghost use Rattle.compose_config.specs.Commands.{ForProject, GrewByPrefix, IfLoads, IsConfig, IsOfConfig, IsReadFault, OnlyOutsideFails, page_asked};
+ghost use Rattle.file_digests.specs.declared.DigestRefusal.{DigestRefusal};
 ghost use Rattle.loaded_files.specs.declared.LoadRefusal.{LoadRefusal};
 ghost use Rattle.outside_api.specs.Accounts.{account};
 ghost use Rattle.outside_files.specs.Counts.{Rose};
 ghost use Rattle.outside_files.specs.Sinks.{GrewBy};
-ghost use Rattle.typed_project.specs.DistinctNames.{IsKeyed};
 ghost use Rattle.project_run.specs.Whole.{IfBegun, SparesKept};
 ghost use Rattle.project_run.specs.Worlds.{EndsExact, EndsGone};
 ghost use Rattle.refusals.specs.Origins.{IsOfLoading, is_of_words};
@@ -20,28 +20,27 @@ ghost use Rattle.run_model.specs.EngineRules.{Among};
 ghost use Rattle.run_model.specs.Logs.{GrowsBy};
 ghost use Rattle.run_model.specs.Observation.{is_up};
 ghost use Rattle.run_model.specs.Runs.{IsLeftByAll, IsRun, run_exchanges, run_fault, run_report, run_status};
-ghost use Rattle.serial_run.specs.Serial.{aim_of, one_worker};
+ghost use Rattle.serial_run.specs.Serial.{aim_of};
 ghost use Rattle.refusals.specs.Saying.{IsSaid, SaysRefusal};
 
 use crate::ended::Ended;
-use crate::run::{refused, run_declared};
+use crate::run::refused;
+use crate::running::run_asked;
 use asked_project::{Command, project_asked};
 use compose_config::{ConfigEnd, print_asked};
 use engine_types::Purpose;
-use identity::declare;
 use outside_api::Plug;
 use outside_files::{Files, Sink};
 use project_run::Aim;
-use refusals::Refusal;
 use std::alloc::Global;
 use tree_base::{Env, List, Text};
-use typed_project::Project;
 
 /// Does what the words of the command line ask for, with one hand. It waits for nobody, and always returns.
 ///
 /// So far these commands are built: `config`, also with `--quiet`, which writes the project's page to `out`; and `up`
-/// and `down` with `--memory`, also with `--remove-orphans`, which bring the project of the Compose files up, or take
-/// it down, on an Engine in memory. The files are those of `-f`, merged in their order, or else the default one of the
+/// and `down`, also with `--remove-orphans`, `--scale` and `--volumes`, which bring what the project of the Compose files
+/// declares up, or take it down: on an Engine in memory with `--memory`, else on the one behind the socket of `--socket`, of
+/// `DOCKER_HOST`, or the usual one. The files are those of `-f`, merged in their order, or else the default one of the
 /// project directory; their scalars take the values of the variables `env`, and of those of the files of `--env-file`,
 /// or else of `.env`. Services may extend others and name env files, files may include models, `-p` or
 /// `COMPOSE_PROJECT_NAME` may name the project, and `--profile` or `COMPOSE_PROFILES` enable services. The report of a
@@ -71,6 +70,14 @@ pub fn serial_main<F: Files, P: Plug, O: Sink, G: Sink>(
     ensures read_fault { (path : _)
         → result.refusal ≡ Some (Refusal.Load (LoadRefusal.ReadFault path))
         → IsFailedRead words.now env.now cwd.now (F.told files.old)
+        (F.faults files.old) (F.faults files.new) path }
+
+    // Of a project that is meant, what it can't be declared as is what its run is refused with.
+    ensures declaring { IfDeclared words.now env.now cwd.now (F.told files.old) (λ meant.
+        IfErr meant (λ refusal. SendsNothing result × IsUndeclared refusal result.refusal)) }
+    ensures digest_fault { (path : _)
+        → result.refusal ≡ Some (Refusal.Digest (DigestRefusal.ReadFault path))
+        → IsFailedDigestRead words.now env.now cwd.now (F.told files.old)
         (F.faults files.old) (F.faults files.new) path }
 
     // A refused project sends nothing, and neither does `config`, nor a call whose dial failed.
@@ -107,9 +114,11 @@ pub fn serial_main<F: Files, P: Plug, O: Sink, G: Sink>(
         (F.faults files.old) (F.faults files.new))
         (O.faults out.old) (O.faults out.new) result.refusal) }
 
-    // Loading refuses no `up` or `down` of a project that loads, unless a read of its files fails.
-    ensures run_complete { IsOfLoading result.refusal → IfRuns words.now env.now (λ aim.
-        IfLoads words.now env.now cwd.now (F.told files.old) (IsReadFault words.now env.now cwd.now
+    // Nothing else refuses an `up` or a `down` before its run: of a project that loads and is declared, only a read of
+    // its files that fails.
+    ensures run_complete { IsOfLoading result.refusal
+        → IfDeclared words.now env.now cwd.now (F.told files.old) (λ meant.
+        IfOk meant (λ declared. IsFaultOfReads words.now env.now cwd.now
         (F.told files.old) (F.faults files.old) (F.faults files.new) result.refusal)) }
 
     // The journal is empty only where the call was refused before its run, or wanted memory; then nothing was sent,
@@ -191,7 +200,7 @@ pub fn serial_main<F: Files, P: Plug, O: Sink, G: Sink>(
 {
     match project_asked(alloc, words, env, cwd, files) {
         Ok(asked) => match aim_for(&asked.options.command) {
-            Some(aim) => run_project(alloc, &asked.project, aim, plug, out, err),
+            Some(aim) => run_asked(alloc, &asked, aim, env, cwd, files, plug, out, err),
             None => without_hands(alloc, print_asked(alloc, &asked, out, err)),
         },
         Err(refusal) => refused(alloc, refusal, err),
@@ -203,24 +212,25 @@ fn aim_for(command: &Command) -> Option<Aim>
     ensures { option_map aim_of result ≡ aim_for command.now }
 {
     match command {
-        Command::Up { orphans, .. } => Some(aim_of(Purpose::Up, *orphans)),
-        Command::Down { orphans, .. } => Some(aim_of(Purpose::Down, *orphans)),
+        Command::Up { orphans, .. } => Some(Aim {
+            purpose: Purpose::Up,
+            orphans: *orphans,
+            volumes: false,
+        }),
+        Command::Down {
+            orphans,
+            volumes,
+            ..
+        } => Some(Aim {
+            purpose: Purpose::Down,
+            orphans: *orphans,
+            volumes: *volumes,
+        }),
         Command::Config { .. } => None,
         Command::Simulate { .. } => None,
         Command::Wait => None,
         Command::Logs => None,
         Command::EngineSim { .. } => None,
-    }
-}
-
-/// The aim of a run that leaves volumes. No memory.
-fn aim_of(purpose: Purpose, orphans: bool) -> Aim
-    ensures { result ≡ record { purpose = purpose; orphans = orphans; volumes = false } }
-{
-    Aim {
-        purpose,
-        orphans,
-        volumes: false,
     }
 }
 
@@ -235,43 +245,5 @@ fn without_hands<H>(alloc: Global, end: ConfigEnd) -> Ended<H>
         journal: List::new(alloc),
         hands: List::new(alloc),
         refusal: end.refusal,
-    }
-}
-
-/// Does with a project that was loaded what an aim asks for.
-fn run_project<P: Plug, O: Sink, G: Sink>(
-    alloc: Global,
-    project: &Project,
-    aim: Aim,
-    plug: &mut P,
-    out: &mut O,
-    err: &mut G,
-) -> Ended<P::Hand>
-    requires dialled { ForSome (P.dialled plug.old) (λ n. n < 2 ^ 61) }
-    requires keyed { IsKeyed project.now }
-    ensures origin { IsOfLoading result.refusal → ⊥ }
-    ensures dial { result.refusal ≡ Some (Refusal.Outside Part.Plug)
-        → SendsNothing result × Rose (P.faults plug.old) (P.faults plug.new) }
-    ensures dialled { CountsHands (P.dialled plug.old) (P.dialled plug.new) (length result.hands) }
-    ensures unbegun { result.journal ≡ [] → IsUnbegun result.refusal }
-    ensures quiet_unbegun { result.journal ≡ [] → O.written out.new ≡ O.written out.old }
-    ensures unsent { result.journal ≡ [] → (hand : P.Hand) → Among result.hands hand
-        → P.Hand.log hand ≡ [] }
-    ensures ran { IfBegun result.journal (RunsTask
-        (λ h. P.Hand.log h) (λ h. P.Hand.heard h) (λ h. P.Hand.faults h)
-        (task_for (aim_of aim) one_worker project.now) result
-        (O.written out.old) (O.written out.new) (O.faults out.old) (O.faults out.new)) }
-    ensures engine { MovesEngine
-        (λ h. P.Hand.engine h) (task_for (aim_of aim) one_worker project.now) result
-        (P.engine plug.old) }
-    ensures status { result.status ≡ status_of result.refusal }
-    ensures line { SaysRefusal result.refusal (G.written err.old) (G.written err.new)
-        (G.faults err.old) (G.faults err.new) }
-    ensures quiet { result.refusal ≡ Some (Refusal.Outside Part.Plug)
-        → O.written out.new ≡ O.written out.old }
-{
-    match declare(alloc, project) {
-        Ok(declared) => run_declared(alloc, &declared, aim, plug, out, err),
-        Err(_) => refused(alloc, Refusal::Memory, err),
     }
 }

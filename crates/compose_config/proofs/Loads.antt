@@ -9,10 +9,11 @@ use Rattle.compose_words.specs.declared.Options.{Options}
 use Rattle.loaded_files.specs.declared.LoadRefusal.{LoadRefusal}
 use Rattle.outside_files.specs.Files.{Contents}
 use Rattle.refusals.proofs.Said.{said}
-use Rattle.refusals.specs.Origins.{IsBeforeDial, is_of_words}
+use Rattle.refusals.specs.Origins.{IsOfAsking, is_of_words}
 use Rattle.refusals.specs.Refused.{IsRefusal, is_free, wants_memory}
 use Rattle.refusals.specs.Saying.{IsSaid}
 use Rattle.refusals.specs.declared.Refusal.{Refusal}
+use Rattle.refusals.specs.declared.Unbuilt.{Unbuilt}
 use Rattle.typed_project.specs.declared.project.Project.{Project}
 use Rattle.tree_base.specs.Answers.{Gives, Unless}
 
@@ -62,6 +63,8 @@ memory_said (Refusal.Load load) expected found wants s = absurd (cc wants)
 memory_said (Refusal.Name name) expected found wants s = absurd (cc wants)
 memory_said (Refusal.Active active) expected found wants s = absurd (cc wants)
 memory_said (Refusal.Project project) expected found wants s = absurd (cc wants)
+memory_said (Refusal.Digest digest) expected found wants s = absurd (cc wants)
+memory_said (Refusal.Identity identity) expected found wants s = absurd (cc wants)
 memory_said (Refusal.Seen fault) expected found wants s = absurd (cc wants)
 memory_said (Refusal.Request request outcome) expected found wants s = absurd (cc wants)
 memory_said (Refusal.Condition slot condition report) expected found wants s = absurd (cc wants)
@@ -170,6 +173,8 @@ module _ (words : List (List ℕ)) (env : Variables) where
         free (Refusal.Name name) e read = absurd (cc e)
         free (Refusal.Active active) e read = absurd (cc e)
         free (Refusal.Project project) e read = absurd (cc e)
+        free (Refusal.Digest digest) e read = absurd (cc e)
+        free (Refusal.Identity identity) e read = absurd (cc e)
         free (Refusal.Seen fault) e read = absurd (cc e)
         free (Refusal.Request request outcome) e read = absurd (cc e)
         free (Refusal.Condition slot condition report) e read = absurd (cc e)
@@ -192,18 +197,22 @@ said_read refusal found path is_said e =
     let same : Some (Refusal.Load (LoadRefusal.ReadFault path)) ≡ Some refusal = subst (IsSaid refusal) e is_said in
     cc same
 
--- what comes before the dial is no fault of the plug or of the output, and was said
-pub before_kind : (refusal : Refusal) (found : Option Refusal) → IsBeforeDial refusal → IsSaid refusal found → IsOfConfig found
-before_kind refusal found before is_said = said refusal found is_said IsOfConfig tt (at refusal before)
+-- a refusal of what was asked for is no fault of the plug or of the output, and was said
+pub asking_kind : (refusal : Refusal) (found : Option Refusal) → IsOfAsking refusal → IsSaid refusal found → IsOfConfig found
+asking_kind refusal found before is_said = said refusal found is_said IsOfConfig tt (at refusal before)
   where
-    at : (refusal : Refusal) → IsBeforeDial refusal → IsOfConfig (Some refusal)
+    at : (refusal : Refusal) → IsOfAsking refusal → IsOfConfig (Some refusal)
     at Refusal.Memory h = tt
     at (Refusal.Words words) h = tt
-    at (Refusal.NotBuilt unbuilt) h = tt
+    at (Refusal.NotBuilt Unbuilt.Words) h = tt
+    at (Refusal.NotBuilt (Unbuilt.Attribute path)) h = tt
+    at (Refusal.NotBuilt Unbuilt.Run) h = absurd h
     at (Refusal.Load load) h = tt
     at (Refusal.Name name) h = tt
     at (Refusal.Active active) h = tt
     at (Refusal.Project project) h = tt
+    at (Refusal.Digest digest) h = absurd h
+    at (Refusal.Identity identity) h = absurd h
     at (Refusal.Seen fault) h = absurd h
     at (Refusal.Request request outcome) h = absurd h
     at (Refusal.Condition slot condition report) h = absurd h
@@ -211,11 +220,11 @@ before_kind refusal found before is_said = said refusal found is_said IsOfConfig
     at (Refusal.Late why) h = absurd h
     at (Refusal.Outside part) h = absurd h
 
-pub before_no_outside : (refusal : Refusal) (found : Option Refusal) → IsBeforeDial refusal → IsSaid refusal found → (part : _) → found ≡ Some (Refusal.Outside part) → ⊥
-before_no_outside refusal found before is_said part e =
+pub asking_no_outside : (refusal : Refusal) (found : Option Refusal) → IsOfAsking refusal → IsSaid refusal found → (part : _) → found ≡ Some (Refusal.Outside part) → ⊥
+asking_no_outside refusal found before is_said part e =
     let same : Some (Refusal.Outside part) ≡ Some refusal = subst (IsSaid refusal) e is_said in
     let is : Refusal.Outside part ≡ refusal = cc same in
-    subst IsBeforeDial (sym is) before
+    subst IsOfAsking (sym is) before
 
 -- what was said is a refusal
 pub said_some : (refusal : Refusal) (found : Option Refusal) → IsSaid refusal found → found ≡ None → ⊥

@@ -38,6 +38,8 @@ module _ (page : List ℕ) (old new : Option (List ℕ)) (faults_old faults_new 
   page_prefix (Some (Refusal.Name name)) prints = absurd prints
   page_prefix (Some (Refusal.Active active)) prints = absurd prints
   page_prefix (Some (Refusal.Project refusal)) prints = absurd prints
+  page_prefix (Some (Refusal.Digest digest)) prints = absurd prints
+  page_prefix (Some (Refusal.Identity identity)) prints = absurd prints
   page_prefix (Some (Refusal.Seen fault)) prints = absurd prints
   page_prefix (Some (Refusal.Request request outcome)) prints = absurd prints
   page_prefix (Some (Refusal.Condition slot condition report)) prints = absurd prints
@@ -69,6 +71,8 @@ module _ (page : List ℕ) (old new : Option (List ℕ)) (faults_old faults_new 
   of_page (Some (Refusal.Name name)) prints = absurd prints
   of_page (Some (Refusal.Active active)) prints = absurd prints
   of_page (Some (Refusal.Project refusal)) prints = absurd prints
+  of_page (Some (Refusal.Digest digest)) prints = absurd prints
+  of_page (Some (Refusal.Identity identity)) prints = absurd prints
   of_page (Some (Refusal.Seen fault)) prints = absurd prints
   of_page (Some (Refusal.Request request outcome)) prints = absurd prints
   of_page (Some (Refusal.Condition slot condition report)) prints = absurd prints
@@ -90,6 +94,8 @@ module _ (page : List ℕ) (old new : Option (List ℕ)) (faults_old faults_new 
       at (Some (Refusal.Name name)) h = absurd h
       at (Some (Refusal.Active active)) h = absurd h
       at (Some (Refusal.Project refusal)) h = absurd h
+      at (Some (Refusal.Digest digest)) h = absurd h
+      at (Some (Refusal.Identity identity)) h = absurd h
       at (Some (Refusal.Seen fault)) h = absurd h
       at (Some (Refusal.Request request outcome)) h = absurd h
       at (Some (Refusal.Condition slot condition report)) h = absurd h
@@ -105,11 +111,13 @@ module _ (page : List ℕ) (old new : Option (List ℕ)) (faults_old faults_new 
       at (Some Refusal.Memory) h = tt
       at (Some (Refusal.Outside Part.Plug)) h = absurd h
       at (Some (Refusal.Words words)) h = tt
-      at (Some (Refusal.NotBuilt unbuilt)) h = tt
+      at (Some (Refusal.NotBuilt unbuilt)) h = absurd h
       at (Some (Refusal.Load load)) h = tt
       at (Some (Refusal.Name name)) h = tt
       at (Some (Refusal.Active active)) h = tt
       at (Some (Refusal.Project refusal)) h = tt
+      at (Some (Refusal.Digest digest)) h = absurd h
+      at (Some (Refusal.Identity identity)) h = absurd h
       at (Some (Refusal.Seen fault)) h = absurd h
       at (Some (Refusal.Request request outcome)) h = absurd h
       at (Some (Refusal.Condition slot condition report)) h = absurd h
@@ -130,6 +138,8 @@ module _ (page : List ℕ) (old new : Option (List ℕ)) (faults_old faults_new 
       at (Some (Refusal.Name name)) h l = h
       at (Some (Refusal.Active active)) h l = h
       at (Some (Refusal.Project refusal)) h l = h
+      at (Some (Refusal.Digest digest)) h l = h
+      at (Some (Refusal.Identity identity)) h l = h
       at (Some (Refusal.Seen fault)) h l = h
       at (Some (Refusal.Request request outcome)) h l = h
       at (Some (Refusal.Condition slot condition report)) h l = h
@@ -155,6 +165,8 @@ module _ (page : List ℕ) (old new : Option (List ℕ)) (faults_old faults_new 
       at (Refusal.Name name) h p = p
       at (Refusal.Active active) h p = p
       at (Refusal.Project refusal) h p = p
+      at (Refusal.Digest digest) h p = p
+      at (Refusal.Identity identity) h p = p
       at (Refusal.Seen fault) h p = p
       at (Refusal.Request request outcome) h p = p
       at (Refusal.Condition slot condition report) h p = p

@@ -11,6 +11,7 @@ use Rattle.outside_files.specs.Counts.{Rose}
 use Rattle.outside_files.specs.Files.{Contents}
 use Rattle.outside_files.specs.Sinks.{GrewBy}
 use Rattle.typed_project.specs.declared.project.Project.{Project}
+use Rattle.refusals.specs.Origins.{IsOfAsking}
 use Rattle.refusals.specs.declared.Part.{Part}
 use Rattle.refusals.specs.declared.Refusal.{Refusal}
 
@@ -61,19 +62,11 @@ abbrev pub IfLoads : List (List ℕ) → Variables → List ℕ → Option Conte
 IfLoads words env cwd told Fact =
     IfSome told (λ contents. IfOk (meaning words env cwd contents) (λ _. Fact))
 
--- what `config` may be refused with: the words, loading, the project's name, its active services, what it declares, a
--- fault of the output, or a want of memory
+-- what `config` may be refused with: a refusal of what is asked for, a fault of the output, or a want of memory
 abbrev pub IsOfConfig : Option Refusal → Type 0
 IsOfConfig None = Unit {0}
-IsOfConfig (Some (Refusal.Words refusal)) = Unit {0}
-IsOfConfig (Some (Refusal.NotBuilt unbuilt)) = Unit {0}
-IsOfConfig (Some (Refusal.Load refusal)) = Unit {0}
-IsOfConfig (Some (Refusal.Name refusal)) = Unit {0}
-IsOfConfig (Some (Refusal.Active refusal)) = Unit {0}
-IsOfConfig (Some (Refusal.Project refusal)) = Unit {0}
 IsOfConfig (Some (Refusal.Outside Part.Out)) = Unit {0}
-IsOfConfig (Some Refusal.Memory) = Unit {0}
-IsOfConfig _ = ⊥
+IsOfConfig (Some refusal) = IsOfAsking refusal
 
 -- the output grew by a prefix of a page
 abbrev pub GrewByPrefix : Option (List ℕ) → Option (List ℕ) → List ℕ → Type 0

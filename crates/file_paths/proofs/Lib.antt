@@ -1,5 +1,6 @@
 pub mod Homes
 pub mod Joins
+pub mod KeptSteps
 pub mod Schemes
 pub mod Taken
 pub mod Walking

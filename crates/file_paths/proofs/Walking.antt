@@ -109,7 +109,7 @@ module _ (home : Home) where
       ∙ values_stay rules es (done ++ e.1 ∷ []) h.1
       ∙ ap Ok (append_assoc done (e.1 ∷ []) (values_of es))
 
-  entries_whole : (es : Entries) → zip (keys_of es) (values_of es) ≡ es
+  pub entries_whole : (es : Entries) → zip (keys_of es) (values_of es) ≡ es
   entries_whole [] = refl
   entries_whole (e ∷ es) = ap (λ (l : Entries). e ∷ l) (entries_whole es)
 

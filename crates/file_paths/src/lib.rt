@@ -8,6 +8,7 @@
 
 mod form;
 mod home;
+mod kept;
 mod laws;
 mod path;
 mod refusal;

@@ -6,6 +6,7 @@ ghost use Rattle.file_paths.specs.Resolving.{entries_homed, items_homed, resolve
 ghost use Rattle.file_paths.specs.Spots.{rules_of};
 ghost use Rattle.tree_base.specs.declared.Tree.{Tree};
 
+use crate::kept::keeps;
 use crate::refusal::PathRefusal;
 use crate::spot::{PathKind, PathSpot, kind_at, spot_below, spot_of_items};
 use crate::text::{mount_homed, text_homed};
@@ -38,7 +39,8 @@ pub fn resolved_service(
     resolve(service, PathSpot::Service, directory, env, alloc)
 }
 
-/// A tree whose paths are absolute. Where it has none, it shares what it holds.
+/// A tree whose paths are absolute, which is shared where it has none. No spot stands more than six steps deep, so no
+/// tree is asked more often.
 #[cycle(resolve)]
 fn resolve(
     tree: &Tree,
@@ -49,9 +51,10 @@ fn resolve(
 ) -> Result<Tree, PathRefusal>
     ensures { Gives result (resolved_by (homed directory.now env.now) tree.now (rules_of spot)) }
 {
-    match spot {
-        PathSpot::Plain => Ok(tree.copy(alloc)?),
-        _ => resolve_parts(tree, spot, directory, env, alloc),
+    if keeps(tree, spot) {
+        Ok(tree.copy(alloc)?)
+    } else {
+        resolve_parts(tree, spot, directory, env, alloc)
     }
 }
 

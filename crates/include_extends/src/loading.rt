@@ -35,6 +35,7 @@ pub fn load<F: Files>(
     ensures given { Gives (F.told files.old) result (loading request.now) }
     ensures fault { (at : List ℕ) → result ≡ Err (LoadRefusal.ReadFault at)
         → Rose (F.faults files.old) (F.faults files.new) }
+    ensures counted { F.faults files.old ≤ F.faults files.new }
     ensures kept { F.told files.new ≡ F.told files.old }
 {
     let places = places_of(alloc, request)?;
@@ -51,6 +52,7 @@ fn loaded_at<F: Files>(
     ensures given { Gives (F.told files.old) result (loaded_at places caller.now) }
     ensures fault { (at : List ℕ) → result ≡ Err (LoadRefusal.ReadFault at)
         → Rose (F.faults files.old) (F.faults files.new) }
+    ensures counted { F.faults files.old ≤ F.faults files.new }
     ensures kept { F.told files.new ≡ F.told files.old }
 {
     let Places {

@@ -1,8 +1,9 @@
 pub mod Cutting
 pub mod Fitting
-pub mod Nesting
 pub mod Inside
-pub mod Stepping
 pub mod Joining
+pub mod KeptTrees
+pub mod Nesting
 pub mod Plain
+pub mod Stepping
 pub mod Walks

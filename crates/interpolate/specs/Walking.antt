@@ -77,6 +77,10 @@ tree_step env (Tree-F.Override inner) = λ size. inner size >>= λ got. Ok (Over
 abbrev pub tree_walk : Variables → Tree → Walk
 tree_walk env = fold-Tree Walk (tree_step env)
 
+-- a tree that keeps its scalars whatever the variables are, before which there are so many bytes, and with it so many
+abbrev pub Stays : Tree → ℕ → ℕ → Type 0
+Stays tree size more = (env : Variables) → tree_walk env tree size ≡ Ok (tree, more)
+
 -- the tree with the values of its scalars, and each key as it is
 abbrev pub substituted_tree : Variables → Tree → Result Tree SubstTreeRefusal
 substituted_tree env tree = tree_walk env tree 0 >>= λ got. Ok got.0

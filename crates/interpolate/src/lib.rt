@@ -14,6 +14,7 @@ mod refusal;
 mod scan;
 mod text;
 mod tree;
+mod unchanged;
 
 pub use laws::{doubled_comes_back, plain_stays};
 pub use refusal::{SubstRefusal, SubstTreeRefusal};

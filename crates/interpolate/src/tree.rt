@@ -10,11 +10,9 @@ ghost use Rattle.interpolate.specs.Walking.{with_bytes, root_refusal, scalar_wal
 use crate::check::place;
 use crate::refusal::{SubstRefusal, SubstTreeRefusal};
 use crate::text::subst;
+use crate::unchanged::{MOST_BYTES, plain_size};
 use std::alloc::Global;
 use tree_base::{Boxed, Env, List, Map, Memory, Step, Text, Tree};
-
-/// How many bytes the keys and the scalars of a tree may have.
-const MOST_BYTES: usize = 16_777_216;
 
 /// A tree with the values of its scalars under variables. Keys and marks stay.
 ///
@@ -121,9 +119,30 @@ fn scalar_value(
     }
 }
 
-/// A tree with the values of its scalars.
+/// A tree with the values of its scalars. One without `$` is shared: it is asked once, and once for each tree above it
+/// that has a `$`, and each of these questions ends at the first `$`.
 #[cycle(walk)]
 fn tree_value(
+    tree: &Tree,
+    alloc: Global,
+    env: &Env,
+    size: &mut usize,
+) -> Result<Tree, SubstTreeRefusal>
+    ensures { UpGives (beside result size.new) (tree_walk (value_at env.now) tree.now size.old) }
+{
+    match plain_size(tree, *size) {
+        Some(more) => {
+            let same = tree.copy(alloc)?;
+            *size = more;
+            Ok(same)
+        }
+        None => parts_value(tree, alloc, env, size),
+    }
+}
+
+/// A tree with the values of its scalars, by its parts with theirs.
+#[cycle(walk)]
+fn parts_value(
     tree: &Tree,
     alloc: Global,
     env: &Env,

@@ -1,3 +1,4 @@
+pub mod AloneSteps
 pub mod Answering
 mod Examples
 pub mod FormAnswers
@@ -8,5 +9,6 @@ pub mod LongEntries
 pub mod LongStays
 pub mod MergedTrees
 pub mod Sames
+pub mod StayLongSteps
 pub mod Unchanged
 pub mod Unmarked

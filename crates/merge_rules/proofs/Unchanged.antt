@@ -19,7 +19,7 @@ use Rattle.merge_rules.specs.declared.rules.Joining.{Joining}
 use Rattle.merge_rules.specs.declared.rules.Joining.TheVariants.{Replaced, Unique}
 use Rattle.merge_rules.specs.declared.rules.Standing.{Standing}
 use Rattle.merge_rules.specs.declared.rules.Standing.TheVariants.{Item, Value}
-use Rattle.merge_rules.specs.Alone.{FilesStand, entries_in, has_no_twins, items_in, led_to, no_twins, none_is_one}
+use Rattle.merge_rules.specs.Alone.{FilesStand, StandsAlone, entries_in, has_no_twins, items_in, led_to, no_twins, none_is_one}
 use Rattle.merge_rules.specs.Answers.{under, within}
 use Rattle.merge_rules.specs.Attributes.{JoiningRules, overlay_rules}
 use Rattle.merge_rules.specs.Laws.{TreesStand, are_apart, no_mark, own_keys}
@@ -143,7 +143,7 @@ abbrev AreNew : List (List ℕ × Tree) → List (List ℕ × Tree) → Type 0
 AreNew entries es = OfAll (λ (e : List ℕ × Tree). value_at entries e.0 ≡ None) es
 
 -- an entry behind others, under a key that none has
-put_new : (entries : List (List ℕ × Tree)) (k : List ℕ) (v : Tree) → value_at entries k ≡ None → with_entry entries k v ≡ entries ++ (k, v) ∷ []
+pub put_new : (entries : List (List ℕ × Tree)) (k : List ℕ) (v : Tree) → value_at entries k ≡ None → with_entry entries k v ≡ entries ++ (k, v) ∷ []
 put_new [] k v h = refl
 put_new (e ∷ entries) k v h = by (put_new entries k v) (bytes_eq k e.0) h
   where
@@ -186,15 +186,11 @@ reset_marks = search (rules, the_lemmas)
 override_marks : (inner : Tree) → no_mark (Override inner) ≡ false
 override_marks inner = search (rules, the_lemmas)
 
--- a tree that is laid over nothing as it is
-abbrev Stands : JoiningRules → Tree → Type 0
-Stands lines tree = (standing : Standing) → laid tree standing lines Null ≡ Ok (Some tree)
-
 -- a tree without marks, with keys of its own and without twins stands
 abbrev Good : Tree → Type 0
-Good tree = no_mark tree ≡ true → own_keys tree ≡ true → (lines : JoiningRules) → Lone lines tree → Stands lines tree
+Good tree = no_mark tree ≡ true → own_keys tree ≡ true → (lines : JoiningRules) → Lone lines tree → StandsAlone lines tree
 
-values_stand : (lines : JoiningRules) (es : List (List ℕ × Tree)) → OfAll (λ (e : List ℕ × Tree). Stands (below_key e.0 lines) e.1) es → (entries : List (List ℕ × Tree)) → AreNew entries es → are_apart (keys_of es) ≡ true
+values_stand : (lines : JoiningRules) (es : List (List ℕ × Tree)) → OfAll (λ (e : List ℕ × Tree). StandsAlone (below_key e.0 lines) e.1) es → (entries : List (List ℕ × Tree)) → AreNew entries es → are_apart (keys_of es) ≡ true
     → entries_over lines (layers es) entries ≡ Ok (entries ++ es)
 values_stand lines [] stand entries new apart = ap Ok (sym (append-nil entries))
 values_stand lines (e ∷ es) stand entries new apart =
@@ -212,7 +208,7 @@ abbrev appended : List Tree → Option Tree → Result (List Tree) MergeRefusal
 appended items item = Ok (items ++ one_of item)
 
 -- items that are put behind one another
-items_stand : (joining : Option Joining) → ((items : List Tree) (x : Tree) → item_joined joining items (laid x) ≡ (laid x Item [] Null >>= appended items)) → (xs : List Tree) → OfAll (Stands []) xs → (items : List Tree)
+items_stand : (joining : Option Joining) → ((items : List Tree) (x : Tree) → item_joined joining items (laid x) ≡ (laid x Item [] Null >>= appended items)) → (xs : List Tree) → OfAll (StandsAlone []) xs → (items : List Tree)
     → items_joined joining (map laid xs) items ≡ Ok (items ++ xs)
 items_stand joining joins [] stand items = ap Ok (sym (append-nil items))
 items_stand joining joins (x ∷ xs) stand items =
@@ -242,7 +238,7 @@ still_others kind items item (x ∷ xs) others none =
     let p = or_parts (are_one kind x item) (list_any (λ other. are_one kind other item) xs) none in
     (list_any-append (are_one kind x) items (item ∷ []) ∙ rw (others.0, p.0) refl, still_others kind items item xs others.1 p.1)
 
-unique_stand : (kind : EntryKind) (xs : List Tree) → OfAll (Stands []) xs → (items : List Tree) → AreOthers kind items xs → none_is_one kind xs ≡ true → items_joined (Some (Unique kind)) (map laid xs) items ≡ Ok (items ++ xs)
+unique_stand : (kind : EntryKind) (xs : List Tree) → OfAll (StandsAlone []) xs → (items : List Tree) → AreOthers kind items xs → none_is_one kind xs ≡ true → items_joined (Some (Unique kind)) (map laid xs) items ≡ Ok (items ++ xs)
 unique_stand kind [] stand items others none = ap Ok (sym (append-nil items))
 unique_stand kind (x ∷ xs) stand items others none =
     let p = and_parts (not (list_any (λ other. are_one kind other x) xs)) (none_is_one kind xs) none in
@@ -258,7 +254,7 @@ none_there kind (x ∷ xs) = (refl, none_there kind xs)
 scalar_alone : (text : List ℕ) (lines : JoiningRules) (standing : Standing) → laid (Scalar text) standing lines Null ≡ Ok (Some (Scalar text))
 scalar_alone text lines standing = search (rules, the_lemmas)
 
-map_alone : (es : List (List ℕ × Tree)) (lines : JoiningRules) (standing : Standing) → laid (Map es) standing lines Null ≡ (entries_over lines (layers es) [] >>= λ all. Ok (Some (Map all)))
+pub map_alone : (es : List (List ℕ × Tree)) (lines : JoiningRules) (standing : Standing) → laid (Map es) standing lines Null ≡ (entries_over lines (layers es) [] >>= λ all. Ok (Some (Map all)))
 map_alone es lines standing = search (rules, the_lemmas)
 
 seq_alone : (xs : List Tree) (lines : JoiningRules) (standing : Standing) → laid (Seq xs) standing lines Null ≡ (items_joined (here lines) (map laid xs) (items_kept (here lines) []) >>= λ all. Ok (Some (Seq all)))
@@ -280,7 +276,7 @@ all_own [] own = tt
 all_own (x ∷ xs) own = let p = and_parts (own_keys x) (list_all (λ is. is) (map own_keys xs)) own in (p.0, all_own xs p.1)
 
 each_value : (es : List (List ℕ × Tree)) → OfAll (λ (e : List ℕ × Tree). Good e.1) es → AreClean es → OfAll (λ (e : List ℕ × Tree). own_keys e.1 ≡ true) es
-    → (lines : JoiningRules) → OfAll (λ (e : List ℕ × Tree). Lone (below_key e.0 lines) e.1) es → OfAll (λ (e : List ℕ × Tree). Stands (below_key e.0 lines) e.1) es
+    → (lines : JoiningRules) → OfAll (λ (e : List ℕ × Tree). Lone (below_key e.0 lines) e.1) es → OfAll (λ (e : List ℕ × Tree). StandsAlone (below_key e.0 lines) e.1) es
 each_value [] good clean own lines lone = tt
 each_value (e ∷ es) good clean own lines lone = (good.0 clean.0 own.0 (below_key e.0 lines) lone.0, each_value es good.1 clean.1 own.1 lines lone.1)
 
@@ -291,11 +287,11 @@ map_good es good clean own lines lone standing =
     ∙ goes_on (entries_over lines (layers es) []) (λ (all : List (List ℕ × Tree)). Ok (Some (Map all))) es
     (values_stand lines es (each_value es good (map_cleans es clean) own_parts.1 lines (lone_values es lines lone)) [] (nothing_new es) own_parts.0)
 
-each_item : (xs : List Tree) → OfAll Good xs → OfAll IsClean xs → OfAll (λ (x : Tree). own_keys x ≡ true) xs → OfAll (Stands []) xs
+each_item : (xs : List Tree) → OfAll Good xs → OfAll IsClean xs → OfAll (λ (x : Tree). own_keys x ≡ true) xs → OfAll (StandsAlone []) xs
 each_item [] good clean own = tt
 each_item (x ∷ xs) good clean own = (good.0 clean.0 own.0 [] tt, each_item xs good.1 clean.1 own.1)
 
-seq_joined : (xs : List Tree) (lines : JoiningRules) → OfAll (Stands []) xs → Lone lines (Seq xs) → (joining : Option Joining) → here lines ≡ joining → items_joined joining (map laid xs) (items_kept joining []) ≡ Ok xs
+seq_joined : (xs : List Tree) (lines : JoiningRules) → OfAll (StandsAlone []) xs → Lone lines (Seq xs) → (joining : Option Joining) → here lines ≡ joining → items_joined joining (map laid xs) (items_kept joining []) ≡ Ok xs
 seq_joined xs lines stand lone None at = items_stand None (λ items x. refl) xs stand []
 seq_joined xs lines stand lone (Some Replaced) at = items_stand (Some Replaced) (λ items x. refl) xs stand []
 seq_joined xs lines stand lone (Some (Unique kind)) at = unique_stand kind xs stand [] (none_there kind xs) (lone_here kind xs lines lone at)

@@ -10,11 +10,12 @@ ghost use Rattle.merge_rules.specs.Spots.{forms_of};
 use crate::lists::list_long;
 use crate::refusal::{MergeRefusal, from_root, with_step, within};
 use crate::short_spot::{ShortSpot, form_at, short_spot_below};
+use crate::stay_long::is_long;
 use crate::texts::text_long;
 use std::alloc::Global;
 use tree_base::{Boxed, List, Map, Step, Text, Tree};
 
-/// A file's tree in long forms. What has no short form is moved, and not copied.
+/// A file's tree in long forms. What is in long forms already is shared, and not copied.
 ///
 /// The refusal is BadUniqueEntry at the first text, in the tree's order, of `ports` or `volumes` that isn't of their
 /// form, with its path; else TooManyNodes, then TooMuchText, where the result passes a limit.
@@ -29,14 +30,16 @@ pub fn long_forms(alloc: Global, tree: Tree) -> Result<Tree, MergeRefusal>
     }
 }
 
-/// A tree in long forms. Where nothing has a short form it shares what it holds.
+/// A tree in long forms, which is shared where it is in them already. No spot stands more than five steps deep, so no
+/// tree is asked more often.
 #[cycle(long)]
 fn lengthen(tree: &Tree, spot: ShortSpot, alloc: Global) -> Result<Tree, MergeRefusal>
     ensures { UpGives result (lengthened tree.now (forms_of spot)) }
 {
-    match spot {
-        ShortSpot::Plain => Ok(tree.copy(alloc)?),
-        _ => lengthen_parts(tree, spot, alloc),
+    if is_long(tree, spot) {
+        Ok(tree.copy(alloc)?)
+    } else {
+        lengthen_parts(tree, spot, alloc)
     }
 }
 

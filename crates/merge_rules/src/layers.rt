@@ -1,4 +1,4 @@
-ghost use Rattle.std.specs.Prelude.{◌≡◌, ◌<◌, [], ◌∷◌, ◌++◌, length, map, None, Some, IfOk, OnOk, codes};
+ghost use Rattle.std.specs.Prelude.{Option, ◌≡◌, ◌<◌, [], ◌∷◌, ◌++◌, length, map, None, Some, IfOk, OnOk, codes};
 ghost use Rattle.std.specs.List.{zip};
 ghost use Rattle.tree_base.specs.Entries.{value_at, with_entry};
 ghost use Rattle.tree_base.specs.declared.Tree.{Tree, out-Tree};
@@ -8,6 +8,7 @@ ghost use Rattle.merge_rules.specs.Overlay.{entries_below, entries_laid, entries
 ghost use Rattle.merge_rules.specs.Spots.{rules_of};
 ghost use Rattle.merge_rules.specs.Uniqueness.{or_null};
 
+use crate::alone::stands;
 use crate::keys::place_of;
 use crate::refusal::{MergeRefusal, from_root, place, with_step, within};
 use crate::rules::{EntryKind, Joining, Standing};
@@ -71,6 +72,41 @@ fn or_null(tree: Option<Tree>) -> Tree
 /// What a tree makes of the one that it is laid over.
 #[cycle(lay)]
 fn lay(
+    over: &Tree,
+    base: Tree,
+    standing: Standing,
+    spot: Spot,
+    alloc: Global,
+) -> Result<Option<Tree>, MergeRefusal>
+    ensures { UpGives result (laid over.now standing (rules_of spot) base) }
+{
+    match base {
+        Tree::Null => lay_alone(over, standing, spot, alloc),
+        base => lay_parts(over, base, standing, spot, alloc),
+    }
+}
+
+/// What a tree makes of nothing: it is shared where it stands as it is. A tree is asked once, and once for each tree
+/// above it that doesn't stand.
+#[cycle(lay)]
+fn lay_alone(
+    over: &Tree,
+    standing: Standing,
+    spot: Spot,
+    alloc: Global,
+) -> Result<Option<Tree>, MergeRefusal>
+    ensures { UpGives result (laid over.now standing (rules_of spot) Tree.Null) }
+{
+    if stands(over, spot) {
+        Ok(Some(over.copy(alloc)?))
+    } else {
+        lay_parts(over, Tree::Null, standing, spot, alloc)
+    }
+}
+
+/// What a tree makes of the one that it is laid over, by what its parts make of theirs.
+#[cycle(lay)]
+fn lay_parts(
     over: &Tree,
     base: Tree,
     standing: Standing,
@@ -217,12 +253,17 @@ fn lay_entry(
     Ok(all)
 }
 
-/// The value of a key, in whose place null is left.
+/// The value of a key, in whose place null is left where it is there.
 fn take_value(entries: &mut Map, key: &Text, alloc: Global) -> Result<Tree, Memory>
     ensures value { IfOk result (λ old. old ≡ or_null (value_at entries.old key.now)) }
-    ensures left { OnOk result (entries.new ≡ with_entry entries.old key.now Tree.Null) }
+    ensures left { OnOk result ((new : Option Tree)
+        → with_value entries.new key.now new ≡ with_value entries.old key.now new) }
 {
-    Ok(or_null(entries.put(key.copy(alloc)?, Tree::Null)?))
+    if entries.get(key).is_none() {
+        Ok(Tree::Null)
+    } else {
+        Ok(or_null(entries.put(key.copy(alloc)?, Tree::Null)?))
+    }
 }
 
 /// Gives a key its new value, or takes the key out.

@@ -5,6 +5,7 @@
 //! of memory is free.
 #![tactic(auto)]
 
+mod alone;
 mod entries;
 mod forms;
 mod keys;
@@ -16,6 +17,7 @@ mod refusal;
 mod rules;
 mod short_spot;
 mod spot;
+mod stay_long;
 mod texts;
 
 pub use forms::long_forms;

@@ -339,9 +339,9 @@ module _ (project : Project) (reads : Reads ServiceReads project) where
       few_pass i >>= λ few.
       of_attributes (services_read i) >>= λ services. Ok (project_made project.name services networks volumes secrets configs))
 
--- what is completed is what its page means
-pub pages_mean : PagesMeanTheirProjects
-pages_mean name tree project marks keys h =
+-- what is completed is read again
+project_reads : (name : List ℕ) (tree : Tree) (project : Project) → no_mark tree ≡ true → own_keys tree ≡ true → project_of name tree ≡ Ok project → Reads ServiceReads project
+project_reads name tree project marks keys h =
     let a = bound (declarations name (out-Tree tree)) completed project h in
     let declares_it = declares name tree a.first marks keys a.is in
     let declared : Project = a.first in
@@ -349,9 +349,23 @@ pages_mean name tree project marks keys h =
     each-map ServiceCame (λ service. Rises name_of service.attributes) (λ service r. r.rises) declared.services declares_it.reads.services in
     let there : Each (AllThere declared) declared.services = completed_there declared rises project a.rest in
     let is : project ≡ used_by declared (map (settled (service_keys declared)) declared.services) = completed_is declared rises project a.rest in
-    let reads : Reads ServiceReads project = subst (Reads ServiceReads) (sym is) (used_reads declared (there_reads declared there declares_it.reads)) in
+    subst (Reads ServiceReads) (sym is) (used_reads declared (there_reads declared there declares_it.reads))
+
+-- so are the attributes of its services
+pub services_back : (name : List ℕ) (tree : Tree) (project : Project) → no_mark tree ≡ true → own_keys tree ≡ true → project_of name tree ≡ Ok project → Each ServiceReads project.services
+services_back name tree project marks keys h = (project_reads name tree project marks keys h).services
+
+-- and is what its page means
+pub pages_mean : PagesMeanTheirProjects
+pages_mean name tree project marks keys h =
+    let a = bound (declarations name (out-Tree tree)) completed project h in
+    let declares_it = declares name tree a.first marks keys a.is in
+    let declared : Project = a.first in
+    let rises : Each (λ service. Rises name_of service.attributes) declared.services =
+    each-map ServiceCame (λ service. Rises name_of service.attributes) (λ service r. r.rises) declared.services declares_it.reads.services in
+    let is : project ≡ used_by declared (map (settled (service_keys declared)) declared.services) = completed_is declared rises project a.rest in
     let named : project.name ≡ name = ap (λ (p : Project). p.name) is ∙ declares_it.named in
     let twice : completed project ≡ Ok project = completed_twice declared rises project a.rest in
     ap (λ (n : List ℕ). project_of n (value_of (project_node project))) (sym named)
-    ∙ ap (λ (r : Result Project TreeRefusal). r >>= completed) (page_declares project reads)
+    ∙ ap (λ (r : Result Project TreeRefusal). r >>= completed) (page_declares project (project_reads name tree project marks keys h))
     ∙ twice

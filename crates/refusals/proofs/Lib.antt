@@ -1,2 +1,3 @@
+pub mod BeforeDial
 pub mod Joined
 pub mod Said

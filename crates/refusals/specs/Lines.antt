@@ -1,6 +1,8 @@
 -- The line that each refusal prints.
-use Rattle.std.specs.Prelude.{ℕ, List, ◌++◌, codes}
+use Rattle.std.specs.Prelude.{ℕ, List, ◌++◌, codes, decimal}
 use Rattle.compose_words.specs.Printed.{refusal_text}
+use Rattle.declared_set.specs.declared.IdentityRefusal.{IdentityRefusal}
+use Rattle.file_digests.specs.declared.DigestRefusal.{DigestRefusal}
 use Rattle.run_model.specs.Lines.{line, fault_words}
 use Rattle.engine_types.specs.declared.RunFault.{RunFault}
 use Rattle.loading_words.specs.Messages as projects
@@ -13,10 +15,25 @@ abbrev pub part_words : Part → List ℕ
 part_words Part.Out = codes "Out"
 part_words Part.Plug = codes "Plug"
 
--- what isn't built: the words, or what stands at a path
+-- what isn't built: the words, what stands at a path, or the run
 abbrev pub unbuilt_words : Unbuilt → List ℕ
 unbuilt_words Unbuilt.Words = codes "not built: words"
 unbuilt_words (Unbuilt.Attribute path) = projects.unbuilt_words path
+unbuilt_words Unbuilt.Run = codes "not built: run"
+
+-- a file that there is no digest of is named by its path
+abbrev pub digest_words : DigestRefusal → List ℕ
+digest_words (DigestRefusal.NotFound path) = path ++ codes ": NotFound"
+digest_words (DigestRefusal.ReadFault path) = path ++ codes ": ReadFault"
+digest_words (DigestRefusal.FileTooLarge path) = path ++ codes ": FileTooLarge"
+digest_words DigestRefusal.Memory = codes "memory"
+
+-- a service that isn't there, a name that two containers have, and the number of needs behind the limit's name
+abbrev pub identity_words : IdentityRefusal → List ℕ
+identity_words (IdentityRefusal.UnknownScale service) = codes "no service " ++ service
+identity_words (IdentityRefusal.TooManyNeeds count) = codes "TooManyNeeds: " ++ decimal count
+identity_words (IdentityRefusal.NameTwice name) = codes "name twice: " ++ name
+identity_words IdentityRefusal.Memory = codes "memory"
 
 -- what a refusal says
 abbrev pub refusal_words : Refusal → List ℕ
@@ -26,6 +43,8 @@ refusal_words (Refusal.Load refusal) = projects.load_words refusal
 refusal_words (Refusal.Name refusal) = projects.project_words refusal
 refusal_words (Refusal.Active refusal) = projects.active_words refusal
 refusal_words (Refusal.Project refusal) = projects.project_words refusal
+refusal_words (Refusal.Digest refusal) = digest_words refusal
+refusal_words (Refusal.Identity refusal) = identity_words refusal
 refusal_words (Refusal.Seen fault) = fault_words (RunFault.Seen fault)
 refusal_words (Refusal.Request request outcome) = fault_words (RunFault.Request request outcome)
 refusal_words (Refusal.Condition slot condition report) =

@@ -6,6 +6,7 @@ ghost use Rattle.refusals.specs.declared.refusal.Refusal.{Refusal};
 ghost use Rattle.refusals.specs.Lines.{refusal_line, refusal_words, unbuilt_words};
 
 use crate::condition::failed_words;
+use crate::declaring_words::{digest_words, identity_words};
 use crate::refusal::{Part, Refusal, Unbuilt};
 use compose_words::WordsRefusal;
 use engine_types::{Kind, Outcome, Reply, Request, SeenFault, WireEnd};
@@ -32,6 +33,8 @@ fn refusal_words(alloc: Global, refusal: &Refusal) -> Result<Text, Memory>
         Refusal::Name(refusal) => project_words(alloc, refusal),
         Refusal::Active(refusal) => active_words(alloc, refusal),
         Refusal::Project(refusal) => project_words(alloc, refusal),
+        Refusal::Digest(refusal) => digest_words(alloc, refusal),
+        Refusal::Identity(refusal) => identity_words(alloc, refusal),
         Refusal::Seen(fault) => seen_words(alloc, fault),
         Refusal::Request { request, outcome } => outcome_words(alloc, request, outcome),
         Refusal::Condition {
@@ -59,6 +62,7 @@ fn unbuilt_words(alloc: Global, unbuilt: &Unbuilt) -> Result<Text, Memory>
     match unbuilt {
         Unbuilt::Words => Text::from_str(alloc, "not built: words"),
         Unbuilt::Attribute { path } => loading_words::unbuilt_words(alloc, path),
+        Unbuilt::Run => Text::from_str(alloc, "not built: run"),
     }
 }
 

@@ -2,7 +2,7 @@ ghost use Rattle.std.specs.Prelude.{◌≡◌};
 ghost use Rattle.loading_words.specs.Messages as loading;
 ghost use Rattle.loading_words.specs.Statuses as ending;
 ghost use Rattle.refusals.specs.Lines.{refusal_words};
-ghost use Rattle.refusals.specs.Origins.{IsBeforeDial, load_refusal, project_refusal};
+ghost use Rattle.refusals.specs.Origins.{IsOfAsking, load_refusal, project_refusal};
 ghost use Rattle.refusals.specs.Statuses.{refusal_status};
 
 use crate::refusal::{Refusal, Unbuilt};
@@ -18,7 +18,7 @@ impl From<LoadRefusal> for Refusal {
         ensures refusal { result ≡ load_refusal refusal }
         ensures status { refusal_status result ≡ ending.load_status refusal }
         ensures words { refusal_words result ≡ loading.load_words refusal }
-        ensures kind { IsBeforeDial result }
+        ensures kind { IsOfAsking result }
     {
         match refusal {
             LoadRefusal::Memory => Refusal::Memory,
@@ -36,7 +36,7 @@ impl From<TreeRefusal> for Refusal {
         ensures refusal { result ≡ project_refusal refusal }
         ensures status { refusal_status result ≡ ending.refusal_status refusal }
         ensures words { refusal_words result ≡ loading.refusal_words refusal }
-        ensures kind { IsBeforeDial result }
+        ensures kind { IsOfAsking result }
     {
         match refusal {
             TreeRefusal::NotBuilt { path } => Refusal::NotBuilt(Unbuilt::Attribute { path }),

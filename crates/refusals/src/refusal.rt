@@ -1,6 +1,8 @@
 use active_services::ActiveRefusal;
 use compose_words::WordsRefusal;
+use declared_set::IdentityRefusal;
 use engine_types::{Condition, LateWhy, Outcome, Report, Request, SeenFault};
+use file_digests::DigestRefusal;
 use loaded_files::LoadRefusal;
 use loading_words::ProjectRefusal;
 use tree_base::{Path, Text};
@@ -18,8 +20,12 @@ pub enum Refusal {
     Name(ProjectRefusal),
     /// A service requires one that isn't enabled.
     Active(ActiveRefusal),
-    /// What the project declares is refused.
+    /// What stands in the project is refused.
     Project(ProjectRefusal),
+    /// There is no digest of a config's or secret's file.
+    Digest(DigestRefusal),
+    /// What the project declares of the Engine is refused.
+    Identity(IdentityRefusal),
     /// The observation ended so.
     Seen(SeenFault),
     /// An exchange of the run didn't end well.
@@ -50,6 +56,8 @@ pub enum Unbuilt {
     Words,
     /// What stands at a path of the project's tree.
     Attribute { path: Path },
+    /// A run of what the project declares.
+    Run,
 }
 
 /// The parts of the outside whose faults end a call.

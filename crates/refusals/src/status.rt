@@ -1,10 +1,12 @@
 ghost use Rattle.std.specs.Prelude.{◌≡◌};
 ghost use Rattle.run_model.specs.Ending.{lost_status, seen_status, outcome_status};
-ghost use Rattle.refusals.specs.Statuses.{refusal_status, status_of, unbuilt_status, words_status};
+ghost use Rattle.refusals.specs.Statuses.{digest_status, identity_status, refusal_status, status_of, unbuilt_status, words_status};
 
 use crate::refusal::{Refusal, Unbuilt};
 use compose_words::WordsRefusal;
+use declared_set::IdentityRefusal;
 use engine_types::{Outcome, SeenFault, WireEnd};
+use file_digests::DigestRefusal;
 use loading_words::{active_status, load_status, project_status};
 
 /// The exit status of a call: 0 where nothing is refused.
@@ -28,6 +30,8 @@ pub fn refusal_status(refusal: &Refusal) -> u8
         Refusal::Name(refusal) => project_status(refusal),
         Refusal::Active(refusal) => active_status(refusal),
         Refusal::Project(refusal) => project_status(refusal),
+        Refusal::Digest(refusal) => digest_status(refusal),
+        Refusal::Identity(refusal) => identity_status(refusal),
         Refusal::Seen(fault) => seen_status(fault),
         Refusal::Request { outcome, .. } => outcome_status(outcome),
         Refusal::Condition { .. } => 4,
@@ -53,6 +57,29 @@ fn unbuilt_status(unbuilt: &Unbuilt) -> u8
     match unbuilt {
         Unbuilt::Words => 1,
         Unbuilt::Attribute { .. } => 2,
+        Unbuilt::Run => 2,
+    }
+}
+
+fn digest_status(refusal: &DigestRefusal) -> u8
+    ensures { result ≡ digest_status refusal.now }
+{
+    match refusal {
+        DigestRefusal::NotFound { .. } => 2,
+        DigestRefusal::ReadFault { .. } => 7,
+        DigestRefusal::FileTooLarge { .. } => 8,
+        DigestRefusal::Memory => 9,
+    }
+}
+
+fn identity_status(refusal: &IdentityRefusal) -> u8
+    ensures { result ≡ identity_status refusal.now }
+{
+    match refusal {
+        IdentityRefusal::UnknownScale(_) => 2,
+        IdentityRefusal::TooManyNeeds(_) => 8,
+        IdentityRefusal::NameTwice(_) => 2,
+        IdentityRefusal::Memory => 9,
     }
 }
 

@@ -1,5 +1,5 @@
 ghost use Rattle.std.specs.Prelude.{◌≡◌};
-ghost use Rattle.refusals.specs.Origins.{IsBeforeDial, words_refusal};
+ghost use Rattle.refusals.specs.Origins.{IsOfAsking, words_refusal};
 ghost use Rattle.refusals.specs.Statuses.{refusal_status, words_status};
 
 use crate::refusal::Refusal;
@@ -12,7 +12,7 @@ impl From<WordsRefusal> for Refusal {
     fn from(refusal: WordsRefusal) -> Refusal
         ensures refusal { result ≡ words_refusal refusal }
         ensures status { refusal_status result ≡ words_status refusal }
-        ensures kind { IsBeforeDial result }
+        ensures kind { IsOfAsking result }
     {
         match refusal {
             WordsRefusal::Memory => Refusal::Memory,

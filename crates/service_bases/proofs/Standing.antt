@@ -1,5 +1,7 @@
 -- Services that extend nothing stay as they are.
-use Rattle.std.proofs.Common.{◌≡◌, ◌∙◌, ℕ, List, [], ◌∷◌, None, Result, Some, refl, ap}
+use Rattle.std.proofs.Common.{◌≡◌, ◌≤◌, ◌∙◌, ℕ, zero, suc, Bool, true, false, cond, List, [], ◌∷◌, None, Result, Some, length, drop, refl, ap, subst, arith}
+use Rattle.std.specs.Map.{values_of}
+use Rattle.std.specs.Str.{bytes_eq}
 use Rattle.std.specs.Prelude.{codes}
 use Rattle.std.specs.List.{AllByRecursion}
 use Rattle.file_paths.specs.Paths.{Variables}
@@ -7,7 +9,7 @@ use Rattle.file_paths.specs.Resolving.{Entries}
 use Rattle.loaded_files.specs.Reads.{◌>>=◌, Load, after, give}
 use Rattle.loaded_files.specs.declared.refusal.LoadRefusal.{LoadRefusal}
 use Rattle.loaded_files.proofs.Names.{Stands, names_stand, put_same}
-use Rattle.service_bases.specs.Bases.{main_source}
+use Rattle.service_bases.specs.Bases.{Alone, AllAlone, main_source}
 use Rattle.service_bases.specs.Chains.{laid_up}
 use Rattle.service_bases.specs.Extending.{all_extended, chain_over, continued, extended, services_extended}
 use Rattle.service_bases.specs.declared.chain.Chain.{Chain}
@@ -16,11 +18,7 @@ use Rattle.service_bases.proofs.Alone.{chain_alone, laid_alone}
 use Rattle.loaded_files.specs.Fields.{names_of}
 use Rattle.std.specs.Prelude.{reverse}
 use Rattle.tree_base.specs.Entries.{value_at, with_entry}
-use Rattle.tree_base.specs.declared.Tree.{Tree, Map}
-
--- a service that extends nothing
-abbrev pub Alone : Tree → Type 0
-Alone service = (entries : Entries) × (service ≡ Map entries) × (value_at entries (codes "extends") ≡ None)
+use Rattle.tree_base.specs.declared.Tree.{Map}
 
 module _ (env : Variables) (file : List ℕ) (services : Entries) (left : ℕ) where
   abbrev then_laid : List Layer × ℕ → Load (Entries × ℕ)
@@ -31,7 +29,7 @@ module _ (env : Variables) (file : List ℕ) (services : Entries) (left : ℕ) w
       ap (λ (r : Result Chain LoadRefusal). after r (λ chain. continued env (chain_over left env) chain.layers left chain.next) >>= then_laid) (chain_alone env file services name entries at none)
       ∙ ap (λ (r : Result Entries LoadRefusal). after r (λ service. give (service, left))) (laid_alone env file services name entries at none)
 
-  module _ (are : (name : List ℕ) (service : Tree) → value_at services name ≡ Some service → Alone service) where
+  module _ (are : AllAlone services) where
     all_alone : (names : List (List ℕ)) → AllByRecursion (Stands services) names → all_extended env (main_source file services) names services left ≡ give (services, left)
     all_alone [] a = refl
     all_alone (name ∷ names) a =
@@ -43,3 +41,19 @@ module _ (env : Variables) (file : List ℕ) (services : Entries) (left : ℕ) w
 
     pub services_stand : services_extended env file services left ≡ give (services, left)
     services_stand = all_alone (names_of services) (names_stand services)
+
+-- none of some services extends anything where none of their values does
+pub by_values : (services : Entries) → AllByRecursion Alone (values_of services) → AllAlone services
+by_values [] all name service at = absurd (let wrong : ⊥ = cc in wrong)
+by_values (e ∷ es) all name service at = by (bytes_eq name e.0) (by_values es all.1 name service) at
+  where
+    by : (b : Bool) → (value_at es name ≡ Some service → Alone service) → cond b (Some e.1) (value_at es name) ≡ Some service → Alone service
+    by true rest h = let same : e.1 ≡ service = cc in subst Alone same all.0
+    by false rest h = rest h
+
+-- nothing is left past the last
+pub none_more : {X : Type 0} (xs : List X) (i : ℕ) → length xs ≤ i → drop i xs ≡ []
+none_more [] zero h = refl
+none_more [] (suc i) h = refl
+none_more (x ∷ xs) zero h = absurd (omega arith)
+none_more (x ∷ xs) (suc i) h = none_more xs i (omega arith)

@@ -1,5 +1,5 @@
 -- What a service extends, and where its base stands (the Compose Specification, "Extend").
-use Rattle.std.specs.Prelude.{ℕ, List, ◌&&◌, Bool, Option, Some, None, Result, Ok, Err, codes}
+use Rattle.std.specs.Prelude.{◌≡◌, ℕ, List, ◌&&◌, Bool, Option, Some, None, Result, Ok, Err, codes}
 use Rattle.std.specs.Option.{option_and_then, option_map}
 use Rattle.std.specs.Str.{bytes_eq}
 use Rattle.file_paths.specs.Paths.{Variables, directory_of}
@@ -14,7 +14,7 @@ use Rattle.service_bases.specs.declared.base.Base.{Base}
 use Rattle.service_bases.specs.declared.source.Source.{Source}
 use Rattle.tree_base.specs.Answers.{◌>>=◌}
 use Rattle.tree_base.specs.Entries.{value_at}
-use Rattle.tree_base.specs.declared.Tree.{Tree, out-Tree}
+use Rattle.tree_base.specs.declared.Tree.{Tree, Map, out-Tree}
 use Rattle.tree_base.specs.declared.Tree.TheOpen.{Tree-F}
 
 -- the service of this name in a file
@@ -71,3 +71,11 @@ found_service env source name (Some service) = placed_service env source.directo
 -- the service of a source under a name
 abbrev pub service_in : Variables → Source → List ℕ → Result Entries LoadRefusal
 service_in env source name = found_service env source name (value_at source.services name)
+
+-- a service that extends nothing
+abbrev pub Alone : Tree → Type 0
+Alone service = (entries : Entries) × (service ≡ Map entries) × (value_at entries (codes "extends") ≡ None)
+
+-- services of which none extends anything
+abbrev pub AllAlone : Entries → Type 0
+AllAlone services = (name : List ℕ) (service : Tree) → value_at services name ≡ Some service → Alone service

@@ -1,6 +1,7 @@
-ghost use Rattle.std.specs.Prelude.{◌≡◌, IfOk};
+ghost use Rattle.std.specs.Prelude.{◌≡◌, IfOk, IsTrue};
+ghost use Rattle.std.specs.List.{AllByRecursion};
 ghost use Rattle.std.specs.Option.{option_copied, option_map};
-ghost use Rattle.service_bases.specs.Bases.{at_service, base_named, extends_in, extends_of, is_at};
+ghost use Rattle.service_bases.specs.Bases.{AllAlone, Alone, at_service, base_named, extends_in, extends_of, is_at};
 ghost use Rattle.tree_base.specs.declared.Tree.{out-Tree};
 
 use loaded_files::{ServiceAt, text_at};
@@ -21,6 +22,35 @@ pub(crate) fn extends_of(alloc: Global, service: &Map) -> Result<Option<Base>, M
     match service.find("extends") {
         Some(tree) => extends_in(alloc, tree),
         None => Ok(None),
+    }
+}
+
+/// Whether no service of these extends anything, as in most files. No memory.
+pub(crate) fn extend_nothing(services: &Map) -> bool
+    ensures { IsTrue result → AllAlone services.now }
+{
+    are_alone(services.values())
+}
+
+/// Whether each of some trees is a service that extends nothing.
+fn are_alone(services: &[Tree]) -> bool
+    ensures { IsTrue result → AllByRecursion Alone services.now }
+{
+    for service in services {
+        if !is_alone(service) {
+            return false;
+        }
+    }
+    true
+}
+
+/// Whether a tree is a service that extends nothing.
+fn is_alone(service: &Tree) -> bool
+    ensures { IsTrue result → Alone service.now }
+{
+    match service {
+        Tree::Map(entries) => entries.get().find("extends").is_none(),
+        _ => false,
     }
 }
 

@@ -6,6 +6,7 @@ ghost use Rattle.service_bases.specs.Extending.{all_extended, chain_over, extend
 ghost use Rattle.tree_base.specs.Entries.{with_entry};
 ghost use Rattle.tree_base.specs.declared.Tree.{Tree};
 
+use crate::base::extend_nothing;
 use crate::chain::{Chain, Layer, chain_in};
 use crate::laid::laid_up;
 use crate::source::{Source, base_file};
@@ -14,7 +15,8 @@ use outside_files::Files;
 use std::alloc::Global;
 use tree_base::{Env, List, Map, Memory, Text, Tree, TryCopy};
 
-/// The services of a model over all that they extend, and how many files may still be read. Their own paths are taken
+/// The services of a model over all that they extend, and how many files may still be read. Where none extends
+/// anything, they are shared as they are. Their own paths are taken
 /// already; `file` is the model's first file, as which they are named.
 ///
 /// The refusals, by service in byte order, are those of its chain from the service on: `NoSuchBase` for a service that
@@ -22,6 +24,29 @@ use tree_base::{Env, List, Map, Memory, Text, Tree, TryCopy};
 /// base in another file, what is refused of that file and of its shape; then those of laying the chain, from its end
 /// up.
 pub fn services_extended<F: Files>(
+    alloc: Global,
+    files: &mut F,
+    env: &Env,
+    file: &Text,
+    services: &Map,
+    left: u32,
+) -> Result<(Map, u32), LoadRefusal>
+    ensures given { Gives (F.told files.old) result
+        (services_extended env.now file.now services.now left) }
+    ensures fault { (at : List ℕ) → result ≡ Err (LoadRefusal.ReadFault at)
+        → Rose (F.faults files.old) (F.faults files.new) }
+    ensures counted { F.faults files.old ≤ F.faults files.new }
+    ensures kept { F.told files.new ≡ F.told files.old }
+{
+    if extend_nothing(services) {
+        Ok((services.copy(alloc)?, left))
+    } else {
+        over_bases(alloc, files, env, file, services, left)
+    }
+}
+
+/// The services of a model over all that they extend, where some extend others.
+fn over_bases<F: Files>(
     alloc: Global,
     files: &mut F,
     env: &Env,

@@ -1,5 +1,5 @@
-//! Tests of what cases can't say as data: the files of the disk, a stream, the plug of the program, and laws, which run
-//! nothing. The crate gives out nothing.
+//! Tests of what cases can't say as data: the files of the disk, a stream, a wire over a socket, the plug of the program, and laws,
+//! which run nothing. The crate gives out nothing.
 #![tactic(auto)]
 
 #[cfg(test)]
@@ -8,5 +8,7 @@ mod disk;
 mod laws;
 #[cfg(test)]
 mod plugs;
+#[cfg(test)]
+mod sockets;
 #[cfg(test)]
 mod streams;

@@ -1,7 +1,7 @@
 //! The plug of the program, and that of a peer that doesn't answer.
 
-use compose_cli::MainPlug;
 use engine_hand::{SilentHand, SilentPlug};
+use engine_plugs::MainPlug;
 use engine_types::{Outcome, Request, WireEnd};
 use outside_api::{DialAnswer, Hand, Plug, Target};
 use std::alloc::Global;
@@ -9,9 +9,9 @@ use std::test::Fail;
 use tree_base::Text;
 
 /// What the first dial of a plug answers, in a word.
-fn dial(alloc: Global, target: &Target) -> &'static str {
-    let mut plug = MainPlug::new();
-    match plug.dial(alloc, target, None, 0) {
+fn dial(rt: &HostRuntime, target: &Target) -> &'static str {
+    let mut plug = MainPlug::new(rt);
+    match plug.dial(rt.alloc(), target, None, 0) {
         DialAnswer::Dialled(_) => "dialled",
         DialAnswer::Failed => "failed",
         DialAnswer::Memory => "memory",
@@ -19,11 +19,13 @@ fn dial(alloc: Global, target: &Target) -> &'static str {
 }
 
 #[test]
-fn the_plug_of_the_program_reaches_memory_and_no_socket(rt: HostRuntime) -> Result<(), Fail> {
+fn the_plug_of_the_program_makes_hands_of_memory_and_of_sockets(
+    rt: HostRuntime,
+) -> Result<(), Fail> {
     let alloc = rt.alloc();
     let socket = Target::Socket(Text::from_str(alloc, "/var/run/docker.sock")?);
-    assert_eq!(rt; dial(alloc, &socket), "failed");
-    assert_eq!(rt; dial(alloc, &Target::InMemory), "dialled");
+    assert_eq!(rt; dial(&rt, &socket), "dialled");
+    assert_eq!(rt; dial(&rt, &Target::InMemory), "dialled");
     Ok(())
 }
 

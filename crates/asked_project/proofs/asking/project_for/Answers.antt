@@ -5,7 +5,7 @@ use Rattle.asked_project.specs.Parts.{MeansFor}
 use Rattle.asked_project.specs.declared.asking.Asked.{Asked}
 use Rattle.asked_project.proofs.Answered.{is_loaded, load_no_words, loads_project, loads_read, loads_refused, with_kind, with_no_read, with_no_words, with_options, with_keyed}
 use Rattle.loaded_files.specs.declared.LoadRefusal.{LoadRefusal}
-use Rattle.refusals.specs.Origins.{IsBeforeDial, is_of_words}
+use Rattle.refusals.specs.Origins.{IsOfAsking, is_of_words}
 use Rattle.refusals.specs.declared.Refusal.{Refusal}
 use Rattle.typed_project.specs.DistinctNames.{IsKeyed}
 use Rattle.asked_project.proofs.asking.project_for.Goals as goal
@@ -30,7 +30,7 @@ pub returns-in-Ok-clause-keyed : goal.returns-in-Ok-clause-keyed
 returns-in-Ok-clause-keyed g c = subst (λ (r : Result Asked Refusal). IfOk r (λ asked. IsKeyed asked.project)) (sym c.asked_with.ensures) (with_keyed c.args.options c.project_loaded-project.result c.project_loaded-project.ensures.keyed)
 
 pub returns-in-Ok-clause-kind : goal.returns-in-Ok-clause-kind
-returns-in-Ok-clause-kind g c = subst (λ (r : Result Asked Refusal). IfErr r IsBeforeDial) (sym c.asked_with.ensures) (with_kind c.args.options c.project_loaded-project.result c.project_loaded-project.ensures.kind)
+returns-in-Ok-clause-kind g c = subst (λ (r : Result Asked Refusal). IfErr r IsOfAsking) (sym c.asked_with.ensures) (with_kind c.args.options c.project_loaded-project.result c.project_loaded-project.ensures.kind)
 
 pub returns-in-Ok-clause-read : goal.returns-in-Ok-clause-read
 returns-in-Ok-clause-read g c = λ path e. absurd (with_no_read c.args.options c.project_loaded-project.result path c.project_loaded-project.ensures.kind (sym c.asked_with.ensures ∙ e))

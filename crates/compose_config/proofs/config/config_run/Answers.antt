@@ -2,7 +2,7 @@ use Rattle.std.proofs.Common.{Err, ap, inr}
 use Rattle.asked_project.specs.Asking.{command_of}
 use Rattle.asked_project.specs.Meaning.{meaning}
 use Rattle.compose_config.specs.Commands.{GrewByPrefix, IsReadFault, page_asked, page_for}
-use Rattle.compose_config.proofs.Loads.{IfSome-map, before_kind, before_no_outside, command_is, for_project, if_loads, means_unrefused, no_words_refused, only_outside, said_exactly, said_read, said_refusal, said_some, said_words}
+use Rattle.compose_config.proofs.Loads.{IfSome-map, asking_kind, asking_no_outside, command_is, for_project, if_loads, means_unrefused, no_words_refused, only_outside, said_exactly, said_read, said_refusal, said_some, said_words}
 use Rattle.compose_config.proofs.Printed.{asked_prefix, asked_whole, page_complete, page_fault, page_kind, page_no_loading, page_no_read, page_no_words}
 use Rattle.outside_files.specs.Sinks.{GrewBy}
 use Rattle.refusals.specs.declared.Part.{Part}
@@ -52,13 +52,13 @@ pub returns-in-Err-clause-loading : goal.returns-in-Err-clause-loading
 returns-in-Err-clause-loading g c = IfSome-map (g.F.Files.told c.args.files.now) _ _ c.in-Err.ensures.told (λ contents means. said_refusal (meaning c.args.words.now c.args.env.now c.args.cwd.now contents) c.in-Err.refusal c.ended.result.refusal means c.ended.ensures.refusal)
 
 pub returns-in-Err-clause-kind : goal.returns-in-Err-clause-kind
-returns-in-Err-clause-kind g c = before_kind c.in-Err.refusal c.ended.result.refusal c.in-Err.ensures.kind c.ended.ensures.refusal
+returns-in-Err-clause-kind g c = asking_kind c.in-Err.refusal c.ended.result.refusal c.in-Err.ensures.kind c.ended.ensures.refusal
 
 pub returns-in-Err-clause-read_fault : goal.returns-in-Err-clause-read_fault
 returns-in-Err-clause-read_fault g c = λ path e. c.in-Err.ensures.read path (ap Err (said_read c.in-Err.refusal c.ended.result.refusal path c.ended.ensures.refusal e))
 
 pub returns-in-Err-clause-output_fault : goal.returns-in-Err-clause-output_fault
-returns-in-Err-clause-output_fault g c = λ e. absurd (before_no_outside c.in-Err.refusal c.ended.result.refusal c.in-Err.ensures.kind c.ended.ensures.refusal Part.Out e)
+returns-in-Err-clause-output_fault g c = λ e. absurd (asking_no_outside c.in-Err.refusal c.ended.result.refusal c.in-Err.ensures.kind c.ended.ensures.refusal Part.Out e)
 
 pub returns-in-Err-clause-page : goal.returns-in-Err-clause-page
 returns-in-Err-clause-page g c = λ zero. absurd (said_some c.in-Err.refusal c.ended.result.refusal c.ended.ensures.refusal (c.ended.ensures.none.1 zero))

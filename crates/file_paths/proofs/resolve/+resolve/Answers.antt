@@ -10,16 +10,9 @@ use Rattle.attribute_paths.proofs.Walks.{entry_next, item_next, no_entry}
 use Rattle.file_paths.specs.PathRules.{PathRules}
 use Rattle.file_paths.specs.Resolving.{entries_homed, items_homed, resolved_by, values_homed}
 use Rattle.file_paths.specs.Spots.{rules_of}
-use Rattle.file_paths.specs.declared.spot.PathSpot.{PathSpot}
-use Rattle.file_paths.proofs.Walking.{items_fail, items_go, map_done, map_fails, mount_fails, same_fails, seq_done, seq_fails, stays, values_fail, values_go}
+use Rattle.file_paths.proofs.Walking.{items_fail, items_go, map_done, map_fails, mount_fails, same_fails, seq_done, seq_fails, values_fail, values_go}
 use Rattle.tree_base.specs.declared.Tree.{Tree}
 use Rattle.file_paths.proofs.resolve.+resolve.Goals as goal
-
-pub resolve-returns-in_ok-copy-in-Plain : goal.resolve-returns-in_ok-copy-in-Plain
-resolve-returns-in_ok-copy-in-Plain t c =
-    let tree = c.args.tree.now in
-    let home = homed c.args.directory.now c.args.env.now in
-    ap (λ (s : PathSpot). resolved_by home tree (rules_of s)) c.in-Plain.is ∙ stays home tree ∙ ap Ok (sym c.in_ok-copy-in-Plain.ensures)
 
 pub resolve_values-returns-in_err-resolve-clause-value : goal.resolve_values-returns-in_err-resolve-clause-value
 resolve_values-returns-in_err-resolve-clause-value t c =
@@ -149,3 +142,7 @@ resolve_items-loop-item-preserved t c =
     ap (λ (done : List Tree). items_homed lines done rest) c.in_ok-push.ensures.ok
     ∙ sym (items_go home lines l.done item made rest c.in_ok-resolve.ensures)
     ∙ sym (ap (items_homed lines l.done) next) ∙ l.invariant
+
+pub resolve-returns-in_ok-copy : goal.resolve-returns-in_ok-copy
+resolve-returns-in_ok-copy t c =
+    c.if-keeps.ensures refl (homed c.args.directory.now c.args.env.now) ∙ ap Ok (sym c.in_ok-copy.ensures)

@@ -92,3 +92,8 @@ map_value-returns t c =
     map_done (value_at a.env.now) a.entries.now c.keys.result.now c.values.result.now c.in_ok-values.values a.size.now new c.keys.ensures c.values.ensures c.in_ok-values.ensures.value
     ∙ ap (λ (es : List (List ℕ × Tree)). Ok (Map es, new)) (sym c.in_ok-entries.ensures)
     ∙ ap (λ (tree : Tree). Ok (tree, new)) (sym c.in_ok-mapping.ensures)
+
+pub tree_value-returns-in_ok-same-in-Some : goal.tree_value-returns-in_ok-same-in-Some
+tree_value-returns-in_ok-same-in-Some t c =
+    let more = c.in-Some.more in
+    c.in-Some.ensures (value_at c.args.env.now) ∙ ap (λ (tree : Tree). Ok (tree, more)) (sym c.in_ok-same-in-Some.ensures)

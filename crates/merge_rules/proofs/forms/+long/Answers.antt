@@ -6,19 +6,13 @@ use Rattle.std.proofs.lemmas.Option.{slice_get_read}
 use Rattle.tree_base.specs.declared.Tree.{Tree, Map}
 use Rattle.merge_rules.specs.declared.refusal.MergeRefusal.{MergeRefusal}
 use Rattle.merge_rules.specs.declared.rules.ShortForm.{ShortForm}
-use Rattle.merge_rules.specs.declared.short_spot.ShortSpot.{ShortSpot}
 use Rattle.merge_rules.specs.Answers.{UpGives, turned}
 use Rattle.merge_rules.specs.LongForms.{lengthened, list_long, values_long}
 use Rattle.merge_rules.specs.Spots.{forms_of}
 use Rattle.merge_rules.proofs.Answering.{same_fails}
 use Rattle.attribute_paths.proofs.Walks.{entry_next, no_entry}
-use Rattle.merge_rules.proofs.Lengthening.{map_done, map_fails, seq_long, stays, values_fail, values_go}
+use Rattle.merge_rules.proofs.Lengthening.{map_done, map_fails, seq_long, values_fail, values_go}
 use Rattle.merge_rules.proofs.forms.+long.Goals as goal
-
-pub lengthen-returns-in_ok-copy-in-Plain : goal.lengthen-returns-in_ok-copy-in-Plain
-lengthen-returns-in_ok-copy-in-Plain t c =
-    let tree = c.args.tree.now in
-    ap (λ (s : ShortSpot). lengthened tree (forms_of s)) c.in-Plain.is ∙ stays tree ∙ ap Ok (sym c.in_ok-copy-in-Plain.ensures)
 
 pub lengthen_parts-returns-in-Seq : goal.lengthen_parts-returns-in-Seq
 lengthen_parts-returns-in-Seq t c =

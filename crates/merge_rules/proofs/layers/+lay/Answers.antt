@@ -6,17 +6,17 @@ use Rattle.tree_base.specs.declared.Tree.{Tree, Map, Null}
 use Rattle.tree_base.specs.declared.Step.TheVariants.{Index}
 use Rattle.merge_rules.specs.declared.rules.Standing.TheVariants.{Item}
 use Rattle.merge_rules.specs.Answers.{place, turned, under}
-use Rattle.merge_rules.specs.Overlay.{Lay, entries_laid, entries_over, entry_over, item_joined, items_joined, laid, layers, with_value}
+use Rattle.merge_rules.specs.Overlay.{Lay, entries_laid, entries_over, entry_over, item_joined, items_joined, laid, layers}
 use Rattle.attribute_paths.specs.Patterns.{below_key}
 use Rattle.merge_rules.specs.Spots.{rules_of}
 use Rattle.merge_rules.specs.Uniqueness.{or_null}
 use Rattle.merge_rules.proofs.Answering.{fails_on, goes_on, same_fails}
 use Rattle.attribute_paths.proofs.Walks.{entry_next, item_next, no_entry, set_twice}
-use Rattle.merge_rules.proofs.Laying.{entry_goes, item_fails, map_goes, map_lays, value_put}
+use Rattle.merge_rules.proofs.Laying.{entry_goes, item_fails, map_goes, map_lays}
 use Rattle.merge_rules.proofs.layers.+lay.Goals as goal
 
-pub lay-returns-in-Map : goal.lay-returns-in-Map
-lay-returns-in-Map t c =
+pub lay_parts-returns-in-Map : goal.lay_parts-returns-in-Map
+lay_parts-returns-in-Map t c =
     let lines = rules_of c.args.spot in
     let opens : laid c.args.over.now c.args.standing lines c.args.base ≡ entries_laid lines (layers c.get.result.now) c.args.base =
     ap (λ (tree : Tree). laid tree c.args.standing lines c.args.base) c.in-Map.is
@@ -47,7 +47,7 @@ lay_entry-returns t c =
     entry_goes lines (rules_of c.spot_below.result) base k c.args.value.now c.in_ok-old.old c.in_ok-new.new c.in_ok-old.ensures.value
     (c.spot_below.ensures ∙ ap (λ (q : List ℕ). below_key q lines) c.as_str.ensures.value)
     c.in_ok-new.ensures
-    ∙ ap Ok (sym (c.in_ok-put_value.ensures ∙ ap (λ (es : List (List ℕ × Tree)). with_value es k c.in_ok-new.new) c.in_ok-old.ensures.left ∙ value_put base k c.in_ok-new.new))
+    ∙ ap Ok (sym (c.in_ok-put_value.ensures ∙ c.in_ok-old.ensures.left c.in_ok-new.new))
 
 pub lay_entries-returns-in_err-all : goal.lay_entries-returns-in_err-all
 lay_entries-returns-in_err-all t c =

@@ -1,0 +1,22 @@
+-- What holds of what a call declares.
+use Rattle.std.specs.Prelude.{◌≡◌, ◌↔◌, ◌⊎◌, true, Some}
+use Rattle.asked_run.specs.Built.{is_built}
+use Rattle.asked_run.specs.Declaring.{AreDigests}
+use Rattle.asked_run.specs.Told.{IsHindered, digests_for}
+use Rattle.compose_words.specs.declared.Command.{Command}
+use Rattle.engine_types.specs.declared.Declared.{Declared}
+use Rattle.file_digests.specs.Digests.{Given}
+use Rattle.outside_files.specs.Files.{Contents}
+use Rattle.serial_run.specs.Serial.{WaitsForNone}
+use Rattle.typed_project.specs.declared.project.Project.{Project}
+
+-- runs are built of exactly the sets in which nothing waits for anything else
+abbrev pub BuiltSetsWaitForNone : Type 0
+BuiltSetsWaitForNone = (declared : Declared) → (is_built declared ≡ true) ↔ WaitsForNone declared
+
+-- what true answers of reads give of the digests is what the files have, or a read failed or wanted memory
+abbrev pub ToldFilesHaveDigests : Type 0
+ToldFilesHaveDigests =
+    (files : Contents) (command : Command) (project : Project) (given : Given)
+    → AreDigests (Some files) command project given
+    → (given ≡ digests_for files command project) ⊎ IsHindered given

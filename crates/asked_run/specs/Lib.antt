@@ -1,0 +1,4 @@
+pub mod Built
+pub mod Declaring
+pub mod Laws
+pub mod Told

@@ -1,0 +1,129 @@
+ghost use Rattle.std.specs.Prelude.{◌≡◌, ◌≤◌, ℕ, List, Err, false, IfErr, IfOk, IfSome};
+ghost use Rattle.asked_run.specs.Declaring.{Declares, DeclaresAs, IsDeclared, IsFailedDigest, declared_from, declared_in, declared_with, scales_of};
+ghost use Rattle.declared_laws.specs.Laws.{AreNumbered};
+ghost use Rattle.file_digests.specs.declared.DigestRefusal.{DigestRefusal};
+ghost use Rattle.refusals.specs.Origins.{IsOfDeclaring};
+ghost use Rattle.refusals.specs.Refused.{is_failed_digest, wants_memory};
+ghost use Rattle.refusals.specs.declared.Refusal.{Refusal};
+ghost use Rattle.run_model.specs.Plans.{IsWhole};
+ghost use Rattle.serial_run.specs.Serial.{WaitsForNone};
+ghost use Rattle.tree_base.specs.Answers.{Gives};
+ghost use Rattle.typed_project.specs.DistinctNames.{IsKeyed};
+ghost use Rattle.world_laws.specs.OwnSpecs.{HasOwnSpecs};
+
+use crate::built::built_or_not;
+use crate::digests::digests_for;
+use compose_words::{Command, Scale};
+use declared_laws::numbered;
+use declared_set::declare;
+use engine_types::Declared;
+use outside_files::Files;
+use refusals::Refusal;
+use service_hashes::FileDigest;
+use std::alloc::Global;
+use tree_base::Memory;
+use typed_project::Project;
+
+/// What a project declares of the Engine for a command: by the numbers of `--scale`, and by the digests of the files of
+/// its configs and secrets, which `up` reads. The refusals, in their order: those of digests; those of what is declared,
+/// `UnknownScale`, `TooManyNeeds` and `NameTwice`; and `NotBuilt(Run)` where something that is declared waits for anything
+/// else, which no run does yet.
+pub fn declared_asked<F: Files>(
+    alloc: Global,
+    command: &Command,
+    project: &Project,
+    files: &mut F,
+) -> Result<Declared, Refusal>
+    requires keyed { IsKeyed project.now }
+
+    // It is what the project declares by the digests that some answers of reads give, or the refusal that these give.
+    ensures given { (result ≡ Err Refusal.Memory → ⊥)
+        → Declares (F.told files.old) command.now project.now result }
+    ensures told { IfSome (F.told files.old) (λ contents.
+        DeclaresAs (declared_from contents command.now project.now) result) }
+    ensures declared { IfOk result (λ declared.
+        IsDeclared (F.told files.old) command.now project.now declared) }
+
+    // It is whole, what is sent for each slot is made for it, and nothing of it waits for anything else.
+    ensures whole { IfOk result IsWhole }
+    ensures own { IfOk result HasOwnSpecs }
+    ensures unconditional { IfOk result WaitsForNone }
+
+    // A read that failed is one that the command asks a digest of, and was counted.
+    ensures read { (path : List ℕ) → result ≡ Err (Refusal.Digest (DigestRefusal.ReadFault path))
+        → IsFailedDigest (F.told files.old) command.now project.now
+        (F.faults files.old) (F.faults files.new) path }
+    ensures kind { IfErr result IsOfDeclaring }
+    ensures counted { F.faults files.old ≤ F.faults files.new }
+    ensures kept { F.told files.new ≡ F.told files.old }
+{
+    match digests_for(alloc, command, project, files) {
+        Ok(digests) => {
+            let declared = declared_with(alloc, command, project, digests.as_slice());
+            // By a call: else the drop of each digest would be proved at this place.
+            drop(digests);
+            declared
+        }
+        Err(refusal) => Err(Refusal::from(refusal)),
+    }
+}
+
+/// What a project declares for a command, with these digests of its files.
+fn declared_with(
+    alloc: Global,
+    command: &Command,
+    project: &Project,
+    digests: &[FileDigest],
+) -> Result<Declared, Refusal>
+    requires keyed { IsKeyed project.now }
+    ensures told { Gives wants_memory result (declared_with command.now project.now digests.now) }
+    ensures whole { IfOk result IsWhole }
+    ensures own { IfOk result HasOwnSpecs }
+    ensures unconditional { IfOk result WaitsForNone }
+    ensures read { IfErr result (λ refusal. is_failed_digest refusal ≡ false) }
+    ensures kind { IfErr result IsOfDeclaring }
+{
+    let scales = scales_of(command);
+    match numbered(scales, project.services.as_slice()) {
+        Ok(()) => declared_in(alloc, scales, project, digests),
+        Err(Memory) => Err(Refusal::Memory),
+    }
+}
+
+/// What a project declares with these numbers of `--scale` and these digests, where 32 bits number the containers of each
+/// service.
+fn declared_in(
+    alloc: Global,
+    scales: &[Scale],
+    project: &Project,
+    digests: &[FileDigest],
+) -> Result<Declared, Refusal>
+    requires keyed { IsKeyed project.now }
+    requires numbered { AreNumbered scales.now project.now.services }
+    ensures told { Gives wants_memory result (declared_in scales.now project.now digests.now) }
+    ensures whole { IfOk result IsWhole }
+    ensures own { IfOk result HasOwnSpecs }
+    ensures unconditional { IfOk result WaitsForNone }
+    ensures read { IfErr result (λ refusal. is_failed_digest refusal ≡ false) }
+    ensures kind { IfErr result IsOfDeclaring }
+{
+    match declare(alloc, project, scales, digests) {
+        Ok(declared) => built_or_not(declared),
+        Err(refusal) => Err(Refusal::from(refusal)),
+    }
+}
+
+/// The numbers of `--scale`, which `up` alone has.
+fn scales_of(command: &Command) -> &[Scale]
+    ensures { result.now ≡ scales_of command.now }
+{
+    match command {
+        Command::Up { scale, .. } => scale.as_slice(),
+        Command::Down { .. } => &[],
+        Command::Config { .. } => &[],
+        Command::Simulate { .. } => &[],
+        Command::Wait => &[],
+        Command::Logs => &[],
+        Command::EngineSim { .. } => &[],
+    }
+}

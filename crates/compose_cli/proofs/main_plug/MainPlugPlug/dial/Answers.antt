@@ -1,5 +1,0 @@
-use Rattle.std.proofs.Common.{arith, refl}
-use Rattle.compose_cli.proofs.main_plug.MainPlugPlug.dial.Goals as goal
-
-pub overflow_add-self : goal.overflow_add-self
-overflow_add-self c = omega (arith, c.requires _ refl)

@@ -1,0 +1,92 @@
+ghost use Rattle.std.specs.Prelude.{◌≡◌, ◌<◌, ◌≤◌, ◌^◌, [], Some, IfErr, IfOk, IfSome, IsTrue, length};
+ghost use Rattle.std.specs.Option.{ForSome};
+ghost use Rattle.asked_run.specs.Declaring.{ForDeclared, IsFailedDigest, declared_from};
+ghost use Rattle.compose_cli.specs.Ends.{CountsHands, SendsNothing};
+ghost use Rattle.compose_cli.specs.Reaching.{IsReachable};
+ghost use Rattle.compose_cli.specs.Runs.{IsDigestOf, IsUnbegun, IsUndeclared, RunsWhole};
+ghost use Rattle.file_digests.specs.declared.DigestRefusal.{DigestRefusal};
+ghost use Rattle.loaded_files.specs.declared.LoadRefusal.{LoadRefusal};
+ghost use Rattle.outside_files.specs.Counts.{Rose};
+ghost use Rattle.project_run.specs.Whole.{IfBegun, task_of};
+ghost use Rattle.refusals.specs.Origins.{IsOfLoading, is_of_words};
+ghost use Rattle.refusals.specs.Saying.{SaysRefusal};
+ghost use Rattle.refusals.specs.Statuses.{status_of};
+ghost use Rattle.refusals.specs.declared.Part.{Part};
+ghost use Rattle.refusals.specs.declared.Refusal.{Refusal};
+ghost use Rattle.run_model.specs.EngineRules.{Among};
+ghost use Rattle.serial_run.specs.Serial.{aim_of, one_worker};
+ghost use Rattle.typed_project.specs.DistinctNames.{IsKeyed};
+
+use crate::ended::Ended;
+use crate::reaching::target_asked;
+use crate::run::{refused, run_declared};
+use asked_project::Asked;
+use asked_run::declared_asked;
+use outside_api::Plug;
+use outside_files::{Files, Sink};
+use project_run::Aim;
+use std::alloc::Global;
+use tree_base::{Env, Text};
+
+/// Does with what a project that was asked for declares what an aim asks for, or refuses what can't be declared.
+pub(crate) fn run_asked<F: Files, P: Plug, O: Sink, G: Sink>(
+    alloc: Global,
+    asked: &Asked,
+    aim: Aim,
+    env: &Env,
+    cwd: &Text,
+    files: &mut F,
+    plug: &mut P,
+    out: &mut O,
+    err: &mut G,
+) -> Ended<P::Hand>
+    requires dialled { ForSome (P.dialled plug.old) (λ n. n < 2 ^ 61) }
+    requires keyed { IsKeyed asked.now.project }
+    requires reachable { IsReachable asked.now.options env.now cwd.now }
+
+    // What can't be declared is what the call is refused with; and nothing else is, but for reads that failed.
+    ensures declaring { IfSome (F.told files.old) (λ contents.
+        IfErr (declared_from contents asked.now.options.command asked.now.project) (λ refusal.
+        SendsNothing result × IsUndeclared refusal result.refusal)) }
+    ensures complete { IsOfLoading result.refusal → IfSome (F.told files.old) (λ contents.
+        IfOk (declared_from contents asked.now.options.command asked.now.project) (λ declared.
+        IsDigestOf asked.now.options.command asked.now.project (F.told files.old)
+        (F.faults files.old) (F.faults files.new) result.refusal)) }
+    ensures digest { (path : _)
+        → result.refusal ≡ Some (Refusal.Digest (DigestRefusal.ReadFault path))
+        → IsFailedDigest (F.told files.old) asked.now.options.command asked.now.project
+        (F.faults files.old) (F.faults files.new) path }
+    ensures words { (refusal : _) → IsTrue (is_of_words refusal)
+        → result.refusal ≡ Some refusal → ⊥ }
+    ensures load { (path : _)
+        → result.refusal ≡ Some (Refusal.Load (LoadRefusal.ReadFault path)) → ⊥ }
+    ensures counted { F.faults files.old ≤ F.faults files.new }
+    ensures nothing_sent { IsOfLoading result.refusal → SendsNothing result }
+    ensures quiet_loading { IsOfLoading result.refusal → O.written out.new ≡ O.written out.old }
+
+    ensures dial { result.refusal ≡ Some (Refusal.Outside Part.Plug)
+        → SendsNothing result × Rose (P.faults plug.old) (P.faults plug.new) }
+    ensures dialled { CountsHands (P.dialled plug.old) (P.dialled plug.new) (length result.hands) }
+    ensures unbegun { result.journal ≡ [] → IsUnbegun result.refusal }
+    ensures quiet_unbegun { result.journal ≡ [] → O.written out.new ≡ O.written out.old }
+    ensures unsent { result.journal ≡ [] → (hand : P.Hand) → Among result.hands hand
+        → P.Hand.log hand ≡ [] }
+    ensures ran { IfBegun result.journal (ForDeclared (F.told files.old)
+        asked.now.options.command asked.now.project (λ declared. RunsWhole
+        (λ h. P.Hand.log h) (λ h. P.Hand.heard h) (λ h. P.Hand.faults h) (λ h. P.Hand.engine h)
+        (P.engine plug.old) (task_of declared (aim_of aim) one_worker) result
+        (O.written out.old) (O.written out.new) (O.faults out.old) (O.faults out.new))) }
+    ensures status { result.status ≡ status_of result.refusal }
+    ensures line { SaysRefusal result.refusal (G.written err.old) (G.written err.new)
+        (G.faults err.old) (G.faults err.new) }
+    ensures quiet { result.refusal ≡ Some (Refusal.Outside Part.Plug)
+        → O.written out.new ≡ O.written out.old }
+{
+    match declared_asked(alloc, &asked.options.command, &asked.project, files) {
+        Ok(declared) => {
+            let target = target_asked(alloc, &asked.options, env, cwd);
+            run_declared(alloc, &declared, aim, target, plug, out, err)
+        }
+        Err(refusal) => refused(alloc, refusal, err),
+    }
+}

@@ -1,8 +1,0 @@
--- The text of two members.
-use Rattle.std.proofs.Common.{rules}
-use Rattle.serde_json.proofs.OnLiterals.{serde_json_on_literals}
-use Rattle.identity.proofs.hash.attributes_text.Goals as goal
-
-pub returns : goal.returns
-unfolding serde_json_on_literals
-returns c = search rules

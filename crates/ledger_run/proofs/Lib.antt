@@ -1,0 +1,10 @@
+pub mod Stepping
+pub mod Calm
+pub mod Timing
+pub mod Coming
+pub mod Leaving
+pub mod Heeding
+pub mod Doing
+pub mod Underway
+pub mod Turning
+pub mod Ending

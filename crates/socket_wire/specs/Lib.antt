@@ -1,0 +1,3 @@
+pub mod ClocksOfSockets
+pub mod PipesOfSockets
+pub mod WiresOfSockets
