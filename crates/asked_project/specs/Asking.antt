@@ -14,19 +14,19 @@ use Rattle.tree_base.specs.Answers.{◌>>=◌}
 abbrev pub Variables : Type 0
 Variables = List (List ℕ × List ℕ)
 
--- a command that is built, with its own options
+-- a command that is built, with all its options
 abbrev pub is_built_command : Command → Bool
 is_built_command (Command.Config json quiet) = true
-is_built_command (Command.Up orphans wait seconds scale) = not wait && is_none seconds
-is_built_command (Command.Down orphans volumes seconds) = is_none seconds
+is_built_command (Command.Up orphans wait seconds scale) = true
+is_built_command (Command.Down orphans volumes seconds) = true
 is_built_command (Command.Simulate number) = false
 is_built_command Command.Wait = false
 is_built_command Command.Logs = false
 is_built_command (Command.EngineSim connections) = false
 
--- all is built that options ask for: the command, and no file stops it
+-- all is built that options ask for
 abbrev pub are_built : Options → Bool
-are_built options = is_none options.stop_file && is_built_command options.command
+are_built options = is_built_command options.command
 
 -- what options are refused with that read well: something of them isn't built, or they use a variable that names no Engine
 abbrev pub options_refusal : Variables → Options → Option Refusal

@@ -58,21 +58,17 @@ fn options_refusal(options: &Options, env: &Env) -> Option<Refusal>
 fn are_built(options: &Options) -> bool
     ensures { result ≡ are_built options.now }
 {
-    options.stop_file.is_none() && is_built_command(&options.command)
+    is_built_command(&options.command)
 }
 
-/// Whether a command is built, with its own options.
+/// Whether a command is built, with all its options.
 fn is_built_command(command: &Command) -> bool
     ensures { result ≡ is_built_command command.now }
 {
     match command {
         Command::Config { .. } => true,
-        Command::Up {
-            wait,
-            wait_seconds,
-            ..
-        } => !*wait && wait_seconds.is_none(),
-        Command::Down { seconds, .. } => seconds.is_none(),
+        Command::Up { .. } => true,
+        Command::Down { .. } => true,
         Command::Simulate { .. } => false,
         Command::Wait => false,
         Command::Logs => false,

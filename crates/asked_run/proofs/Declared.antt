@@ -10,6 +10,7 @@ use Rattle.compose_words.specs.declared.options.Scale.{Scale}
 use Rattle.declared_laws.proofs.OwnSpecs.{declares_own}
 use Rattle.declared_laws.proofs.Whole.{declares_whole}
 use Rattle.declared_laws.specs.Laws.{AreNumbered}
+use Rattle.declared_orders.proofs.Circles.{none_declared}
 use Rattle.declared_set.specs.Declaring.{declared, declared_of, unless_refused}
 use Rattle.declared_set.specs.Declaring as declaring
 use Rattle.declared_set.specs.Refusing.{refusal_of}
@@ -19,11 +20,13 @@ use Rattle.file_digests.specs.Digests.{Given}
 use Rattle.file_digests.specs.declared.DigestRefusal.{DigestRefusal}
 use Rattle.outside_files.specs.Counts.{Rose}
 use Rattle.outside_files.specs.Files.{Contents}
+use Rattle.plan_core.specs.Order.{HasNoCycle}
 use Rattle.refusals.specs.Origins.{digest_refusal, identity_refusal}
 use Rattle.refusals.specs.Refused.{is_failed_digest, is_free_of_declaring, wants_memory}
 use Rattle.refusals.specs.declared.Refusal.{Refusal}
 use Rattle.refusals.specs.declared.Unbuilt.{Unbuilt}
 use Rattle.run_model.specs.Plans.{IsWhole}
+use Rattle.service_graph.specs.Cycles.{cycle}
 use Rattle.service_hashes.specs.declared.digest.FileDigest.{FileDigest}
 use Rattle.tree_base.specs.Answers.{◌>>=◌, Fails, Gives, Unless}
 use Rattle.typed_project.specs.Projects.{IsInOrder}
@@ -74,6 +77,9 @@ module _ (project : Project) (scales : List Scale) (digests : List FileDigest) (
 
   pub set_own : AreNumbered scales project.services → declared project scales digests ≡ Ok given → HasOwnSpecs given
   set_own numbered e = subst HasOwnSpecs (set_is project scales digests given e) (declares_own project scales digests numbered)
+
+  pub set_acyclic : IsInOrder project.services → cycle project.services ≡ None → declared project scales digests ≡ Ok given → HasNoCycle given
+  set_acyclic order none e = subst HasNoCycle (set_is project scales digests given e) (none_declared project scales digests order none)
 
   -- a set that was declared is built or not
   pub gives_built : (result : Result Declared Refusal) → declared project scales digests ≡ Ok given → result ≡ built_or_not given

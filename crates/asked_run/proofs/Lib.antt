@@ -1,3 +1,3 @@
 pub mod Declared
 pub mod Told
-pub mod Waiting
+pub mod Rolling

@@ -7,12 +7,12 @@ use Rattle.compose_words.specs.declared.Command.{Command}
 use Rattle.engine_types.specs.declared.Declared.{Declared}
 use Rattle.file_digests.specs.Digests.{Given}
 use Rattle.outside_files.specs.Files.{Contents}
-use Rattle.serial_run.specs.Serial.{WaitsForNone}
+use Rattle.project_run.specs.Options.{RollsNone}
 use Rattle.typed_project.specs.declared.project.Project.{Project}
 
--- runs are built of exactly the sets in which nothing waits for anything else
-abbrev pub BuiltSetsWaitForNone : Type 0
-BuiltSetsWaitForNone = (declared : Declared) → (is_built declared ≡ true) ↔ WaitsForNone declared
+-- runs are built of exactly the sets in which no service is to be replaced a few slots at a time
+abbrev pub BuiltSetsRollNone : Type 0
+BuiltSetsRollNone = (declared : Declared) → (is_built declared ≡ true) ↔ RollsNone declared
 
 -- what true answers of reads give of the digests is what the files have, or a read failed or wanted memory
 abbrev pub ToldFilesHaveDigests : Type 0

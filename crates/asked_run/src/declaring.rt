@@ -1,12 +1,14 @@
-ghost use Rattle.std.specs.Prelude.{◌≡◌, ◌≤◌, ℕ, List, Err, false, IfErr, IfOk, IfSome};
+ghost use Rattle.std.specs.Prelude.{◌≡◌, ◌≤◌, ℕ, List, Err, None, false, IfErr, IfOk, IfSome};
 ghost use Rattle.asked_run.specs.Declaring.{Declares, DeclaresAs, IsDeclared, IsFailedDigest, declared_from, declared_in, declared_with, scales_of};
 ghost use Rattle.declared_laws.specs.Laws.{AreNumbered};
 ghost use Rattle.file_digests.specs.declared.DigestRefusal.{DigestRefusal};
+ghost use Rattle.plan_core.specs.Order.{HasNoCycle};
+ghost use Rattle.project_run.specs.Options.{RollsNone};
 ghost use Rattle.refusals.specs.Origins.{IsOfDeclaring};
 ghost use Rattle.refusals.specs.Refused.{is_failed_digest, wants_memory};
 ghost use Rattle.refusals.specs.declared.Refusal.{Refusal};
 ghost use Rattle.run_model.specs.Plans.{IsWhole};
-ghost use Rattle.serial_run.specs.Serial.{WaitsForNone};
+ghost use Rattle.service_graph.specs.Cycles.{cycle};
 ghost use Rattle.tree_base.specs.Answers.{Gives};
 ghost use Rattle.typed_project.specs.DistinctNames.{IsKeyed};
 ghost use Rattle.world_laws.specs.OwnSpecs.{HasOwnSpecs};
@@ -26,8 +28,8 @@ use typed_project::Project;
 
 /// What a project declares of the Engine for a command: by the numbers of `--scale`, and by the digests of the files of
 /// its configs and secrets, which `up` reads. The refusals, in their order: those of digests; those of what is declared,
-/// `UnknownScale`, `TooManyNeeds` and `NameTwice`; and `NotBuilt(Run)` where something that is declared waits for anything
-/// else, which no run does yet.
+/// `UnknownScale`, `TooManyNeeds` and `NameTwice`; and `NotBuilt(Run)` where a service is to be replaced a few slots at a
+/// time, which no run does yet. The project's services don't depend on one another in a circle.
 pub fn declared_asked<F: Files>(
     alloc: Global,
     command: &Command,
@@ -35,6 +37,7 @@ pub fn declared_asked<F: Files>(
     files: &mut F,
 ) -> Result<Declared, Refusal>
     requires keyed { IsKeyed project.now }
+    requires acyclic { cycle project.now.services ≡ None }
 
     // It is what the project declares by the digests that some answers of reads give, or the refusal that these give.
     ensures given { (result ≡ Err Refusal.Memory → ⊥)
@@ -44,10 +47,12 @@ pub fn declared_asked<F: Files>(
     ensures declared { IfOk result (λ declared.
         IsDeclared (F.told files.old) command.now project.now declared) }
 
-    // It is whole, what is sent for each slot is made for it, and nothing of it waits for anything else.
+    // It is whole, what is sent for each slot is made for it, no service is replaced a few slots at a time, and neither slots
+    // nor services need one another in a circle.
     ensures whole { IfOk result IsWhole }
     ensures own { IfOk result HasOwnSpecs }
-    ensures unconditional { IfOk result WaitsForNone }
+    ensures unrolled { IfOk result RollsNone }
+    ensures acyclic { IfOk result HasNoCycle }
 
     // A read that failed is one that the command asks a digest of, and was counted.
     ensures read { (path : List ℕ) → result ≡ Err (Refusal.Digest (DigestRefusal.ReadFault path))
@@ -76,10 +81,12 @@ fn declared_with(
     digests: &[FileDigest],
 ) -> Result<Declared, Refusal>
     requires keyed { IsKeyed project.now }
+    requires acyclic { cycle project.now.services ≡ None }
     ensures told { Gives wants_memory result (declared_with command.now project.now digests.now) }
     ensures whole { IfOk result IsWhole }
     ensures own { IfOk result HasOwnSpecs }
-    ensures unconditional { IfOk result WaitsForNone }
+    ensures unrolled { IfOk result RollsNone }
+    ensures acyclic { IfOk result HasNoCycle }
     ensures read { IfErr result (λ refusal. is_failed_digest refusal ≡ false) }
     ensures kind { IfErr result IsOfDeclaring }
 {
@@ -99,11 +106,13 @@ fn declared_in(
     digests: &[FileDigest],
 ) -> Result<Declared, Refusal>
     requires keyed { IsKeyed project.now }
+    requires acyclic { cycle project.now.services ≡ None }
     requires numbered { AreNumbered scales.now project.now.services }
     ensures told { Gives wants_memory result (declared_in scales.now project.now digests.now) }
     ensures whole { IfOk result IsWhole }
     ensures own { IfOk result HasOwnSpecs }
-    ensures unconditional { IfOk result WaitsForNone }
+    ensures unrolled { IfOk result RollsNone }
+    ensures acyclic { IfOk result HasNoCycle }
     ensures read { IfErr result (λ refusal. is_failed_digest refusal ≡ false) }
     ensures kind { IfErr result IsOfDeclaring }
 {

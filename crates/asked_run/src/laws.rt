@@ -1,8 +1,9 @@
-ghost use Rattle.asked_run.specs.Laws.{BuiltSetsWaitForNone, ToldFilesHaveDigests};
+ghost use Rattle.asked_run.specs.Laws.{BuiltSetsRollNone, ToldFilesHaveDigests};
 
-/// The law that runs are built of exactly those declared sets in which nothing waits for anything else. Nothing runs.
-pub fn built_sets_wait_for_none()
-    ensures { BuiltSetsWaitForNone }
+/// The law that runs are built of exactly those declared sets in which no service is to be replaced a few slots at a time.
+/// Nothing runs.
+pub fn built_sets_roll_none()
+    ensures { BuiltSetsRollNone }
 {}
 
 /// The law that files which tell what they hold have one list of digests, or one first refusal of these, but for a read that

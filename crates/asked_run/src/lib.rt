@@ -2,7 +2,7 @@
 //!
 //! The contract of `declared_asked` says the declared set, or the first refusal, by the project, the numbers of `--scale` and
 //! the files: of a digest, of what is declared, or of a run that isn't built yet. What it gives is whole, what is sent for each
-//! slot is made for it, and nothing of it waits for anything else.
+//! slot is made for it, no service is replaced a few slots at a time, and nothing goes in a circle.
 #![tactic(auto)]
 
 mod built;
@@ -11,4 +11,4 @@ mod digests;
 mod laws;
 
 pub use declaring::declared_asked;
-pub use laws::{built_sets_wait_for_none, told_files_have_digests};
+pub use laws::{built_sets_roll_none, told_files_have_digests};

@@ -1,5 +1,5 @@
 -- A declared set that passes the test is whole, and nothing in it waits for anything else.
-use Rattle.std.proofs.Common.{◌≡◌, ℕ, zero, suc, ◌<◌, Bool, true, false, ◌&&◌, List, [], ◌∷◌, Option, None, Some, length, slice_get, nat_lt, refl, sym, ◌∙◌, subst, arith}
+use Rattle.std.proofs.Common.{◌≡◌, ℕ, zero, suc, ◌<◌, Bool, true, false, ◌&&◌, List, [], ◌∷◌, Option, None, Some, length, slice_get, nat_lt, refl, sym, ◌∙◌, subst, inl, inr, arith}
 use Rattle.std.specs.List.{list_all}
 use Rattle.std.specs.Prelude.{is_none}
 use Rattle.std.proofs.lemmas.Bool.{and_parts, ltb-true}
@@ -8,11 +8,11 @@ use Rattle.engine_types.specs.declared.Declared.{Declared}
 use Rattle.engine_types.specs.declared.DeclaredService.{DeclaredService}
 use Rattle.engine_types.specs.declared.Need.{Need}
 use Rattle.engine_types.specs.declared.Slot.{Slot}
+use Rattle.plan_core.specs.Order.{HasNoCycle}
+use Rattle.project_run.specs.Options.{RollsNone}
 use Rattle.run_model.specs.EngineRules.{Among}
 use Rattle.run_model.specs.Plans.{IsWhole, is_running, is_slot_before}
 use Rattle.tree_base.specs.ByteOrder.{IsAscending, is_before}
-use Rattle.serial_run.proofs.Lists.{all_each}
-use Rattle.serial_run.specs.Serial.{WaitsForNone}
 use Rattle.cases_runs.specs.Whole.{are_served, is_alone, is_ascending, is_attached, is_nil, is_owned, is_serial, is_served, stand_alone}
 
 module _ {X : Type 0} where
@@ -30,6 +30,16 @@ module _ {X : Type 0} where
   ascends before (z ∷ zs) rises (suc i) zero x y l e f = absurd (omega (arith, l))
   ascends before (z ∷ zs) rises (suc i) (suc j) x y l e f =
       ascends before zs (and_parts (list_all (before z) zs) (is_ascending before zs) rises).1 i j x y (omega (arith, l)) e f
+
+  all_each : (p : X → Bool) (xs : List X) (x : X) → list_all p xs ≡ true → Among xs x → p x ≡ true
+  all_each p [] x all among = absurd among
+  all_each p (y ∷ ys) x all (inl same) = rw same ((and_parts (p y) (list_all p ys) all).0)
+  all_each p (y ∷ ys) x all (inr among) = all_each p ys x (and_parts (p y) (list_all p ys) all).1 among
+
+  at_among : (xs : List X) (s : ℕ) (x : X) → slice_get xs s ≡ Some x → Among xs x
+  at_among [] s x e = absurd (cc e)
+  at_among (y ∷ ys) zero x e = let same : y ≡ x = cc e in inl (sym same)
+  at_among (y ∷ ys) (suc s) x e = inr (at_among ys s x e)
 
   nil_of : (xs : List X) → is_nil xs ≡ true → xs ≡ []
   nil_of [] e = refl
@@ -79,17 +89,26 @@ module _ (declared : Declared) (serial : is_serial declared ≡ true) where
   alone : (service : DeclaredService) → Among declared.services service → (is_nil service.depends_on ≡ true) × (is_none service.roll ≡ true)
   alone service among = and_parts (is_nil service.depends_on) (is_none service.roll) (all_each is_alone declared.services service tests.six among)
 
-  -- nothing in it waits for anything else
-  pub needs_none : WaitsForNone declared
-  needs_none = record {
-    slots = no_needs;
-    services = λ service among. nil_of service.depends_on (alone service among).0;
-    rolls = λ service among. none_of service.roll (alone service among).1;
-  }
+  -- no service of it is replaced a few slots at a time
+  pub unrolled : RollsNone declared
+  unrolled service among = none_of service.roll (alone service among).1
+
+  no_dependency : {P : Type 0} (service : DeclaredService) (key : List ℕ) → Among declared.services service → Among service.depends_on key → P
+  no_dependency service key among depended =
+      let none : Among [] key = subst (λ (keys : List (List ℕ)). Among keys key) (nil_of service.depends_on (alone service among).0) depended in absurd none
 
   no_need : {P : Type 0} (slot : Slot) (need : Need) → Among declared.slots slot → Among slot.needs need → P
   no_need slot need among needed =
       let none : Among [] need = subst (λ (needs : List Need). Among needs need) (no_needs slot among) needed in absurd none
+
+  -- nothing in it needs anything else, and so nothing in a circle
+  pub acyclic : HasNoCycle declared
+  acyclic = record {
+    rank = λ s. 0;
+    falls = λ s slot need at needed. no_need slot need (at_among declared.slots s slot at) needed;
+    height = λ key. 0;
+    sinks = no_dependency;
+  }
 
   attached_within : (slot : Slot) (attach : Attach) → Among declared.slots slot → Among slot.attach attach → attach.network < length declared.networks
   attached_within slot attach among joined =

@@ -6,8 +6,16 @@ pub fn inputs_of(call: &str) -> Option<&'static [&'static str]> {
     match call {
         "serve" => Some(&["engine"]),
         "plan" => Some(&["declared", "seen", "orphans", "volumes"]),
-        "ending" => Some(&["declared", "seen", "plan"]),
-        "run" => Some(&["declared", "engine", "orphans", "volumes"]),
+        "ending" => Some(&["declared", "seen", "plan", "wait"]),
+        "run" => Some(&[
+            "declared",
+            "engine",
+            "orphans",
+            "volumes",
+            "wait",
+            "wait_seconds",
+            "stop_seconds",
+        ]),
         "exact" => Some(&["engine"]),
         "membership" => Some(&["project", "image", "container"]),
         "refusal" => Some(&[]),

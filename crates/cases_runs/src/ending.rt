@@ -1,7 +1,3 @@
-ghost use Rattle.std.specs.Prelude.{◌≡◌, false};
-ghost use Rattle.std.specs.List.{list_any};
-ghost use Rattle.run_report.specs.Permits.{is_poll};
-
 use crate::planning::{declared_at, seen_at};
 use case_files::{Answers, Fields};
 use cases_messages::request_line;
@@ -12,29 +8,20 @@ use run_report::{fault, report};
 use run_requests::Run;
 
 /// What a journal of a plan for what is declared and seen ends with: its `status`, its `report`, the line of its `fault`
-/// (null where there is none), and the request that failed, `asked`. It has no polls.
+/// (null where there is none), and the request that failed, `asked`. With `wait` its run waits for goals.
 pub(crate) fn ending(fields: &Fields, answers: &mut Answers) {
     let reading = &mut answers.reading;
     let declared = declared_at(reading, fields);
     let seen = seen_at(reading, fields, &declared.project);
     let plan = plan_of(reading, fields, "plan");
     let journal = journal_of(reading, fields, "ending");
-    let run = Run::of_one_worker(&declared, &seen, &plan);
-    put_end(&run, journal.as_slice(), answers);
+    let mut run = Run::of_one_worker(&declared, &seen, &plan);
+    run.limits.wait = reading.flag(fields, "wait");
+    put_report(&run, journal.as_slice(), answers);
+    put_found(&run, journal.as_slice(), answers);
     drop(declared);
     drop(seen);
     drop(plan);
-}
-
-fn put_end(run: &Run<'_>, journal: &[Entry], answers: &mut Answers) {
-    if has_poll(journal) {
-        answers
-            .reading
-            .refuse("a journal of one worker has no poll");
-    } else {
-        put_report(run, journal, answers);
-        put_found(run, journal, answers);
-    }
 }
 
 fn put_report(run: &Run<'_>, journal: &[Entry], answers: &mut Answers) {
@@ -43,26 +30,11 @@ fn put_report(run: &Run<'_>, journal: &[Entry], answers: &mut Answers) {
 }
 
 /// Puts the fault of a journal.
-fn put_found(run: &Run<'_>, journal: &[Entry], answers: &mut Answers)
-    requires { list_any is_poll journal.now ≡ false }
-{
+fn put_found(run: &Run<'_>, journal: &[Entry], answers: &mut Answers) {
     let found = fault(answers.reading.alloc, run, journal);
     if let Some(fault) = answers.reading.made(found) {
         put_fault(fault, answers);
     }
-}
-
-/// Whether an entry is a poll.
-fn has_poll(journal: &[Entry]) -> bool
-    ensures { result ≡ list_any is_poll journal.now }
-{
-    journal.iter().any(is_poll)
-}
-
-fn is_poll(entry: &Entry) -> bool
-    ensures { result ≡ is_poll entry.now }
-{
-    matches!(entry, Entry::Poll { .. })
 }
 
 /// Puts what a fault says: its status, the request that failed, and its line.

@@ -1,7 +1,8 @@
 ghost use Rattle.std.specs.Prelude.{◌≡◌, true};
 ghost use Rattle.std.specs.List.{list_all};
+ghost use Rattle.plan_core.specs.Order.{HasNoCycle};
+ghost use Rattle.project_run.specs.Options.{RollsNone};
 ghost use Rattle.run_model.specs.Plans.{IsWhole, is_slot_before};
-ghost use Rattle.serial_run.specs.Serial.{WaitsForNone};
 ghost use Rattle.tree_base.specs.ByteOrder.{is_before};
 ghost use Rattle.cases_runs.specs.Whole.{are_served, is_alone, is_ascending, is_attached, is_nil, is_owned, is_served, is_serial, stand_alone};
 
@@ -12,7 +13,8 @@ use tree_base::Text;
 /// memory.
 pub(crate) fn is_serial(declared: &Declared) -> bool
     ensures whole { result ≡ true → IsWhole declared.now }
-    ensures unconditional { result ≡ true → WaitsForNone declared.now }
+    ensures unrolled { result ≡ true → RollsNone declared.now }
+    ensures acyclic { result ≡ true → HasNoCycle declared.now }
 {
     passes(declared)
 }

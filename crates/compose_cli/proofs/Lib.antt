@@ -2,4 +2,5 @@ pub mod Ending
 pub mod Ran
 pub mod Declaring
 pub mod Reachable
+pub mod Circles
 pub mod Statuses

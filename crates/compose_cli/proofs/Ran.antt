@@ -5,11 +5,12 @@ use Rattle.std.specs.Option.{option_map_or}
 use Rattle.engine_types.specs.declared.Declared.{Declared}
 use Rattle.engine_types.specs.declared.Engine.{Engine}
 use Rattle.engine_types.specs.declared.RunFault.{RunFault}
+use Rattle.engine_types.specs.declared.RunLimits.{RunLimits}
 use Rattle.asked_project.specs.Asking.{Variables, command_of}
 use Rattle.asked_project.specs.Meaning.{IsSpelled, MeansAs, meaning}
 use Rattle.asked_project.specs.declared.Asked.{Asked}
 use Rattle.asked_run.specs.Declaring.{ForDeclared}
-use Rattle.compose_cli.specs.Runs.{ForTask, HoldsExactly, HoldsNone, IfRuns, IsCausedAnew, IsRefusalOf, IsStatusOf, IsUnbegun, LeadsOn, MovesEngine, Reports, RunsTask, RunsWhole, aim_asked, aim_for, run_options}
+use Rattle.compose_cli.specs.Runs.{ForTask, HoldsExactly, HoldsNone, IfRuns, IsCausedAnew, IsRefusalOf, IsStatusOf, IsUnbegun, LeadsOn, MovesEngine, Reports, RunsTask, RunsWhole, aim_asked, aim_for, first_reading, options_for}
 use Rattle.engine_types.specs.declared.Entry.{Entry}
 use Rattle.engine_types.specs.declared.Exchange.{Exchange}
 use Rattle.compose_config.proofs.Loads.{for_project}
@@ -17,8 +18,11 @@ use Rattle.compose_config.specs.Commands.{ForProject}
 use Rattle.compose_words.specs.declared.Command.{Command}
 use Rattle.outside_files.specs.Files.{Contents}
 use Rattle.outside_api.specs.Accounts.{Account, account}
+use Rattle.outside_api.specs.Clock.{Clock, new_clock}
 use Rattle.outside_api.specs.Hands.{BeginsWith, Heard, HeardNothing}
 use Rattle.outside_files.specs.Sinks.{GrewBy}
+use Rattle.project_run.specs.Options.{aim_of, options_of}
+use Rattle.project_run.specs.Timing.{IsTimed}
 use Rattle.project_run.specs.Whole.{IfBegun, IsCaused, IsFault, IsReport, SparesKept, task_of}
 use Rattle.project_run.specs.Worlds.{EndsExact, EndsGone, GoesThrough}
 use Rattle.refusals.specs.Origins.{IsOfRun, run_refusal}
@@ -30,11 +34,11 @@ use Rattle.run_model.specs.Ending.{fault_status}
 use Rattle.run_model.specs.Logs.{GrowsBy}
 use Rattle.run_model.specs.Observation.{is_up}
 use Rattle.run_model.specs.Plans.{Aim}
-use Rattle.run_model.specs.Runs.{IsLeftByAll, IsRun, IsWorldOfRun, Task, limits_of, run_exchanges, run_fault, run_report}
+use Rattle.run_model.specs.Runs.{IsLeftByAll, IsRun, IsWorldOfRun, RunOptions, Task, limits_of, run_exchanges, run_fault, run_report}
 use Rattle.run_model.specs.Worlds.{Move}
-use Rattle.serial_run.specs.Serial.{aim_of}
 use Rattle.typed_project.specs.declared.project.Project.{Project}
-use Rattle.serial_run.specs.declared.plan_aim as given
+use Rattle.project_run.specs.declared.plan_aim as given
+use Rattle.project_run.specs.declared.options as asked_options
 use Rattle.refusals.specs.Saying.{IsSaid, IsSaidIfAny}
 use Rattle.outside_files.specs.Writing.{Says, Wrote}
 use Rattle.refusals.proofs.Said.{said, unsaid}
@@ -188,9 +192,9 @@ pub if_begun_in : (journal : List Entry) {A R : Type 0} → IfBegun journal A �
 if_begun_in [] a f = tt
 if_begun_in (entry ∷ rest) a f = f (λ B b. b) a
 
-if_begun_of : (journal : List Entry) {A B C D R : Type 0} → IfBegun journal A → IfBegun journal B → IfBegun journal C → IfBegun journal D → (A → B → C → D → R) → IfBegun journal R
-if_begun_of [] a b c d f = tt
-if_begun_of (entry ∷ rest) a b c d f = f a b c d
+if_begun_of : (journal : List Entry) {A B C D E R : Type 0} → IfBegun journal A → IfBegun journal B → IfBegun journal C → IfBegun journal D → IfBegun journal E → (A → B → C → D → E → R) → IfBegun journal R
+if_begun_of [] a b c d e f = tt
+if_begun_of (entry ∷ rest) a b c d e f = f a b c d e
 
 -- a run of which nothing is refused went well
 unrefused : (fault : Option RunFault) (old new : ℕ) (refusal : Option Refusal) → IsRefusalOf fault old new refusal → refusal ≡ None → fault ≡ None
@@ -203,15 +207,15 @@ pub went_well : (fault : Option RunFault) (old new : ℕ) (refusal found : Optio
 went_well fault old new refusal found r h e = unrefused fault old new refusal r (unsaid refusal found h e)
 
 -- what a call leaves, by what its run left
-pub runs_task : {H : Type 0} (log : H → List Exchange) (heard : H → Option (List Heard)) (faults : H → ℕ) (task : Task) (journal : List Entry) (hands : List H) (status : ℕ) (report : List ℕ)
+pub runs_task : {H : Type 0} (log : H → List Exchange) (heard : H → Option (List Heard)) (faults : H → ℕ) (clock : H → Clock) (task : Task) (journal : List Entry) (hands : List H) (status : ℕ) (report : List ℕ)
     (fault : Option RunFault) (refusal found : Option Refusal) (hand after : H) (written_old written_new : Option (List ℕ)) (old new : ℕ)
-    → task.limits.workers ≡ 1 → IfBegun journal (IsRun task journal) → IfBegun journal (IsLeftByAll task journal) → IfBegun journal (GrowsBy (run_exchanges task journal 0) (log hand) (log after)) → IfBegun journal (IsFault (run_fault task journal) fault)
+    → task.limits.workers ≡ 1 → IfBegun journal (IsRun task journal) → IfBegun journal (IsLeftByAll task journal) → IfBegun journal (GrowsBy (run_exchanges task journal 0) (log hand) (log after)) → IfBegun journal (IsFault (run_fault task journal) fault) → IfBegun journal (IsTimed task journal 0 (clock hand) (clock after))
     → IsReport (run_report task journal) fault report → IsCaused task journal 0 (account (log hand) (heard hand) (faults hand)) (account (log after) (heard after) (faults after))
     → (is_up task.aim.purpose ≡ true → SparesKept task journal) → (fault ≡ None → is_up task.aim.purpose ≡ true → EndsExact task journal)
-    → (fault ≡ None → is_up task.aim.purpose ≡ false → EndsGone task journal) → log hand ≡ [] → HeardNothing (heard hand) → faults hand ≡ 0 → hands ≡ after ∷ [] → IsRefusalOf fault old new refusal → Says report written_old written_new old new → IsSaidIfAny refusal found
-    → IfBegun journal (RunsTask log heard faults task (record { status = status; journal = journal; hands = hands; refusal = found }) written_old written_new old new)
-runs_task log heard faults task journal hands status report fault refusal found hand after written_old written_new old new worker is left grows told reports causes spares ends lacks unused unheard faultless one refused says is_said =
-    if_begun_of journal is left grows told (λ run all_left grown is_fault. record {
+    → (fault ≡ None → is_up task.aim.purpose ≡ false → EndsGone task journal) → log hand ≡ [] → clock hand ≡ new_clock → HeardNothing (heard hand) → faults hand ≡ 0 → hands ≡ after ∷ [] → IsRefusalOf fault old new refusal → Says report written_old written_new old new → IsSaidIfAny refusal found
+    → IfBegun journal (RunsTask log heard faults clock task (record { status = status; journal = journal; hands = hands; refusal = found }) written_old written_new old new)
+runs_task log heard faults clock task journal hands status report fault refusal found hand after written_old written_new old new worker is left grows told times reports causes spares ends lacks unused unread unheard faultless one refused says is_said =
+    if_begun_of journal is left grows told times (λ run all_left grown is_fault is_timed. record {
       run = run;
       left = all_left;
       hands = ap length one ∙ sym worker;
@@ -222,6 +226,9 @@ runs_task log heard faults task journal hands status report fault refusal found 
           subst (λ (n : ℕ). IsCausedAnew task journal n (account (log other) (heard other) (faults other))) (sym only.0)
           (subst (λ (h : _). IsCausedAnew task journal 0 (account (log h) (heard h) (faults h))) (sym only.1)
           (caused_anew task journal 0 (log hand) (heard hand) (faults hand) (account (log after) (heard after) (faults after)) unused unheard faultless causes));
+      timed = λ w other m. let only = only_at hands after other w one m in
+          subst (λ (n : ℕ). IsTimed task journal n new_clock (clock other)) (sym only.0) (subst (λ (h : _). IsTimed task journal 0 new_clock (clock h)) (sym only.1)
+          (subst (λ (c : Clock). IsTimed task journal 0 c (clock after)) unread is_timed));
       refused = refused_by old new (run_fault task journal) fault refusal found is_fault refused is_said;
       reported = reports_by old new (run_report task journal) report fault refusal found written_old written_new reports says refused is_said;
       spares = spares;
@@ -293,22 +300,28 @@ declared_weaker None command project P Q h k = (h.0, h.1, k h.0 h.2)
 declared_weaker (Some contents) command project P Q h k = (h.0, h.1, k h.0 h.2)
 
 -- a fact on the task that the words ask for, from one on what the project that was asked for declares, as the files tell it later
-pub task_by : (words : List (List ℕ)) (env : Variables) (cwd : List ℕ) (told later : Option Contents) (first : ℕ) (aim : Aim) (asked : Asked) (Whole Fact : Task → Type 0) → later ≡ told
-    → command_of words env ≡ Some asked.options.command → aim_for asked.options.command ≡ Some aim
+pub task_by : (words : List (List ℕ)) (env : Variables) (cwd : List ℕ) (told later : Option Contents) (first : ℕ) (aim : Aim) (bounds : RunOptions) (asked : Asked) (Whole Fact : Task → Type 0) → later ≡ told
+    → command_of words env ≡ Some asked.options.command → aim_for asked.options.command ≡ Some aim → bounds ≡ options_for asked.options.command
     → IfSome told (λ contents. MeansAs (meaning words env cwd contents) (Ok asked)) → IsSpelled words env cwd told asked.project
-    → ForDeclared later asked.options.command asked.project (λ declared. Whole (task_of declared aim (limits_of run_options first)))
+    → ForDeclared later asked.options.command asked.project (λ declared. Whole (task_of declared aim (limits_of bounds first)))
     → ((task : Task) → Whole task → Fact task) → ForTask words env cwd told first Fact
-task_by words env cwd told later first aim asked Whole Fact same is runs means spelled whole weaker =
-    let now : ForDeclared told asked.options.command asked.project (λ declared. Whole (task_of declared aim (limits_of run_options first))) =
-    subst (λ (t : Option Contents). ForDeclared t asked.options.command asked.project (λ declared. Whole (task_of declared aim (limits_of run_options first)))) same whole in
-    let fact : ForDeclared told asked.options.command asked.project (λ declared. Fact (task_of declared aim (limits_of run_options first))) =
-    declared_weaker told asked.options.command asked.project (λ declared. Whole (task_of declared aim (limits_of run_options first))) (λ declared. Fact (task_of declared aim (limits_of run_options first)))
-    now (λ declared h. weaker (task_of declared aim (limits_of run_options first)) h) in
-    rw is (rw runs (for_project words env cwd told asked (λ p. ForDeclared told asked.options.command p (λ declared. Fact (task_of declared aim (limits_of run_options first)))) means spelled fact))
+task_by words env cwd told later first aim bounds asked Whole Fact same is runs bound means spelled whole weaker =
+    let now : ForDeclared told asked.options.command asked.project (λ declared. Whole (task_of declared aim (limits_of bounds first))) =
+    subst (λ (t : Option Contents). ForDeclared t asked.options.command asked.project (λ declared. Whole (task_of declared aim (limits_of bounds first)))) same whole in
+    let fact : ForDeclared told asked.options.command asked.project (λ declared. Fact (task_of declared aim (limits_of bounds first))) =
+    declared_weaker told asked.options.command asked.project (λ declared. Whole (task_of declared aim (limits_of bounds first))) (λ declared. Fact (task_of declared aim (limits_of bounds first)))
+    now (λ declared h. weaker (task_of declared aim (limits_of bounds first)) h) in
+    rw is (rw runs (for_project words env cwd told asked (λ p. ForDeclared told asked.options.command p (λ declared. Fact (task_of declared aim (limits_of (options_for asked.options.command) first)))) means spelled
+    (subst (λ (o : RunOptions). ForDeclared told asked.options.command asked.project (λ declared. Fact (task_of declared aim (limits_of o first)))) bound fact)))
 
 -- what a command's run is for, by the call that found it
 pub aims : (command : Command) (found : Option given.Aim.Aim) (aim : given.Aim.Aim) → option_map aim_of found ≡ aim_for command → found ≡ Some aim → aim_for command ≡ Some (aim_of aim)
 aims command found aim finds e = sym finds ∙ ap (option_map aim_of) e
+
+-- a fact within the limits that the only hand's first reading sets is one within those that all hands' do
+pub within : {H : Type 0} (clock : H → Clock) (options : asked_options.RunOptions.RunOptions) (hands : List H) (after : H) (Fact : RunLimits → Type 0) → hands ≡ after ∷ []
+    → Fact (limits_of (options_of options) (clock after).first) → Fact (limits_of (options_of options) (first_reading clock hands))
+within clock options hands after Fact one fact = subst (λ (hs : List _). Fact (limits_of (options_of options) (first_reading clock hs))) (sym one) fact
 
 -- what the words' run is for, by the calls that found it
 pub asked : (words : List (List ℕ)) (env : Variables) (command : Command) (found : Option given.Aim.Aim) (aim : given.Aim.Aim) → command_of words env ≡ Some command → option_map aim_of found ≡ aim_for command → found ≡ Some aim
@@ -326,7 +339,7 @@ idle words env Fact none = subst (λ (aim : Option Aim). IfSome aim Fact) (sym n
 
 -- words that run nothing have no task
 pub idle_task : (words : List (List ℕ)) (env : Variables) (cwd : List ℕ) (told : Option Contents) (first : ℕ) (Fact : Task → Type 0) → aim_asked (command_of words env) ≡ None → ForTask words env cwd told first Fact
-idle_task words env cwd told first Fact none = by (command_of words env) (λ command aim. ForProject words env cwd told (λ project. ForDeclared told command project (λ declared. Fact (task_of declared aim (limits_of run_options first))))) none
+idle_task words env cwd told first Fact none = by (command_of words env) (λ command aim. ForProject words env cwd told (λ project. ForDeclared told command project (λ declared. Fact (task_of declared aim (limits_of (options_for command) first))))) none
   where
     by : (command : Option Command) (F : Command → Aim → Type 0) → aim_asked command ≡ None → IfSome command (λ c. IfSome (aim_for c) (F c))
     by None F e = tt

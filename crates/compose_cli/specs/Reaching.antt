@@ -1,4 +1,4 @@
--- Which Engine a run speaks with.
+-- Which Engine a run speaks with, and which file stops it.
 use Rattle.std.specs.Prelude.{◌≡◌, ℕ, List, Ok, Some}
 use Rattle.asked_project.specs.Asking.{Variables}
 use Rattle.asked_target.specs.Targets.{asked_target}

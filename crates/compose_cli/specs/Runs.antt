@@ -15,13 +15,14 @@ use Rattle.compose_config.specs.Commands.{ForProject, IsReadFault}
 use Rattle.outside_files.specs.Counts.{Rose}
 use Rattle.outside_files.specs.Files.{Contents}
 use Rattle.outside_api.specs.Accounts.{Account, account}
-use Rattle.outside_api.specs.Clock.{Clock}
+use Rattle.outside_api.specs.Clock.{Clock, new_clock}
 use Rattle.outside_api.specs.Hands.{Heard, HeardNothing}
 use Rattle.outside_files.specs.Sinks.{GrewBy}
 use Rattle.compose_words.specs.declared.Command.{Command}
 use Rattle.compose_words.specs.declared.Options.{Options}
 use Rattle.file_digests.specs.declared.DigestRefusal.{DigestRefusal}
 use Rattle.typed_project.specs.declared.project.Project.{Project}
+use Rattle.project_run.specs.Timing.{IsTimed}
 use Rattle.project_run.specs.Whole.{IfBegun, IsCaused, SparesKept, task_of}
 use Rattle.project_run.specs.Worlds.{EndsExact, EndsGone}
 use Rattle.refusals.specs.Origins.{run_refusal}
@@ -55,9 +56,15 @@ aim_asked (Some command) = aim_for command
 abbrev pub IfRuns : List (List ℕ) → Variables → (Aim → Type 0) → Type 0
 IfRuns words env Fact = IfSome (aim_asked (command_of words env)) Fact
 
--- what the words' options bound of a run: so far nothing, and there is one worker
-abbrev pub run_options : RunOptions
-run_options = record { workers = 1; wait = false; wait_seconds = None; stop_seconds = None }
+-- what a command's options bound of its run, which has one worker: `up` may wait for goals, and be late; a stop of `down` may
+-- wait so many seconds in place of what each slot says
+abbrev pub options_for : Command → RunOptions
+options_for (Command.Up orphans wait seconds scale) =
+    record { workers = 1; wait = wait; wait_seconds = seconds; stop_seconds = None }
+options_for (Command.Down orphans volumes seconds) =
+    record { workers = 1; wait = false; wait_seconds = None; stop_seconds = seconds }
+options_for _ =
+    record { workers = 1; wait = false; wait_seconds = None; stop_seconds = None }
 
 -- the first reading of the clock of hand 0; 0 where there is no hand, or it never read its clock
 abbrev pub first_reading : {H : Type 0} → (H → Clock) → List H → ℕ
@@ -78,7 +85,7 @@ abbrev pub ForTask :
     List (List ℕ) → Variables → List ℕ → Option Contents → ℕ → (Task → Type 0) → Type 0
 ForTask words env cwd told first Fact =
     ForAsked words env cwd told (λ command aim declared.
-    Fact (task_of declared aim (limits_of run_options first)))
+    Fact (task_of declared aim (limits_of (options_for command) first)))
 
 -- a fact on what a run's project is declared as, or refused with, where the files are told and a project is meant
 abbrev pub IfDeclared :
@@ -180,7 +187,7 @@ IsCausedAnew task journal w now =
 
 -- a call ran a task: its journal, what each worker's hand tells, its refusal, and what it wrote
 pub record RunsTask {H : Type 0} (log : H → List Exchange) (heard : H → Option (List Heard))
-    (faults : H → ℕ) (task : Task) (ended : Ended H)
+    (faults : H → ℕ) (clock : H → Clock) (task : Task) (ended : Ended H)
     (written_old written_new : Option (List ℕ)) (faults_old faults_new : ℕ) : Type 0 where
   pub run : IsRun task ended.journal
   pub left : IsLeftByAll task ended.journal
@@ -189,6 +196,8 @@ pub record RunsTask {H : Type 0} (log : H → List Exchange) (heard : H → Opti
       → GrowsBy (run_exchanges task ended.journal w) [] (log hand)
   pub caused : (w : ℕ) (hand : H) → slice_get ended.hands w ≡ Some hand
       → IsCausedAnew task ended.journal w (account (log hand) (heard hand) (faults hand))
+  pub timed : (w : ℕ) (hand : H) → slice_get ended.hands w ≡ Some hand
+      → IsTimed task ended.journal w new_clock (clock hand)
   pub refused : IsRefusalOf (run_fault task ended.journal) faults_old faults_new ended.refusal
   pub reported : Reports (run_report task ended.journal) ended.refusal written_old written_new
       faults_old faults_new
@@ -208,7 +217,7 @@ pub record MovesEngine {H : Type 0} (engine : H → Option Engine) (task : Task)
 
 -- a call ran a task, and so did the Engine that its hand tells
 pub record RunsWhole {H : Type 0} (log : H → List Exchange) (heard : H → Option (List Heard))
-    (faults : H → ℕ) (engine : H → Option Engine) (began : Option Engine) (task : Task) (ended : Ended H)
+    (faults : H → ℕ) (clock : H → Clock) (engine : H → Option Engine) (began : Option Engine) (task : Task) (ended : Ended H)
     (written_old written_new : Option (List ℕ)) (faults_old faults_new : ℕ) : Type 0 where
-  pub ran : RunsTask log heard faults task ended written_old written_new faults_old faults_new
+  pub ran : RunsTask log heard faults clock task ended written_old written_new faults_old faults_new
   pub moved : MovesEngine engine task ended began

@@ -1,9 +1,12 @@
 ghost use Rattle.std.specs.Prelude.{◌≡◌, ◌+◌, ◌<◌, ◌^◌, [], Some, None, if◌then◌else◌, true, false, length, vec_len, vec_capacity};
 ghost use Rattle.std.specs.Option.{ForSome};
 ghost use Rattle.compose_cli.specs.Ends.{CountsHands, SendsNothing};
-ghost use Rattle.compose_cli.specs.Runs.{HoldsExactly, HoldsNone, IsRefusalOf, IsUnbegun, MovesEngine, RunsTask};
+ghost use Rattle.compose_cli.specs.Runs.{HoldsExactly, HoldsNone, IsRefusalOf, IsUnbegun, MovesEngine, RunsTask, first_reading};
+ghost use Rattle.outside_api.specs.Clock.{new_clock};
 ghost use Rattle.outside_api.specs.Hands.{HeardNothing};
 ghost use Rattle.outside_files.specs.Counts.{Rose};
+ghost use Rattle.plan_core.specs.Order.{HasNoCycle};
+ghost use Rattle.project_run.specs.Options.{RollsNone, aim_of, options_of};
 ghost use Rattle.project_run.specs.Whole.{IfBegun, task_of};
 ghost use Rattle.project_run.specs.Worlds.{GoesThrough};
 ghost use Rattle.refusals.specs.Origins.{IsOfLoading, IsOfRun};
@@ -13,35 +16,38 @@ ghost use Rattle.refusals.specs.declared.Refusal.{Refusal};
 ghost use Rattle.run_model.specs.EngineRules.{Among};
 ghost use Rattle.run_model.specs.Observation.{is_up};
 ghost use Rattle.run_model.specs.Plans.{IsWhole};
-ghost use Rattle.serial_run.specs.Serial.{WaitsForNone, aim_of, one_worker};
+ghost use Rattle.run_model.specs.Runs.{limits_of};
 ghost use Rattle.refusals.specs.Saying.{IsSaid, SaysRefusal};
 ghost use Rattle.outside_files.specs.Writing.{Says};
 ghost use Rattle.world_laws.specs.OwnSpecs.{HasOwnSpecs};
 
 use crate::ended::Ended;
+use crate::reaching::Place;
 use engine_types::{Declared, RunFault};
-use outside_api::{DialAnswer, Hand, Plug, Target};
+use outside_api::{DialAnswer, Hand, Plug};
 use outside_files::{Sink, write_all};
-use project_run::{Aim, Ran, run_project};
+use project_run::{Aim, Ran, RunOptions, run_project};
 use refusals::{Part, Refusal, refusal_of, refusal_status, say, say_if_any, status_of};
 use std::alloc::Global;
 use tree_base::{List, Memory, Text};
 
-/// Dials the hand that speaks with the Engine at a target, where there was memory for that, and does with it what an aim asks
-/// for of what is declared.
+/// Dials the hand that speaks with the Engine of a place, and does with it what an aim asks for of what is declared, within what
+/// options bound.
 pub(crate) fn run_declared<P: Plug, O: Sink, G: Sink>(
     alloc: Global,
-    declared: &Declared,
+    declared: Declared,
     aim: Aim,
-    target: Result<Target, Memory>,
+    options: RunOptions,
+    place: Result<Place, Memory>,
     plug: &mut P,
     out: &mut O,
     err: &mut G,
 ) -> Ended<P::Hand>
     requires told { ForSome (P.dialled plug.old) (λ n. n < 2 ^ 61) }
-    requires whole { IsWhole declared.now }
-    requires unconditional { WaitsForNone declared.now }
-    requires own { HasOwnSpecs declared.now }
+    requires whole { IsWhole declared }
+    requires unrolled { RollsNone declared }
+    requires acyclic { HasNoCycle declared }
+    requires own { HasOwnSpecs declared }
     ensures origin { IsOfLoading result.refusal → ⊥ }
     ensures dial { result.refusal ≡ Some (Refusal.Outside Part.Plug)
         → SendsNothing result × Rose (P.faults plug.old) (P.faults plug.new) }
@@ -51,11 +57,13 @@ pub(crate) fn run_declared<P: Plug, O: Sink, G: Sink>(
     ensures unsent { result.journal ≡ [] → (hand : P.Hand) → Among result.hands hand
         → P.Hand.log hand ≡ [] }
     ensures ran { IfBegun result.journal (RunsTask
-        (λ h. P.Hand.log h) (λ h. P.Hand.heard h) (λ h. P.Hand.faults h)
-        (task_of declared.now (aim_of aim) one_worker) result
+        (λ h. P.Hand.log h) (λ h. P.Hand.heard h) (λ h. P.Hand.faults h) (λ h. P.Hand.clock h)
+        (task_of declared (aim_of aim) (limits_of (options_of options)
+        (first_reading (λ h. P.Hand.clock h) result.hands))) result
         (O.written out.old) (O.written out.new) (O.faults out.old) (O.faults out.new)) }
     ensures engine { MovesEngine
-        (λ h. P.Hand.engine h) (task_of declared.now (aim_of aim) one_worker) result
+        (λ h. P.Hand.engine h) (task_of declared (aim_of aim) (limits_of (options_of options)
+        (first_reading (λ h. P.Hand.clock h) result.hands))) result
         (P.engine plug.old) }
     ensures status { result.status ≡ status_of result.refusal }
     ensures line { SaysRefusal result.refusal (G.written err.old) (G.written err.new)
@@ -63,14 +71,16 @@ pub(crate) fn run_declared<P: Plug, O: Sink, G: Sink>(
     ensures quiet { result.refusal ≡ Some (Refusal.Outside Part.Plug)
         → O.written out.new ≡ O.written out.old }
 {
-    let Ok(target) = target else {
+    let Ok(place) = place else {
         return refused(alloc, Refusal::Memory, err);
     };
     let Ok(hands) = Vec::with_capacity(alloc, 1) else {
         return refused(alloc, Refusal::Memory, err);
     };
-    match plug.dial(alloc, &target, None, 0) {
-        DialAnswer::Dialled(hand) => run_with(alloc, declared, aim, hand, hands, out, err),
+    match plug.dial(alloc, &place.target, place.stop_file.as_ref(), 0) {
+        DialAnswer::Dialled(hand) => {
+            run_with(alloc, declared, aim, options, hand, hands, out, err)
+        }
         DialAnswer::Failed => refused(alloc, Refusal::Outside(Part::Plug), err),
         DialAnswer::Memory => refused(alloc, Refusal::Memory, err),
     }
@@ -96,8 +106,9 @@ pub(crate) fn refused<H, G: Sink>(alloc: Global, refusal: Refusal, err: &mut G) 
 /// Does what an aim asks for with a new hand, writes the report, and hands the hand back.
 fn run_with<H: Hand, O: Sink, G: Sink>(
     alloc: Global,
-    declared: &Declared,
+    declared: Declared,
     aim: Aim,
+    options: RunOptions,
     mut hand: H,
     mut hands: Vec<H>,
     out: &mut O,
@@ -105,10 +116,12 @@ fn run_with<H: Hand, O: Sink, G: Sink>(
 ) -> Ended<H>
     requires empty { hands.items ≡ [] }
     requires room { vec_len hands < vec_capacity hands }
-    requires whole { IsWhole declared.now }
-    requires unconditional { WaitsForNone declared.now }
-    requires own { HasOwnSpecs declared.now }
+    requires whole { IsWhole declared }
+    requires unrolled { RollsNone declared }
+    requires acyclic { HasNoCycle declared }
+    requires own { HasOwnSpecs declared }
     requires unused { H.log hand ≡ [] }
+    requires unread { H.clock hand ≡ new_clock }
     requires unheard { HeardNothing (H.heard hand) }
     requires faultless { H.faults hand ≡ 0 }
     ensures hands { length result.hands ≡ 1 }
@@ -118,18 +131,22 @@ fn run_with<H: Hand, O: Sink, G: Sink>(
     ensures unsent { result.journal ≡ [] → (hand : H)
         → Among result.hands hand → H.log hand ≡ [] }
     ensures ran { IfBegun result.journal (RunsTask
-        (λ h. H.log h) (λ h. H.heard h) (λ h. H.faults h)
-        (task_of declared.now (aim_of aim) one_worker) result
+        (λ h. H.log h) (λ h. H.heard h) (λ h. H.faults h) (λ h. H.clock h)
+        (task_of declared (aim_of aim) (limits_of (options_of options)
+        (first_reading (λ h. H.clock h) result.hands))) result
         (O.written out.old) (O.written out.new) (O.faults out.old) (O.faults out.new)) }
     ensures through { IfBegun result.journal ((other : H) → Among result.hands other → GoesThrough
-        (task_of declared.now (aim_of aim) one_worker) result.journal (H.engine hand)
+        (task_of declared (aim_of aim) (limits_of (options_of options)
+        (first_reading (λ h. H.clock h) result.hands))) result.journal (H.engine hand)
         (H.engine other)) }
     ensures exact { result.refusal ≡ None → is_up aim.purpose ≡ true → (other : H)
         → Among result.hands other
-        → HoldsExactly (task_of declared.now (aim_of aim) one_worker) (H.engine other) }
+        → HoldsExactly (task_of declared (aim_of aim) (limits_of (options_of options)
+        (first_reading (λ h. H.clock h) result.hands))) (H.engine other) }
     ensures gone { result.refusal ≡ None → is_up aim.purpose ≡ false → (other : H)
         → Among result.hands other
-        → HoldsNone (task_of declared.now (aim_of aim) one_worker) (H.engine other) }
+        → HoldsNone (task_of declared (aim_of aim) (limits_of (options_of options)
+        (first_reading (λ h. H.clock h) result.hands))) (H.engine other) }
     ensures status { result.status ≡ status_of result.refusal }
     ensures line { SaysRefusal result.refusal (G.written err.old) (G.written err.new)
         (G.faults err.old) (G.faults err.new) }
@@ -138,7 +155,7 @@ fn run_with<H: Hand, O: Sink, G: Sink>(
         journal,
         report,
         fault,
-    } = run_project(alloc, &mut hand, declared, aim);
+    } = run_project(alloc, &mut hand, declared, aim, options);
     hands.push(hand).unwrap();
     let refusal = say_if_any(alloc, write_report(fault, &report, out), err);
     Ended {

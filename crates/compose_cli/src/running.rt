@@ -1,12 +1,13 @@
-ghost use Rattle.std.specs.Prelude.{◌≡◌, ◌<◌, ◌≤◌, ◌^◌, [], Some, IfErr, IfOk, IfSome, IsTrue, length};
+ghost use Rattle.std.specs.Prelude.{◌≡◌, ◌<◌, ◌≤◌, ◌^◌, [], None, Some, IfErr, IfOk, IfSome, IsTrue, length};
 ghost use Rattle.std.specs.Option.{ForSome};
 ghost use Rattle.asked_run.specs.Declaring.{ForDeclared, IsFailedDigest, declared_from};
 ghost use Rattle.compose_cli.specs.Ends.{CountsHands, SendsNothing};
 ghost use Rattle.compose_cli.specs.Reaching.{IsReachable};
-ghost use Rattle.compose_cli.specs.Runs.{IsDigestOf, IsUnbegun, IsUndeclared, RunsWhole};
+ghost use Rattle.compose_cli.specs.Runs.{IsDigestOf, IsUnbegun, IsUndeclared, RunsWhole, first_reading};
 ghost use Rattle.file_digests.specs.declared.DigestRefusal.{DigestRefusal};
 ghost use Rattle.loaded_files.specs.declared.LoadRefusal.{LoadRefusal};
 ghost use Rattle.outside_files.specs.Counts.{Rose};
+ghost use Rattle.project_run.specs.Options.{aim_of, options_of};
 ghost use Rattle.project_run.specs.Whole.{IfBegun, task_of};
 ghost use Rattle.refusals.specs.Origins.{IsOfLoading, is_of_words};
 ghost use Rattle.refusals.specs.Saying.{SaysRefusal};
@@ -14,25 +15,28 @@ ghost use Rattle.refusals.specs.Statuses.{status_of};
 ghost use Rattle.refusals.specs.declared.Part.{Part};
 ghost use Rattle.refusals.specs.declared.Refusal.{Refusal};
 ghost use Rattle.run_model.specs.EngineRules.{Among};
-ghost use Rattle.serial_run.specs.Serial.{aim_of, one_worker};
+ghost use Rattle.run_model.specs.Runs.{limits_of};
+ghost use Rattle.service_graph.specs.Cycles.{cycle};
 ghost use Rattle.typed_project.specs.DistinctNames.{IsKeyed};
 
 use crate::ended::Ended;
-use crate::reaching::target_asked;
+use crate::reaching::place_asked;
 use crate::run::{refused, run_declared};
 use asked_project::Asked;
 use asked_run::declared_asked;
 use outside_api::Plug;
 use outside_files::{Files, Sink};
-use project_run::Aim;
+use project_run::{Aim, RunOptions};
 use std::alloc::Global;
 use tree_base::{Env, Text};
 
-/// Does with what a project that was asked for declares what an aim asks for, or refuses what can't be declared.
+/// Does with what a project that was asked for declares what an aim asks for, within what options bound, or refuses what can't be
+/// declared.
 pub(crate) fn run_asked<F: Files, P: Plug, O: Sink, G: Sink>(
     alloc: Global,
     asked: &Asked,
     aim: Aim,
+    options: RunOptions,
     env: &Env,
     cwd: &Text,
     files: &mut F,
@@ -42,6 +46,7 @@ pub(crate) fn run_asked<F: Files, P: Plug, O: Sink, G: Sink>(
 ) -> Ended<P::Hand>
     requires dialled { ForSome (P.dialled plug.old) (λ n. n < 2 ^ 61) }
     requires keyed { IsKeyed asked.now.project }
+    requires acyclic { cycle asked.now.project.services ≡ None }
     requires reachable { IsReachable asked.now.options env.now cwd.now }
 
     // What can't be declared is what the call is refused with; and nothing else is, but for reads that failed.
@@ -73,8 +78,9 @@ pub(crate) fn run_asked<F: Files, P: Plug, O: Sink, G: Sink>(
         → P.Hand.log hand ≡ [] }
     ensures ran { IfBegun result.journal (ForDeclared (F.told files.old)
         asked.now.options.command asked.now.project (λ declared. RunsWhole
-        (λ h. P.Hand.log h) (λ h. P.Hand.heard h) (λ h. P.Hand.faults h) (λ h. P.Hand.engine h)
-        (P.engine plug.old) (task_of declared (aim_of aim) one_worker) result
+        (λ h. P.Hand.log h) (λ h. P.Hand.heard h) (λ h. P.Hand.faults h) (λ h. P.Hand.clock h)
+        (λ h. P.Hand.engine h) (P.engine plug.old) (task_of declared (aim_of aim)
+        (limits_of (options_of options) (first_reading (λ h. P.Hand.clock h) result.hands))) result
         (O.written out.old) (O.written out.new) (O.faults out.old) (O.faults out.new))) }
     ensures status { result.status ≡ status_of result.refusal }
     ensures line { SaysRefusal result.refusal (G.written err.old) (G.written err.new)
@@ -84,8 +90,8 @@ pub(crate) fn run_asked<F: Files, P: Plug, O: Sink, G: Sink>(
 {
     match declared_asked(alloc, &asked.options.command, &asked.project, files) {
         Ok(declared) => {
-            let target = target_asked(alloc, &asked.options, env, cwd);
-            run_declared(alloc, &declared, aim, target, plug, out, err)
+            let place = place_asked(alloc, &asked.options, env, cwd);
+            run_declared(alloc, declared, aim, options, place, plug, out, err)
         }
         Err(refusal) => refused(alloc, refusal, err),
     }

@@ -3,13 +3,16 @@ ghost use Rattle.std.specs.Option.{ForSome};
 ghost use Rattle.asked_project.specs.Asking.{command_of, options_asked};
 ghost use Rattle.asked_project.specs.Meaning.{IsFailedRead, meaning};
 ghost use Rattle.compose_cli.specs.Ends.{CountsHands, IsRefusedWith, SendsNothing};
-ghost use Rattle.compose_cli.specs.Runs.{ForTask, HoldsExactly, HoldsNone, IfDeclared, IfRuns, IsCausedAnew, IsFailedDigestRead, IsFaultOfReads, IsRefusalOf, IsStatusOf, IsUnbegun, IsUndeclared, LeadsOn, Reports, aim_asked, aim_for, first_reading};
+ghost use Rattle.compose_cli.specs.Runs.{ForTask, HoldsExactly, HoldsNone, IfDeclared, IfRuns, IsCausedAnew, IsFailedDigestRead, IsFaultOfReads, IsRefusalOf, IsStatusOf, IsUnbegun, IsUndeclared, LeadsOn, Reports, aim_asked, aim_for, first_reading, options_for};
 ghost use Rattle.compose_config.specs.Commands.{ForProject, GrewByPrefix, IfLoads, IsConfig, IsOfConfig, IsReadFault, OnlyOutsideFails, page_asked};
 ghost use Rattle.file_digests.specs.declared.DigestRefusal.{DigestRefusal};
 ghost use Rattle.loaded_files.specs.declared.LoadRefusal.{LoadRefusal};
 ghost use Rattle.outside_api.specs.Accounts.{account};
+ghost use Rattle.outside_api.specs.Clock.{new_clock};
 ghost use Rattle.outside_files.specs.Counts.{Rose};
 ghost use Rattle.outside_files.specs.Sinks.{GrewBy};
+ghost use Rattle.project_run.specs.Options.{aim_of, options_of};
+ghost use Rattle.project_run.specs.Timing.{IsTimed};
 ghost use Rattle.project_run.specs.Whole.{IfBegun, SparesKept};
 ghost use Rattle.project_run.specs.Worlds.{EndsExact, EndsGone};
 ghost use Rattle.refusals.specs.Origins.{IsOfLoading, is_of_words};
@@ -20,7 +23,6 @@ ghost use Rattle.run_model.specs.EngineRules.{Among};
 ghost use Rattle.run_model.specs.Logs.{GrowsBy};
 ghost use Rattle.run_model.specs.Observation.{is_up};
 ghost use Rattle.run_model.specs.Runs.{IsLeftByAll, IsRun, run_exchanges, run_fault, run_report, run_status};
-ghost use Rattle.serial_run.specs.Serial.{aim_of};
 ghost use Rattle.refusals.specs.Saying.{IsSaid, SaysRefusal};
 
 use crate::ended::Ended;
@@ -31,9 +33,16 @@ use compose_config::{ConfigEnd, print_asked};
 use engine_types::Purpose;
 use outside_api::Plug;
 use outside_files::{Files, Sink};
-use project_run::Aim;
+use project_run::{Aim, RunOptions};
 use std::alloc::Global;
 use tree_base::{Env, List, Text};
+
+/// A run that waits for nothing, and is never late.
+const UNBOUND: RunOptions = RunOptions {
+    wait: false,
+    wait_seconds: None,
+    stop_seconds: None,
+};
 
 /// Does what the words of the command line ask for, with one hand. It waits for nobody, and always returns.
 ///
@@ -151,6 +160,12 @@ pub fn serial_main<F: Files, P: Plug, O: Sink, G: Sink>(
         → IsCausedAnew task result.journal w
         (account (P.Hand.log hand) (P.Hand.heard hand) (P.Hand.faults hand)))) }
 
+    // The hand of each worker looked whether to stop, paused and read its clock as the journal says.
+    ensures timed { IfBegun result.journal (ForTask words.now env.now cwd.now (F.told files.old)
+        (first_reading (λ h. P.Hand.clock h) result.hands) (λ task.
+        (w : ℕ) (hand : P.Hand) → slice_get result.hands w ≡ Some hand
+        → IsTimed task result.journal w new_clock (P.Hand.clock hand))) }
+
     // Status, refusal and report are those of the run, and `up` leaves kept containers alone.
     ensures run_status { IfBegun result.journal
         (ForTask words.now env.now cwd.now (F.told files.old)
@@ -200,7 +215,10 @@ pub fn serial_main<F: Files, P: Plug, O: Sink, G: Sink>(
 {
     match project_asked(alloc, words, env, cwd, files) {
         Ok(asked) => match aim_for(&asked.options.command) {
-            Some(aim) => run_asked(alloc, &asked, aim, env, cwd, files, plug, out, err),
+            Some(aim) => {
+                let options = options_for(&asked.options.command);
+                run_asked(alloc, &asked, aim, options, env, cwd, files, plug, out, err)
+            },
             None => without_hands(alloc, print_asked(alloc, &asked, out, err)),
         },
         Err(refusal) => refused(alloc, refusal, err),
@@ -231,6 +249,33 @@ fn aim_for(command: &Command) -> Option<Aim>
         Command::Wait => None,
         Command::Logs => None,
         Command::EngineSim { .. } => None,
+    }
+}
+
+/// What a command's options bound of its run. No memory.
+fn options_for(command: &Command) -> RunOptions
+    ensures { options_of result ≡ options_for command.now }
+{
+    match command {
+        Command::Up {
+            wait,
+            wait_seconds,
+            ..
+        } => RunOptions {
+            wait: *wait,
+            wait_seconds: *wait_seconds,
+            stop_seconds: None,
+        },
+        Command::Down { seconds, .. } => RunOptions {
+            wait: false,
+            wait_seconds: None,
+            stop_seconds: *seconds,
+        },
+        Command::Config { .. } => UNBOUND,
+        Command::Simulate { .. } => UNBOUND,
+        Command::Wait => UNBOUND,
+        Command::Logs => UNBOUND,
+        Command::EngineSim { .. } => UNBOUND,
     }
 }
 

@@ -1,4 +1,4 @@
-ghost use Rattle.std.specs.Prelude.{◌≡◌, IfOk};
+ghost use Rattle.std.specs.Prelude.{◌≡◌, IfErr, IfOk};
 ghost use Rattle.ledger_core.specs.Beginning.{MayBegin, begun};
 ghost use Rattle.ledger_start.specs.Starts.{IsBegun};
 
@@ -19,24 +19,25 @@ struct Opening {
     started: Started,
 }
 
-/// Begins a run whose observation ended well, with its plan. The room of all rows is taken here.
+/// Begins a run whose observation ended well, with its plan. The room of all rows is taken here; where memory is wanted, the
+/// observation is handed back.
 pub fn begin(
     alloc: Global,
     declared: Declared,
     observed: Observed,
     plan: Plan,
     limits: RunLimits,
-) -> Result<Ledger, Memory>
+) -> Result<Ledger, Observed>
     requires { MayBegin declared observed plan limits }
-    ensures { IfOk result (λ ledger. ledger ≡ begun declared observed plan limits) }
+    ensures begun { IfOk result (λ ledger. ledger ≡ begun declared observed plan limits) }
+    ensures kept { IfErr result (λ kept. kept ≡ observed) }
 {
     match opening_of(alloc, &declared, &observed, &plan, limits) {
         Ok(opening) => Ok(opened(declared, observed, plan, limits, opening)),
         Err(Memory) => {
             drop(declared);
-            drop(observed);
             drop(plan);
-            Err(Memory)
+            Err(observed)
         }
     }
 }

@@ -1,8 +1,10 @@
 pub mod Sparing
-pub mod Polling
 pub mod Joining
-pub mod Opened
 pub mod PlansOfAims
+pub mod Opened
+pub mod Beginning
+pub mod Timed
+pub mod Seeing
+pub mod Working
 pub mod Leaving
-pub mod Ascending
 pub mod Exact

@@ -6,7 +6,7 @@ use Rattle.engine_types.specs.declared.Declared.{Declared}
 use Rattle.engine_types.specs.declared.Purpose.{Purpose}
 use Rattle.engine_types.specs.declared.Seen.{Seen}
 use Rattle.run_model.specs.Plans.{Aim, action_count, actions_limit, down_basis, is_too_long, planned, planned_kinds, up_basis}
-use Rattle.serial_run.specs.Serial.{basis_of}
+use Rattle.project_run.specs.Options.{basis_of}
 
 module _ (declared : Declared) (seen : Seen) where
   pub down_is : (aim : Aim) → aim.purpose ≡ Purpose.Down → down_basis declared seen aim.orphans aim.volumes ≡ basis_of declared seen aim

@@ -1,5 +1,5 @@
--- What a whole run of one worker leaves.
-use Rattle.std.specs.Prelude.{◌≡◌, ◌⊎◌, ℕ, List, [], ◌∷◌, Option, Some, None, false, IfSome, IsSomeAnd, slice_get, true}
+-- What a whole run leaves.
+use Rattle.std.specs.Prelude.{◌≡◌, ◌⊎◌, ℕ, List, [], ◌∷◌, Option, Some, None, false, IfSome, IsSomeAnd, reverse, slice_get, true}
 use Rattle.engine_types.specs.declared.ActionKind.{ActionKind}
 use Rattle.engine_types.specs.declared.ActionKind.TheVariants.{CreateSlot, RemoveContainer, StopContainer, StopKept}
 use Rattle.engine_types.specs.declared.Declared.{Declared}
@@ -8,13 +8,15 @@ use Rattle.engine_types.specs.declared.Observed.{Observed}
 use Rattle.engine_types.specs.declared.RunFault.{RunFault}
 use Rattle.engine_types.specs.declared.RunLimits.{RunLimits}
 use Rattle.engine_types.specs.declared.Seen.{Seen}
+use Rattle.ledger_run.specs.Steps.{steps_of}
+use Rattle.ledger_run.specs.Tellings.{Telling, account_in}
 use Rattle.observe_project.specs.Exchanges.{HasCauseOfEnd}
 use Rattle.outside_api.specs.Accounts.{Account, AreCaused}
-use Rattle.run_model.specs.EngineRules.{Among, ToldBy}
+use Rattle.project_run.specs.Timing.{IsTimed}
+use Rattle.run_model.specs.EngineRules.{Among, Step, TellsSteps}
 use Rattle.run_model.specs.Logs.{GrowsBy}
 use Rattle.run_model.specs.Plans.{Aim, is_kept, is_restarted, kept, kind_of, slot_at}
 use Rattle.run_model.specs.Runs.{IsLeftByAll, IsRun, Task, run_exchanges, run_seen, run_setup}
-use Rattle.serial_run.specs.Serial.{Telling, account_in}
 
 -- to carry out for a declared set what an aim asks for, within limits
 abbrev pub task_of : Declared → Aim → RunLimits → Task
@@ -34,9 +36,9 @@ abbrev pub IsReport : List ℕ → Option RunFault → List ℕ → Type 0
 IsReport expected fault report =
     (report ≡ expected) ⊎ ((report ≡ []) × (fault ≡ Some RunFault.Memory))
 
--- each outcome of a worker's in the task's journal, the observation's for worker 0 too, has its cause in its own exchange, by what
--- the hand told before the run and tells now; and where the observation ended with a lost response or with a request that wasn't
--- sent, that was the last exchange, and what is heard last is what was heard in it
+-- each outcome of a worker's in the task's journal, the observation's for worker 0 too, has its cause in its own exchange, by
+-- what the hand told before the run and tells now; and where the observation ended with a lost response or with a request that
+-- wasn't sent, that was the last exchange, and what is heard last is what was heard in it
 pub record IsCaused (task : Task) (journal : List Entry) (w : ℕ) (old new : Account) : Type 0 where
   pub exchanges : AreCaused (run_exchanges task journal w) old new
   pub observed : w ≡ 0 → (observation : Observed)
@@ -60,12 +62,16 @@ abbrev pub SparesKept : Task → List Entry → Type 0
 SparesKept task journal = (w a : ℕ) → Among journal (Entry.Claim w a)
     → IsSparing task.declared (run_seen journal) (kind_of (run_setup task journal).actions a)
 
+-- what a worker's hand did by the task's journal: its exchanges, the observation's too for worker 0, and its pauses, in order
+abbrev pub run_steps : Task → List Entry → ℕ → List Step
+run_steps task journal w = steps_of (run_setup task journal) (reverse journal) w
+
 -- a run of the task was made with the hand, whole
 pub record Leaves (task : Task) (journal : List Entry) (before now : Telling) : Type 0 where
   pub run : IsRun task journal
   pub left : IsLeftByAll task journal
   pub begun : (entry : Entry) × (rest : List Entry) × (journal ≡ entry ∷ rest)
   pub log : GrowsBy (run_exchanges task journal 0) before.log now.log
-  pub told : ToldBy (run_exchanges task journal 0) before.engine now.engine
+  pub told : TellsSteps (run_steps task journal 0) before.engine now.engine
   pub caused : IsCaused task journal 0 (account_in before) (account_in now)
-  pub timed : now.clock ≡ before.clock
+  pub timed : IsTimed task journal 0 before.clock now.clock

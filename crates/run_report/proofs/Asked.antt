@@ -6,7 +6,7 @@ use Rattle.engine_types.specs.declared.Entry.{Entry}
 use Rattle.engine_types.specs.declared.Request.{Request}
 use Rattle.run_model.specs.Journals.{Setup}
 use Rattle.run_model.specs.Requests.{OfAction, action_request, asked}
-use Rattle.run_report.specs.Faults.{before_claim, is_claim_of}
+use Rattle.run_report.specs.Claims.{before_claim, is_claim_of}
 
 there : {X Y : Type 0} (f : X → Option Y) (b : Bool) (x : X) (o : Option X) → (if b then f x else option_and_then f o) ≡ option_and_then f (if b then Some x else o)
 there f true x o = refl

@@ -1,10 +1,9 @@
 -- A worker holds what its latest claim, poll or end says.
-use Rattle.std.proofs.Common.{◌≡◌, ℕ, Bool, true, false, List, [], ◌∷◌, Option, Some, None, refl, ap, ◌∙◌}
+use Rattle.std.proofs.Common.{◌≡◌, ℕ, Bool, true, false, List, [], ◌∷◌, Option, Some, refl, ap, ◌∙◌}
 use Rattle.std.specs.Prelude.{find, if◌then◌else◌, ◌==◌}
-use Rattle.std.specs.Option.{option_map_or}
 use Rattle.engine_types.specs.declared.Entry.{Entry}
-use Rattle.run_model.specs.Journals.{Holding, Nothing, Watch, Work, holding, is_work_on}
-use Rattle.run_report.specs.Permits.{action_of, is_turn_of, permit_of}
+use Rattle.run_model.specs.Journals.{Holding, Nothing, Watch, Work, holding}
+use Rattle.run_report.specs.Permits.{is_turn_of, permit_of}
 
 chosen : (b : Bool) (entry : Entry) (o : Option Entry) → (if b then permit_of (Some entry) else permit_of o) ≡ permit_of (if b then Some entry else o)
 chosen true entry o = refl
@@ -24,19 +23,3 @@ holding_is (Entry.Leave v ∷ past) w = holding_is past w
 holding_is (Entry.Stop v ∷ past) w = holding_is past w
 holding_is (Entry.Late v why ∷ past) w = holding_is past w
 holding_is (Entry.Short v ∷ past) w = holding_is past w
-
--- a permit for an action is known by the action
-pub work_is : (a : ℕ) (h : Holding) → option_map_or (λ b. b == a) (action_of h) false ≡ is_work_on a h
-work_is a Nothing = refl
-work_is a (Work b) = refl
-work_is a (Watch s) = refl
-
-pub holds_work : (h : Holding) (a : ℕ) → action_of h ≡ Some a → h ≡ Work a
-holds_work Nothing a e = absurd (cc e)
-holds_work (Work b) a e = cc e
-holds_work (Watch s) a e = absurd (cc e)
-
-pub none_is_other : (a : ℕ) (h : Holding) → action_of h ≡ None → false ≡ is_work_on a h
-none_is_other a Nothing e = refl
-none_is_other a (Work b) e = absurd (cc e)
-none_is_other a (Watch s) e = refl

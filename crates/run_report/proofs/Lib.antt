@@ -3,7 +3,12 @@ pub mod Holdings
 pub mod ReportLines
 pub mod Asked
 pub mod Tellings
-pub mod Polls
+pub mod Polled
+pub mod Claimed
+pub mod Places
+pub mod Wanting
+pub mod Sparing
+pub mod Reported
 pub mod Backward
 pub mod Firsts
 pub mod Numbers

@@ -1,13 +1,11 @@
 -- One entry more of a report.
-use Rattle.std.proofs.Common.{◌≡◌, ℕ, ◌+◌, ◌<◌, List, [], ◌∷◌, ◌++◌, None, length, get_or, take, refl, sym, ap, ◌∙◌}
+use Rattle.std.proofs.Common.{◌≡◌, ℕ, ◌+◌, ◌<◌, List, ◌∷◌, ◌++◌, length, get_or, take, refl, sym, ap, ◌∙◌}
 use Rattle.std.specs.Prelude.{OnOk, Result, reverse}
 use Rattle.std.proofs.lemmas.List.{append-nil}
 use Rattle.std.proofs.lemmas.Result.{on_ok_weaker}
 use Rattle.engine_types.specs.declared.Entry.{Entry}
-use Rattle.engine_types.specs.declared.Outcome.{Outcome}
-use Rattle.run_model.specs.Journals.{Holding, Nothing, Setup, Watch, Work}
-use Rattle.run_model.specs.Lines.{ended_line, report_text}
-use Rattle.run_report.specs.Permits.{action_of}
+use Rattle.run_model.specs.Journals.{Setup}
+use Rattle.run_model.specs.Lines.{report_text}
 use Rattle.run_report.specs.Reports.{entry_line}
 use Rattle.run_report.proofs.Newest.{newest}
 
@@ -21,12 +19,6 @@ report_more setup past (Entry.Leave v) = sym (append-nil (report_text setup past
 report_more setup past (Entry.Stop v) = sym (append-nil (report_text setup past))
 report_more setup past (Entry.Late v why) = sym (append-nil (report_text setup past))
 report_more setup past (Entry.Short v) = sym (append-nil (report_text setup past))
-
--- who holds no action ends none
-pub no_line : (setup : Setup) (outcome : Outcome) (h : Holding) → action_of h ≡ None → [] ≡ ended_line setup outcome h
-no_line setup outcome Nothing e = refl
-no_line setup outcome (Work a) e = absurd (cc e)
-no_line setup outcome (Watch s) e = refl
 
 -- a report of the first entries of a journal becomes one of the next entry too
 pub report_step : {T E : Type 0} (setup : Setup) (journal past : List Entry) (i : ℕ) (entry : Entry) (old new : List ℕ) (r : Result T E)

@@ -1,4 +1,6 @@
 pub mod Permits
 pub mod Reports
-pub mod Faults
+pub mod Claims
 pub mod Telling
+pub mod Conditions
+pub mod Rows

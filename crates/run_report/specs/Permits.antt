@@ -1,12 +1,14 @@
--- What permits of workers are for.
-use Rattle.std.specs.Prelude.{ℕ, Bool, true, false, ◌==◌, Option, Some, None}
+-- What workers hold.
+use Rattle.std.specs.Prelude.{ℕ, Bool, false, ◌==◌, Option, Some}
 use Rattle.engine_types.specs.declared.Entry.{Entry}
 use Rattle.run_model.specs.Journals.{Holding, Nothing, Watch, Work}
+use Rattle.run_report.specs.declared.held.Held.{Held}
 
--- the action that a permit is for
-abbrev pub action_of : Holding → Option ℕ
-action_of (Work a) = Some a
-action_of _ = None
+-- what a worker holds, in the words of journals
+abbrev pub holding_of : Held → Holding
+holding_of Held.Nothing = Nothing
+holding_of (Held.Work a) = Work a
+holding_of (Held.Watch s) = Watch s
 
 -- whether an entry is a claim, a poll or an end of this worker
 abbrev pub is_turn_of : ℕ → Entry → Bool
@@ -20,8 +22,3 @@ abbrev pub permit_of : Option Entry → Holding
 permit_of (Some (Entry.Claim v a)) = Work a
 permit_of (Some (Entry.Poll v s)) = Watch s
 permit_of _ = Nothing
-
--- whether an entry is a poll
-abbrev pub is_poll : Entry → Bool
-is_poll (Entry.Poll v s) = true
-is_poll _ = false

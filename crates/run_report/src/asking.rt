@@ -1,20 +1,58 @@
-//! The request that an action was claimed with.
+//! The request of what a worker holds, as it was claimed or polled.
 
-ghost use Rattle.std.specs.Prelude.{◌≡◌, IfOk, Some, option_map, reverse};
-ghost use Rattle.run_model.specs.Requests.{OfAction, action_request, asked, request_of};
-ghost use Rattle.run_report.specs.Faults.{before_claim, is_claim_of};
+ghost use Rattle.std.specs.Prelude.{◌≡◌, IfOk, Some, option_and_then, option_map, reverse};
+ghost use Rattle.std.specs.Option.{option_copied};
+ghost use Rattle.run_model.specs.Requests.{OfAction, action_request, asked, poll_request, request_of, request_out, slot_id, source_of};
+ghost use Rattle.run_report.specs.Claims.{before_claim, before_poll, is_claim_of};
 ghost use Rattle.run_requests.specs.Setups.{setup_of};
 
 use crate::actions::kind_of;
-use crate::held::earlier;
-use crate::ids::Past;
+use crate::held::{Held, earlier, held_after};
+use crate::ids::{Past, created_id};
+use crate::polls::latest_poll;
 use engine_types::{ActionKind, Entry, Request};
+use run_lookups::kept_of;
 use run_requests::{Run, request_of};
 use std::alloc::Global;
-use tree_base::Memory;
+use tree_base::{Memory, Text, TryCopy};
+
+/// The request of a worker's latest claim or poll; a listing stands where there is none.
+pub(crate) fn request_out(
+    alloc: Global,
+    run: &Run<'_>,
+    past: &[Entry],
+    worker: u32,
+) -> Result<Request, Memory>
+    ensures { IfOk result (λ request.
+        request ≡ request_out (setup_of run.now) (reverse past.now) worker) }
+{
+    match asked_out(alloc, run, past, worker)? {
+        Some(request) => Ok(request),
+        None => Ok(Request::ListContainers {
+            project: run.declared.project.copy(alloc)?,
+        }),
+    }
+}
+
+/// The request of what a worker holds.
+fn asked_out(
+    alloc: Global,
+    run: &Run<'_>,
+    past: &[Entry],
+    worker: u32,
+) -> Result<Option<Request>, Memory>
+    ensures { IfOk result (λ request. request ≡ option_and_then
+        (asked (setup_of run.now) (reverse past.now)) (source_of (reverse past.now) worker)) }
+{
+    match held_after(past, worker) {
+        Held::Nothing => Ok(None),
+        Held::Work(action) => asked_by_claim(alloc, run, past, action),
+        Held::Watch(_) => asked_by_poll(alloc, run, past, worker),
+    }
+}
 
 /// The request of the latest claim of an action, as it was there.
-pub(crate) fn asked(
+fn asked_by_claim(
     alloc: Global,
     run: &Run<'_>,
     past: &[Entry],
@@ -49,14 +87,7 @@ fn is_claim_of(entry: &Entry, of: u32) -> bool
 {
     match entry {
         Entry::Claim { action, .. } => *action == of,
-        Entry::Ended { .. } => false,
-        Entry::Poll { .. } => false,
-        Entry::Seen(_) => false,
-        Entry::Idle { .. } => false,
-        Entry::Leave { .. } => false,
-        Entry::Stop { .. } => false,
-        Entry::Late { .. } => false,
-        Entry::Short { .. } => false,
+        _ => false,
     }
 }
 
@@ -88,4 +119,57 @@ fn request_after(
 {
     let ids = Past { run, entries: past };
     request_of(alloc, run, &ids, kind)
+}
+
+/// The request of a worker's latest poll, as it was there.
+fn asked_by_poll(
+    alloc: Global,
+    run: &Run<'_>,
+    past: &[Entry],
+    worker: u32,
+) -> Result<Option<Request>, Memory>
+    ensures { IfOk result (λ request. request ≡ option_and_then
+        (λ poll. poll_request (setup_of run.now) poll.0 poll.1)
+        (before_poll (reverse past.now) worker)) }
+{
+    match latest_poll(past, worker) {
+        Some(poll) => poll_request(alloc, run, poll.before, poll.slot),
+        None => Ok(None),
+    }
+}
+
+fn poll_request(
+    alloc: Global,
+    run: &Run<'_>,
+    past: &[Entry],
+    slot: u32,
+) -> Result<Option<Request>, Memory>
+    ensures { IfOk result (λ request.
+        request ≡ poll_request (setup_of run.now) (reverse past.now) slot) }
+{
+    match slot_id(alloc, run, past, slot)? {
+        Some(id) => Ok(Some(Request::Inspect {
+            id: id.copy(alloc)?,
+        })),
+        None => Ok(None),
+    }
+}
+
+/// The id of a slot's container: that of the kept one, else what its create was told.
+fn slot_id<'a>(
+    alloc: Global,
+    run: &Run<'a>,
+    past: &'a [Entry],
+    slot: u32,
+) -> Result<Option<&'a Text>, Memory>
+    ensures { IfOk result (λ id.
+        option_copied id ≡ slot_id (setup_of run.now) (reverse past.now) slot) }
+{
+    let Some(row) = run.declared.slots.get(slot as usize) else {
+        return Ok(created_id(run, past, slot));
+    };
+    match kept_of(alloc, run.declared, run.seen, row)? {
+        Some(row) => Ok(Some(&row.id)),
+        None => Ok(created_id(run, past, slot)),
+    }
 }

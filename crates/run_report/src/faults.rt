@@ -1,85 +1,71 @@
-ghost use Rattle.std.specs.Prelude.{◌≡◌, ◌+◌, ◌<◌, IfOk, length, reverse, take, Some, false};
-ghost use Rattle.std.specs.Option.{option_or};
-ghost use Rattle.std.specs.List.{list_any};
+ghost use Rattle.std.specs.Prelude.{◌≡◌, IfOk, None, Some, length, option_map, reverse};
+ghost use Rattle.std.specs.Option.{option_copied};
 ghost use Rattle.engine_types.specs.declared.RunFault.{RunFault};
 ghost use Rattle.engine_types.specs.declared.SeenEnd.{SeenEnd};
-ghost use Rattle.run_model.specs.Ending.{ended_fault, exchange_fault, fault_of, first_fault, seen_fault};
-ghost use Rattle.run_model.specs.Journals.{ended_as, holding, is_well};
-ghost use Rattle.run_model.specs.Plans.{kind_of};
-ghost use Rattle.run_report.specs.Faults.{held_fault, request_held};
-ghost use Rattle.run_report.specs.Permits.{is_poll};
+ghost use Rattle.run_model.specs.Conditions.{report_of};
+ghost use Rattle.run_model.specs.Ending.{ended_fault, exchange_fault, fault_of, first_fault, seen_fault, slot_name};
+ghost use Rattle.run_model.specs.Journals.{Watch, Work, holding};
+ghost use Rattle.run_model.specs.Requests.{request_out};
+ghost use Rattle.run_report.specs.Conditions.{failed_condition};
+ghost use Rattle.run_report.specs.Rows.{AreRows, AreRowsOf};
 ghost use Rattle.run_requests.specs.Setups.{setup_of};
 
-use crate::actions::kind_of;
-use crate::asking::asked;
-use crate::held::{earlier, held};
-use crate::well::is_well;
-use engine_types::{Entry, Outcome, Plan, Request, RunFault, SeenEnd, SeenFault};
+use crate::asking::request_out;
+use crate::conditions::failed_condition;
+use crate::held::{Held, earlier, held_after};
+use crate::lines::slot_name;
+use crate::rows::Rows;
+use crate::standings::ended_well;
+use engine_types::{
+    Condition, Entry, Outcome, Reply, Report, Request, RunFault, SeenEnd, SeenFault,
+};
 use run_requests::Run;
 use std::alloc::Global;
-use tree_base::{Memory, TryCopy};
+use tree_base::{Memory, Text, TryCopy};
 
 /// What a run is refused with, by its journal from the oldest entry on: the fault of the first entry that
-/// fails. A run that waits for no condition has no poll in its journal.
+/// fails, None where none does.
 pub fn fault(alloc: Global, run: &Run<'_>, journal: &[Entry]) -> Result<Option<RunFault>, Memory>
-    requires { list_any is_poll journal.now ≡ false }
     ensures { IfOk result (λ fault. fault ≡ first_fault (setup_of run.now) (reverse journal.now)) }
 {
-    let mut first = None;
-    for at in 0..journal.len() {
-        first = first_through(alloc, first, run, journal, at)?;
-    }
-    Ok(first)
+    let rows = Rows::of(alloc, run, journal)?;
+    first_fault(alloc, run, &rows, journal)
 }
 
-/// The first fault of the entries before a place becomes that of the entry at it too.
-fn first_through(
+/// The fault of the first entry that fails, over the rows of the journal.
+fn first_fault(
     alloc: Global,
-    first: Option<RunFault>,
     run: &Run<'_>,
+    rows: &Rows,
     journal: &[Entry],
-    at: usize,
 ) -> Result<Option<RunFault>, Memory>
-    requires within { at < length journal.now }
-    requires no_polls { list_any is_poll journal.now ≡ false }
-    ensures { IfOk result (λ fault.
-        first ≡ first_fault (setup_of run.now) (reverse (take at journal.now))
-        → fault ≡ first_fault (setup_of run.now) (reverse (take (at + 1) journal.now))) }
+    requires { AreRowsOf (setup_of run.now) journal.now rows.now }
+    ensures { IfOk result (λ fault. fault ≡ first_fault (setup_of run.now) (reverse journal.now)) }
 {
-    first_of(alloc, first, run, earlier(journal, at), &journal[at])
-}
-
-/// The fault so far, else that of an entry that comes after these.
-fn first_of(
-    alloc: Global,
-    first: Option<RunFault>,
-    run: &Run<'_>,
-    past: &[Entry],
-    entry: &Entry,
-) -> Result<Option<RunFault>, Memory>
-    requires { list_any is_poll past.now ≡ false }
-    ensures { IfOk result (λ fault.
-        fault ≡ option_or first (fault_of (setup_of run.now) (reverse past.now) entry.now)) }
-{
-    match first {
-        Some(fault) => Ok(Some(fault)),
-        None => fault_of(alloc, run, past, entry),
+    for at in 0..journal.len() {
+        if let Some(fault) = fault_of(alloc, run, rows, earlier(journal, at), &journal[at])? {
+            return Ok(Some(fault));
+        }
     }
+    Ok(None)
 }
 
+/// The fault of an entry that comes after these, of which none failed.
 fn fault_of(
     alloc: Global,
     run: &Run<'_>,
+    rows: &Rows,
     past: &[Entry],
     entry: &Entry,
 ) -> Result<Option<RunFault>, Memory>
-    requires { list_any is_poll past.now ≡ false }
+    requires rows { AreRows (setup_of run.now) (reverse past.now) (length past.now) rows.now }
+    requires none { first_fault (setup_of run.now) (reverse past.now) ≡ None }
     ensures { IfOk result (λ fault.
         fault ≡ fault_of (setup_of run.now) (reverse past.now) entry.now) }
 {
     match entry {
         Entry::Seen(observed) => seen_fault(alloc, &observed.end),
-        Entry::Ended { worker, outcome } => end_fault(alloc, run, past, *worker, outcome),
+        Entry::Ended { worker, outcome } => end_fault(alloc, run, rows, past, *worker, outcome),
         Entry::Stop { .. } => Ok(Some(RunFault::Stopped)),
         Entry::Late { why, .. } => Ok(Some(RunFault::Late(*why))),
         Entry::Short { .. } => Ok(Some(RunFault::Memory)),
@@ -127,65 +113,139 @@ fn whole_fault(alloc: Global, fault: &SeenFault) -> Result<RunFault, Memory>
 fn end_fault(
     alloc: Global,
     run: &Run<'_>,
+    rows: &Rows,
     past: &[Entry],
     worker: u32,
     outcome: &Outcome,
 ) -> Result<Option<RunFault>, Memory>
-    requires { list_any is_poll past.now ≡ false }
+    requires rows { AreRows (setup_of run.now) (reverse past.now) (length past.now) rows.now }
+    requires none { first_fault (setup_of run.now) (reverse past.now) ≡ None }
     ensures { IfOk result (λ fault.
         fault ≡ ended_fault (setup_of run.now) (reverse past.now) worker outcome.now
         (holding (reverse past.now) worker)) }
 {
-    match held(past, worker) {
-        Some(action) => ended_fault(alloc, run, past, action, outcome),
-        None => Ok(None),
+    match held_after(past, worker) {
+        Held::Nothing => Ok(None),
+        Held::Work(action) => work_fault(alloc, run, past, worker, action, outcome),
+        Held::Watch(slot) => watch_fault(alloc, run, rows, past, worker, slot, outcome),
     }
 }
 
 /// The fault of an action's end: there is one where it didn't end well.
-fn ended_fault(
+fn work_fault(
     alloc: Global,
     run: &Run<'_>,
     past: &[Entry],
+    worker: u32,
     action: u32,
     outcome: &Outcome,
 ) -> Result<Option<RunFault>, Memory>
     ensures { IfOk result (λ fault.
-        fault ≡ held_fault (setup_of run.now) (reverse past.now) action outcome.now) }
+        fault ≡ ended_fault (setup_of run.now) (reverse past.now) worker outcome.now
+        (Work action)) }
 {
-    if ended_well(run.plan, action, outcome) {
+    if ended_well(run.plan, action as usize, outcome) {
         return Ok(None);
     }
-    let fault = exchange_fault(alloc, run, past, action, outcome)?;
+    let fault = exchange_fault(alloc, run, past, worker, outcome)?;
     Ok(Some(fault))
 }
 
-/// Whether an action that ended so ended well.
-fn ended_well(plan: &Plan, action: u32, outcome: &Outcome) -> bool
-    ensures { result ≡ is_well (ended_as (kind_of plan.now.actions action) outcome.now) }
+/// The fault of a poll's end: there is one where no report came, or where it makes a wanted condition fail.
+fn watch_fault(
+    alloc: Global,
+    run: &Run<'_>,
+    rows: &Rows,
+    past: &[Entry],
+    worker: u32,
+    slot: u32,
+    outcome: &Outcome,
+) -> Result<Option<RunFault>, Memory>
+    requires rows { AreRows (setup_of run.now) (reverse past.now) (length past.now) rows.now }
+    requires none { first_fault (setup_of run.now) (reverse past.now) ≡ None }
+    requires held { holding (reverse past.now) worker ≡ Watch slot }
+    ensures { IfOk result (λ fault.
+        fault ≡ ended_fault (setup_of run.now) (reverse past.now) worker outcome.now
+        (Watch slot)) }
 {
-    match kind_of(plan, action as usize) {
-        Some(kind) => is_well(kind, outcome),
-        None => false,
+    match report_of(outcome) {
+        Some(report) => report_fault(alloc, run, rows, past, worker, slot, report),
+        None => {
+            let fault = exchange_fault(alloc, run, past, worker, outcome)?;
+            Ok(Some(fault))
+        }
     }
 }
 
+/// The report of an outcome.
+fn report_of(outcome: &Outcome) -> Option<&Report>
+    ensures { option_copied result ≡ report_of outcome.now }
+{
+    match outcome {
+        Outcome::Answered(reply) => match reply {
+            Reply::State(report) => Some(report),
+            _ => None,
+        },
+        _ => None,
+    }
+}
+
+/// The fault of a report on a slot.
+fn report_fault(
+    alloc: Global,
+    run: &Run<'_>,
+    rows: &Rows,
+    past: &[Entry],
+    worker: u32,
+    slot: u32,
+    report: &Report,
+) -> Result<Option<RunFault>, Memory>
+    requires { AreRows (setup_of run.now) (reverse past.now) (length past.now) rows.now }
+    ensures { IfOk result (λ fault. fault ≡ option_map
+        (λ condition. RunFault.Condition
+        (slot_name (setup_of run.now) slot) condition report.now)
+        (failed_condition (setup_of run.now) (reverse past.now) worker slot report.now)) }
+{
+    match failed_condition(run, rows, past, worker, slot, report) {
+        Some(condition) => condition_fault(alloc, run, slot, condition, report),
+        None => Ok(None),
+    }
+}
+
+fn condition_fault(
+    alloc: Global,
+    run: &Run<'_>,
+    slot: u32,
+    condition: Condition,
+    report: &Report,
+) -> Result<Option<RunFault>, Memory>
+    ensures { IfOk result (λ fault. fault ≡ Some (RunFault.Condition
+        (slot_name (setup_of run.now) slot) condition report.now)) }
+{
+    let slot = Text::from_str(alloc, slot_name(run, slot))?;
+    Ok(Some(RunFault::Condition {
+        slot,
+        condition,
+        report: *report,
+    }))
+}
+
+/// The fault of an exchange that a worker ends so, not well.
 fn exchange_fault(
     alloc: Global,
     run: &Run<'_>,
     past: &[Entry],
-    action: u32,
+    worker: u32,
     outcome: &Outcome,
 ) -> Result<RunFault, Memory>
-    ensures { IfOk result (λ fault.
-        fault ≡ exchange_fault
-        (request_held (setup_of run.now) (reverse past.now) action) outcome.now) }
+    ensures { IfOk result (λ fault. fault ≡ exchange_fault
+        (request_out (setup_of run.now) (reverse past.now) worker) outcome.now) }
 {
     match outcome {
         Outcome::Memory => Ok(RunFault::Memory),
-        Outcome::Answered(_) => request_fault(alloc, run, past, action, outcome),
-        Outcome::Lost(_) => request_fault(alloc, run, past, action, outcome),
-        Outcome::NotSent => request_fault(alloc, run, past, action, outcome),
+        Outcome::Answered(_) => request_fault(alloc, run, past, worker, outcome),
+        Outcome::Lost(_) => request_fault(alloc, run, past, worker, outcome),
+        Outcome::NotSent => request_fault(alloc, run, past, worker, outcome),
     }
 }
 
@@ -193,14 +253,13 @@ fn request_fault(
     alloc: Global,
     run: &Run<'_>,
     past: &[Entry],
-    action: u32,
+    worker: u32,
     outcome: &Outcome,
 ) -> Result<RunFault, Memory>
-    ensures { IfOk result (λ fault.
-        fault ≡ RunFault.Request
-        (request_held (setup_of run.now) (reverse past.now) action) outcome.now) }
+    ensures { IfOk result (λ fault. fault ≡ RunFault.Request
+        (request_out (setup_of run.now) (reverse past.now) worker) outcome.now) }
 {
-    let request = request_held(alloc, run, past, action)?;
+    let request = request_out(alloc, run, past, worker)?;
     with_outcome(alloc, request, outcome)
 }
 
@@ -214,23 +273,5 @@ fn with_outcome(alloc: Global, request: Request, outcome: &Outcome) -> Result<Ru
             drop(request);
             Err(Memory)
         }
-    }
-}
-
-/// The request of the latest claim of an action; a listing stands where there is none.
-fn request_held(
-    alloc: Global,
-    run: &Run<'_>,
-    past: &[Entry],
-    action: u32,
-) -> Result<Request, Memory>
-    ensures { IfOk result (λ request.
-        request ≡ request_held (setup_of run.now) (reverse past.now) action) }
-{
-    match asked(alloc, run, past, action)? {
-        Some(request) => Ok(request),
-        None => Ok(Request::ListContainers {
-            project: run.declared.project.copy(alloc)?,
-        }),
     }
 }

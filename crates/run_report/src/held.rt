@@ -1,9 +1,17 @@
 ghost use Rattle.std.specs.Prelude.{◌≡◌, ◌≤◌, find, length, reverse, take};
 ghost use Rattle.std.specs.Option.{option_copied};
 ghost use Rattle.run_model.specs.Journals.{holding};
-ghost use Rattle.run_report.specs.Permits.{action_of, is_turn_of, permit_of};
+ghost use Rattle.run_report.specs.Permits.{holding_of, is_turn_of, permit_of};
 
 use engine_types::Entry;
+
+/// What a worker holds: nothing, a permit for an action, or one to poll a slot.
+#[derive(Clone, Copy)]
+pub(crate) enum Held {
+    Nothing,
+    Work(u32),
+    Watch(u32),
+}
 
 /// The entries of a journal before a place.
 pub(crate) fn earlier(journal: &[Entry], at: usize) -> &[Entry]
@@ -13,14 +21,14 @@ pub(crate) fn earlier(journal: &[Entry], at: usize) -> &[Entry]
     &journal[..at]
 }
 
-/// The action that a worker holds after these entries.
-pub(crate) fn held(past: &[Entry], worker: u32) -> Option<u32>
-    ensures { result ≡ action_of (holding (reverse past.now) worker) }
+/// What a worker holds after these entries.
+pub(crate) fn held_after(past: &[Entry], worker: u32) -> Held
+    ensures { holding_of result ≡ holding (reverse past.now) worker }
 {
     permitted(latest_turn(past, worker))
 }
 
-/// The worker's latest claim, poll or end.
+/// The worker's latest claim, poll or end. In a legal journal no entry is passed over for more than one end of a worker.
 fn latest_turn(past: &[Entry], worker: u32) -> Option<&Entry>
     ensures { option_copied result ≡ find (is_turn_of worker) (reverse past.now) }
 {
@@ -34,27 +42,16 @@ fn is_turn_of(entry: &Entry, of: u32) -> bool
         Entry::Claim { worker, .. } => *worker == of,
         Entry::Poll { worker, .. } => *worker == of,
         Entry::Ended { worker, .. } => *worker == of,
-        Entry::Seen(_) => false,
-        Entry::Idle { .. } => false,
-        Entry::Leave { .. } => false,
-        Entry::Stop { .. } => false,
-        Entry::Late { .. } => false,
-        Entry::Short { .. } => false,
+        _ => false,
     }
 }
 
-fn permitted(turn: Option<&Entry>) -> Option<u32>
-    ensures { result ≡ action_of (permit_of (option_copied turn.entry)) }
+fn permitted(turn: Option<&Entry>) -> Held
+    ensures { holding_of result ≡ permit_of (option_copied turn.entry) }
 {
-    match turn? {
-        Entry::Claim { action, .. } => Some(*action),
-        Entry::Poll { .. } => None,
-        Entry::Ended { .. } => None,
-        Entry::Seen(_) => None,
-        Entry::Idle { .. } => None,
-        Entry::Leave { .. } => None,
-        Entry::Stop { .. } => None,
-        Entry::Late { .. } => None,
-        Entry::Short { .. } => None,
+    match turn {
+        Some(Entry::Claim { action, .. }) => Held::Work(*action),
+        Some(Entry::Poll { slot, .. }) => Held::Watch(*slot),
+        _ => Held::Nothing,
     }
 }

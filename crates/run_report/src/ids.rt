@@ -1,16 +1,16 @@
 //! The ids of containers and networks that entries told.
 
-ghost use Rattle.std.specs.Prelude.{◌≡◌, Some, if◌then◌else◌, reverse};
+ghost use Rattle.std.specs.Prelude.{◌≡◌, Some, if◌then◌else◌, option_and_then, reverse};
 ghost use Rattle.std.specs.Option.{option_copied};
-ghost use Rattle.run_model.specs.Journals.{Badly, Well, ended_as, holding, is_good, is_work_on, standing};
-ghost use Rattle.run_model.specs.Plans.{kind_of};
+ghost use Rattle.run_model.specs.Journals.{Badly, Well, ended_as, is_good, standing};
+ghost use Rattle.run_model.specs.Plans.{create_of, kind_of};
 ghost use Rattle.run_model.specs.Requests.{made_id};
-ghost use Rattle.run_report.specs.Telling.{decides, standing_by};
+ghost use Rattle.run_report.specs.Telling.{standing_by};
 ghost use Rattle.run_requests.specs.Asking.{ids_of};
 ghost use Rattle.run_requests.specs.Setups.{setup_of};
 
 use crate::actions::{create_of, kind_of, make_of};
-use crate::held::{earlier, held};
+use crate::standings::deciding;
 use engine_types::{ActionKind, Entry, Outcome, Plan, Reply};
 use run_lookups::is_good;
 use run_requests::{Run, ToldIds};
@@ -39,46 +39,26 @@ impl ToldIds for Past<'_> {
     }
 }
 
-/// The id that an action was told: by the latest entry that says how it stands.
+/// What the create of a slot's container was told.
+pub(crate) fn created_id<'a>(run: &Run<'_>, past: &'a [Entry], slot: u32) -> Option<&'a Text>
+    ensures { option_copied result ≡ option_and_then
+        (λ a. made_id (standing (setup_of run.now) (reverse past.now) a))
+        (create_of run.now.plan.now.actions slot) }
+{
+    match create_of(run.plan, slot) {
+        Some(create) => told_id(run, past, create),
+        None => None,
+    }
+}
+
+/// The id that an action was told.
 fn told_id<'a>(run: &Run<'_>, past: &'a [Entry], action: usize) -> Option<&'a Text>
     ensures { option_copied result ≡
         made_id (standing (setup_of run.now) (reverse past.now) action) }
 {
-    let mut at = past.len();
-    while at > 0 {
-        at -= 1;
-        let entry = &past[at];
-        if decides(earlier(past, at), entry, action) {
-            return told_by(run.plan, entry, action);
-        }
-    }
-    None
-}
-
-/// Whether an entry that comes after these says how an action stands: it claims the action, or ends it.
-fn decides(past: &[Entry], entry: &Entry, of: usize) -> bool
-    ensures { result ≡ decides (reverse past.now) entry.now of }
-{
-    match entry {
-        Entry::Claim { action, .. } => *action as usize == of,
-        Entry::Ended { worker, .. } => holds(past, *worker, of),
-        Entry::Poll { .. } => false,
-        Entry::Seen(_) => false,
-        Entry::Idle { .. } => false,
-        Entry::Leave { .. } => false,
-        Entry::Stop { .. } => false,
-        Entry::Late { .. } => false,
-        Entry::Short { .. } => false,
-    }
-}
-
-/// Whether a worker holds this action after these entries.
-fn holds(past: &[Entry], worker: u32, of: usize) -> bool
-    ensures { result ≡ is_work_on of (holding (reverse past.now) worker) }
-{
-    match held(past, worker) {
-        Some(action) => action as usize == of,
-        None => false,
+    match deciding(past, action) {
+        Some(entry) => told_by(run.plan, entry, action),
+        None => None,
     }
 }
 
@@ -88,14 +68,7 @@ fn told_by<'a>(plan: &Plan, entry: &'a Entry, action: usize) -> Option<&'a Text>
 {
     match entry {
         Entry::Ended { outcome, .. } => told_of(plan, action, outcome),
-        Entry::Claim { .. } => None,
-        Entry::Poll { .. } => None,
-        Entry::Seen(_) => None,
-        Entry::Idle { .. } => None,
-        Entry::Leave { .. } => None,
-        Entry::Stop { .. } => None,
-        Entry::Late { .. } => None,
-        Entry::Short { .. } => None,
+        _ => None,
     }
 }
 

@@ -1,16 +1,22 @@
-//! What a journal tells of the end of a run that waits for no goal: the report, and the fault of the first entry that
-//! fails.
+//! What a journal tells of the end of its run: the report, and the fault of the first entry that fails.
 //!
-//! Contracts say each exactly, by the definitions of `run_model` on the journal.
+//! Contracts say each exactly, by the definitions of `run_model`, for every journal: of any number of workers, with polls,
+//! conditions, goals, stops and limits. Both go through the journal once.
 #![tactic(auto)]
 
 mod actions;
 mod asking;
+mod claims;
+mod conditions;
 mod faults;
 mod held;
 mod ids;
 mod lines;
+mod polls;
 mod reporting;
+mod rows;
+mod standings;
+mod wanted;
 mod well;
 
 pub use faults::fault;

@@ -86,7 +86,8 @@ fn container_name<'a>(run: &Run<'a>, container: u64) -> &'a str
     }
 }
 
-fn slot_name<'a>(run: &Run<'a>, slot: u32) -> &'a str
+/// The name of a slot's container.
+pub(crate) fn slot_name<'a>(run: &Run<'a>, slot: u32) -> &'a str
     ensures { result.now ≡ slot_name (setup_of run.now) slot }
 {
     match run.declared.slots.get(slot as usize) {

@@ -5,7 +5,7 @@ ghost use Rattle.run_requests.specs.Setups.{setup_of};
 ghost use Rattle.run_report.specs.Reports.{entry_line};
 
 use crate::actions::kind_of;
-use crate::held::{earlier, held};
+use crate::held::{Held, earlier, held_after};
 use crate::lines::done_line;
 use crate::well::is_well;
 use engine_types::{ActionKind, Entry, Outcome};
@@ -61,14 +61,7 @@ fn entry_line(alloc: Global, run: &Run<'_>, past: &[Entry], entry: &Entry) -> Re
 {
     match entry {
         Entry::Ended { worker, outcome } => end_line(alloc, run, past, *worker, outcome),
-        Entry::Claim { .. } => Ok(Text::new(alloc)),
-        Entry::Poll { .. } => Ok(Text::new(alloc)),
-        Entry::Seen(_) => Ok(Text::new(alloc)),
-        Entry::Idle { .. } => Ok(Text::new(alloc)),
-        Entry::Leave { .. } => Ok(Text::new(alloc)),
-        Entry::Stop { .. } => Ok(Text::new(alloc)),
-        Entry::Late { .. } => Ok(Text::new(alloc)),
-        Entry::Short { .. } => Ok(Text::new(alloc)),
+        _ => Ok(Text::new(alloc)),
     }
 }
 
@@ -83,9 +76,9 @@ fn end_line(
     ensures { IfOk result (λ text.
         text ≡ ended_line (setup_of run.now) outcome.now (holding (reverse past.now) worker)) }
 {
-    match held(past, worker) {
-        Some(action) => ended_line(alloc, run, action, outcome),
-        None => Ok(Text::new(alloc)),
+    match held_after(past, worker) {
+        Held::Work(action) => ended_line(alloc, run, action, outcome),
+        Held::Nothing | Held::Watch(_) => Ok(Text::new(alloc)),
     }
 }
 

@@ -1,4 +1,4 @@
-use Rattle.asked_run.proofs.Declared.{built_no_read, gives_built, gives_refused, identity_no_read, set_own, set_whole}
+use Rattle.asked_run.proofs.Declared.{built_no_read, gives_built, gives_refused, identity_no_read, set_acyclic, set_own, set_whole}
 use Rattle.declared_set.specs.Declaring.{declared}
 use Rattle.asked_run.proofs.declaring.declared_in.Goals as goal
 
@@ -19,3 +19,6 @@ returns-in-Err-clause-told c = gives_refused (declared c.args.project.now c.args
 
 pub returns-in-Err-clause-read : goal.returns-in-Err-clause-read
 returns-in-Err-clause-read c = identity_no_read c.in-Err.refusal c.from.result c.from.ensures.refusal
+
+pub built_or_not-requires-clause-acyclic : goal.built_or_not-requires-clause-acyclic
+built_or_not-requires-clause-acyclic c = set_acyclic c.args.project.now c.args.scales.now c.args.digests.now c.in-Ok.declared c.requires.keyed.order.services c.requires.acyclic c.in-Ok.ensures

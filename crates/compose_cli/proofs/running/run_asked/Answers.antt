@@ -3,12 +3,13 @@ use Rattle.asked_run.specs.Declaring.{declared_from}
 use Rattle.compose_cli.proofs.Declaring.{declared_unrefused, declaring_no_load, declaring_no_outside, declaring_no_words, declaring_unbegun, for_declared, only_digests, refused_undeclared, said_digest}
 use Rattle.compose_cli.proofs.Ending.{counts_none, no_words}
 use Rattle.compose_cli.proofs.Ran.{if_begun}
-use Rattle.compose_cli.specs.Runs.{RunsWhole}
+use Rattle.compose_cli.specs.Runs.{RunsWhole, first_reading}
 use Rattle.compose_config.proofs.Loads.{IfSome-map}
 use Rattle.project_run.specs.Whole.{task_of}
 use Rattle.refusals.specs.Origins.{IsOfLoading}
 use Rattle.refusals.specs.declared.Part.{Part}
-use Rattle.serial_run.specs.Serial.{aim_of, one_worker}
+use Rattle.project_run.specs.Options.{aim_of, options_of}
+use Rattle.run_model.specs.Runs.{limits_of}
 use Rattle.compose_cli.proofs.running.run_asked.Goals as goal
 
 pub returns-in-Ok-clause-declaring : goal.returns-in-Ok-clause-declaring
@@ -35,8 +36,8 @@ returns-in-Ok-clause-quiet_loading g c = λ loading. absurd (c.run_declared.ensu
 pub returns-in-Ok-clause-ran : goal.returns-in-Ok-clause-ran
 returns-in-Ok-clause-ran g c = if_begun c.run_declared.result.journal c.run_declared.ensures.ran (λ ran.
     for_declared (g.F.Files.told c.args.files.now) c.args.asked.now.options.command c.args.asked.now.project c.in-Ok.declared (λ declared. RunsWhole
-    (λ h. g.P.Hand.Hand.log h) (λ h. g.P.Hand.Hand.heard h) (λ h. g.P.Hand.Hand.faults h) (λ h. g.P.Hand.Hand.engine h) (g.P.Plug.engine c.args.plug.now)
-    (task_of declared (aim_of c.args.aim) one_worker) c.run_declared.result
+    (λ h. g.P.Hand.Hand.log h) (λ h. g.P.Hand.Hand.heard h) (λ h. g.P.Hand.Hand.faults h) (λ h. g.P.Hand.Hand.clock h) (λ h. g.P.Hand.Hand.engine h) (g.P.Plug.engine c.args.plug.now)
+    (task_of declared (aim_of c.args.aim) (limits_of (options_of c.args.options) (first_reading (λ h. g.P.Hand.Hand.clock h) c.run_declared.result.hands))) c.run_declared.result
     (g.O.Sink.written c.args.out.now) (g.O.Sink.written c.run_declared.new.out) (g.O.Sink.faults c.args.out.now) (g.O.Sink.faults c.run_declared.new.out))
     c.in-Ok.ensures.told c.in-Ok.ensures.declared (record { ran = ran; moved = c.run_declared.ensures.engine }))
 

@@ -8,6 +8,7 @@ use Rattle.compose_config.specs.Commands.{GrewByPrefix, IsReadFault, page_asked,
 use Rattle.asked_run.specs.Declaring.{declared_from}
 use Rattle.compose_cli.proofs.Declaring.{asking_undeclared, digest_faults, digest_read, if_declared, if_declared_idle, loads_fault}
 use Rattle.compose_cli.proofs.Ending.{asking_no_digest, before_unbegun, beside, counts_none, if_runs, no_config, no_words, only_reads, refused_with}
+use Rattle.compose_cli.proofs.Circles.{spelled_acyclic}
 use Rattle.compose_cli.proofs.Reachable.{reachable}
 use Rattle.compose_cli.proofs.Ran.{asked, aims, has_begun, idle, idle_task, if_begun, if_begun_in, said_not_zero, status_by, task_by, unasked}
 use Rattle.compose_cli.specs.Ends.{SendsNothing}
@@ -24,107 +25,116 @@ use Rattle.run_model.specs.EngineRules.{Among}
 use Rattle.run_model.specs.Logs.{GrowsBy}
 use Rattle.run_model.specs.Observation.{is_up}
 use Rattle.run_model.specs.Runs.{IsLeftByAll, IsRun, run_exchanges, run_fault, run_report, run_status}
-use Rattle.serial_run.specs.Serial.{aim_of}
+use Rattle.project_run.specs.Options.{aim_of, options_of}
+use Rattle.project_run.specs.Timing.{IsTimed}
+use Rattle.outside_api.specs.Clock.{new_clock}
 use Rattle.compose_cli.proofs.Statuses.{not_refused}
 use Rattle.compose_cli.proofs.top.serial_main.Goals as goal
 
 pub returns-in-Some-clause-legal : goal.returns-in-Some-clause-legal
 returns-in-Some-clause-legal g c = if_begun c.run_asked.result.journal c.run_asked.ensures.ran (λ ran.
-    task_by c.args.words.now c.args.env.now c.args.cwd.now (g.F.Files.told c.args.files.now) (g.F.Files.told c.project_asked.new.files) (first_reading (λ h. g.P.Hand.Hand.clock h) c.run_asked.result.hands) (aim_of c.in-Some.aim) c.in-Ok.asked
-    (λ task. RunsWhole (λ h. g.P.Hand.Hand.log h) (λ h. g.P.Hand.Hand.heard h) (λ h. g.P.Hand.Hand.faults h) (λ h. g.P.Hand.Hand.engine h) (g.P.Plug.engine c.args.plug.now) task c.run_asked.result (g.O.Sink.written c.args.out.now) (g.O.Sink.written c.run_asked.new.out) (g.O.Sink.faults c.args.out.now) (g.O.Sink.faults c.run_asked.new.out))
+    task_by c.args.words.now c.args.env.now c.args.cwd.now (g.F.Files.told c.args.files.now) (g.F.Files.told c.project_asked.new.files) (first_reading (λ h. g.P.Hand.Hand.clock h) c.run_asked.result.hands) (aim_of c.in-Some.aim) (options_of c.options_for-options.result) c.in-Ok.asked
+    (λ task. RunsWhole (λ h. g.P.Hand.Hand.log h) (λ h. g.P.Hand.Hand.heard h) (λ h. g.P.Hand.Hand.faults h) (λ h. g.P.Hand.Hand.clock h) (λ h. g.P.Hand.Hand.engine h) (g.P.Plug.engine c.args.plug.now) task c.run_asked.result (g.O.Sink.written c.args.out.now) (g.O.Sink.written c.run_asked.new.out) (g.O.Sink.faults c.args.out.now) (g.O.Sink.faults c.run_asked.new.out))
     (λ task. IsRun task c.run_asked.result.journal)
-    c.project_asked.ensures.kept (command_is c.args.words.now c.args.env.now c.in-Ok.asked.options c.in-Ok.ensures.options) (aims c.in-Ok.asked.options.command c.aim_for.result c.in-Some.aim c.aim_for.ensures c.in-Some.is) c.in-Ok.ensures.told c.in-Ok.ensures.text ran (λ task whole. whole.ran.run))
+    c.project_asked.ensures.kept (command_is c.args.words.now c.args.env.now c.in-Ok.asked.options c.in-Ok.ensures.options) (aims c.in-Ok.asked.options.command c.aim_for.result c.in-Some.aim c.aim_for.ensures c.in-Some.is) c.options_for-options.ensures c.in-Ok.ensures.told c.in-Ok.ensures.text ran (λ task whole. whole.ran.run))
 
 pub returns-in-Some-clause-left : goal.returns-in-Some-clause-left
 returns-in-Some-clause-left g c = if_begun c.run_asked.result.journal c.run_asked.ensures.ran (λ ran.
-    task_by c.args.words.now c.args.env.now c.args.cwd.now (g.F.Files.told c.args.files.now) (g.F.Files.told c.project_asked.new.files) (first_reading (λ h. g.P.Hand.Hand.clock h) c.run_asked.result.hands) (aim_of c.in-Some.aim) c.in-Ok.asked
-    (λ task. RunsWhole (λ h. g.P.Hand.Hand.log h) (λ h. g.P.Hand.Hand.heard h) (λ h. g.P.Hand.Hand.faults h) (λ h. g.P.Hand.Hand.engine h) (g.P.Plug.engine c.args.plug.now) task c.run_asked.result (g.O.Sink.written c.args.out.now) (g.O.Sink.written c.run_asked.new.out) (g.O.Sink.faults c.args.out.now) (g.O.Sink.faults c.run_asked.new.out))
+    task_by c.args.words.now c.args.env.now c.args.cwd.now (g.F.Files.told c.args.files.now) (g.F.Files.told c.project_asked.new.files) (first_reading (λ h. g.P.Hand.Hand.clock h) c.run_asked.result.hands) (aim_of c.in-Some.aim) (options_of c.options_for-options.result) c.in-Ok.asked
+    (λ task. RunsWhole (λ h. g.P.Hand.Hand.log h) (λ h. g.P.Hand.Hand.heard h) (λ h. g.P.Hand.Hand.faults h) (λ h. g.P.Hand.Hand.clock h) (λ h. g.P.Hand.Hand.engine h) (g.P.Plug.engine c.args.plug.now) task c.run_asked.result (g.O.Sink.written c.args.out.now) (g.O.Sink.written c.run_asked.new.out) (g.O.Sink.faults c.args.out.now) (g.O.Sink.faults c.run_asked.new.out))
     (λ task. IsLeftByAll task c.run_asked.result.journal)
-    c.project_asked.ensures.kept (command_is c.args.words.now c.args.env.now c.in-Ok.asked.options c.in-Ok.ensures.options) (aims c.in-Ok.asked.options.command c.aim_for.result c.in-Some.aim c.aim_for.ensures c.in-Some.is) c.in-Ok.ensures.told c.in-Ok.ensures.text ran (λ task whole. whole.ran.left))
+    c.project_asked.ensures.kept (command_is c.args.words.now c.args.env.now c.in-Ok.asked.options c.in-Ok.ensures.options) (aims c.in-Ok.asked.options.command c.aim_for.result c.in-Some.aim c.aim_for.ensures c.in-Some.is) c.options_for-options.ensures c.in-Ok.ensures.told c.in-Ok.ensures.text ran (λ task whole. whole.ran.left))
 
 pub returns-in-Some-clause-hands : goal.returns-in-Some-clause-hands
 returns-in-Some-clause-hands g c = if_begun c.run_asked.result.journal c.run_asked.ensures.ran (λ ran.
-    task_by c.args.words.now c.args.env.now c.args.cwd.now (g.F.Files.told c.args.files.now) (g.F.Files.told c.project_asked.new.files) (first_reading (λ h. g.P.Hand.Hand.clock h) c.run_asked.result.hands) (aim_of c.in-Some.aim) c.in-Ok.asked
-    (λ task. RunsWhole (λ h. g.P.Hand.Hand.log h) (λ h. g.P.Hand.Hand.heard h) (λ h. g.P.Hand.Hand.faults h) (λ h. g.P.Hand.Hand.engine h) (g.P.Plug.engine c.args.plug.now) task c.run_asked.result (g.O.Sink.written c.args.out.now) (g.O.Sink.written c.run_asked.new.out) (g.O.Sink.faults c.args.out.now) (g.O.Sink.faults c.run_asked.new.out))
+    task_by c.args.words.now c.args.env.now c.args.cwd.now (g.F.Files.told c.args.files.now) (g.F.Files.told c.project_asked.new.files) (first_reading (λ h. g.P.Hand.Hand.clock h) c.run_asked.result.hands) (aim_of c.in-Some.aim) (options_of c.options_for-options.result) c.in-Ok.asked
+    (λ task. RunsWhole (λ h. g.P.Hand.Hand.log h) (λ h. g.P.Hand.Hand.heard h) (λ h. g.P.Hand.Hand.faults h) (λ h. g.P.Hand.Hand.clock h) (λ h. g.P.Hand.Hand.engine h) (g.P.Plug.engine c.args.plug.now) task c.run_asked.result (g.O.Sink.written c.args.out.now) (g.O.Sink.written c.run_asked.new.out) (g.O.Sink.faults c.args.out.now) (g.O.Sink.faults c.run_asked.new.out))
     (λ task. length c.run_asked.result.hands ≡ task.limits.workers)
-    c.project_asked.ensures.kept (command_is c.args.words.now c.args.env.now c.in-Ok.asked.options c.in-Ok.ensures.options) (aims c.in-Ok.asked.options.command c.aim_for.result c.in-Some.aim c.aim_for.ensures c.in-Some.is) c.in-Ok.ensures.told c.in-Ok.ensures.text ran (λ task whole. whole.ran.hands))
+    c.project_asked.ensures.kept (command_is c.args.words.now c.args.env.now c.in-Ok.asked.options c.in-Ok.ensures.options) (aims c.in-Ok.asked.options.command c.aim_for.result c.in-Some.aim c.aim_for.ensures c.in-Some.is) c.options_for-options.ensures c.in-Ok.ensures.told c.in-Ok.ensures.text ran (λ task whole. whole.ran.hands))
 
 pub returns-in-Some-clause-log : goal.returns-in-Some-clause-log
 returns-in-Some-clause-log g c = if_begun c.run_asked.result.journal c.run_asked.ensures.ran (λ ran.
-    task_by c.args.words.now c.args.env.now c.args.cwd.now (g.F.Files.told c.args.files.now) (g.F.Files.told c.project_asked.new.files) (first_reading (λ h. g.P.Hand.Hand.clock h) c.run_asked.result.hands) (aim_of c.in-Some.aim) c.in-Ok.asked
-    (λ task. RunsWhole (λ h. g.P.Hand.Hand.log h) (λ h. g.P.Hand.Hand.heard h) (λ h. g.P.Hand.Hand.faults h) (λ h. g.P.Hand.Hand.engine h) (g.P.Plug.engine c.args.plug.now) task c.run_asked.result (g.O.Sink.written c.args.out.now) (g.O.Sink.written c.run_asked.new.out) (g.O.Sink.faults c.args.out.now) (g.O.Sink.faults c.run_asked.new.out))
+    task_by c.args.words.now c.args.env.now c.args.cwd.now (g.F.Files.told c.args.files.now) (g.F.Files.told c.project_asked.new.files) (first_reading (λ h. g.P.Hand.Hand.clock h) c.run_asked.result.hands) (aim_of c.in-Some.aim) (options_of c.options_for-options.result) c.in-Ok.asked
+    (λ task. RunsWhole (λ h. g.P.Hand.Hand.log h) (λ h. g.P.Hand.Hand.heard h) (λ h. g.P.Hand.Hand.faults h) (λ h. g.P.Hand.Hand.clock h) (λ h. g.P.Hand.Hand.engine h) (g.P.Plug.engine c.args.plug.now) task c.run_asked.result (g.O.Sink.written c.args.out.now) (g.O.Sink.written c.run_asked.new.out) (g.O.Sink.faults c.args.out.now) (g.O.Sink.faults c.run_asked.new.out))
     (λ task. (w : ℕ) (hand : _) → slice_get c.run_asked.result.hands w ≡ Some hand → GrowsBy (run_exchanges task c.run_asked.result.journal w) [] (g.P.Hand.Hand.log hand))
-    c.project_asked.ensures.kept (command_is c.args.words.now c.args.env.now c.in-Ok.asked.options c.in-Ok.ensures.options) (aims c.in-Ok.asked.options.command c.aim_for.result c.in-Some.aim c.aim_for.ensures c.in-Some.is) c.in-Ok.ensures.told c.in-Ok.ensures.text ran (λ task whole. whole.ran.logs))
+    c.project_asked.ensures.kept (command_is c.args.words.now c.args.env.now c.in-Ok.asked.options c.in-Ok.ensures.options) (aims c.in-Ok.asked.options.command c.aim_for.result c.in-Some.aim c.aim_for.ensures c.in-Some.is) c.options_for-options.ensures c.in-Ok.ensures.told c.in-Ok.ensures.text ran (λ task whole. whole.ran.logs))
 
 pub returns-in-Some-clause-cause : goal.returns-in-Some-clause-cause
 returns-in-Some-clause-cause g c = if_begun c.run_asked.result.journal c.run_asked.ensures.ran (λ ran.
-    task_by c.args.words.now c.args.env.now c.args.cwd.now (g.F.Files.told c.args.files.now) (g.F.Files.told c.project_asked.new.files) (first_reading (λ h. g.P.Hand.Hand.clock h) c.run_asked.result.hands) (aim_of c.in-Some.aim) c.in-Ok.asked
-    (λ task. RunsWhole (λ h. g.P.Hand.Hand.log h) (λ h. g.P.Hand.Hand.heard h) (λ h. g.P.Hand.Hand.faults h) (λ h. g.P.Hand.Hand.engine h) (g.P.Plug.engine c.args.plug.now) task c.run_asked.result (g.O.Sink.written c.args.out.now) (g.O.Sink.written c.run_asked.new.out) (g.O.Sink.faults c.args.out.now) (g.O.Sink.faults c.run_asked.new.out))
+    task_by c.args.words.now c.args.env.now c.args.cwd.now (g.F.Files.told c.args.files.now) (g.F.Files.told c.project_asked.new.files) (first_reading (λ h. g.P.Hand.Hand.clock h) c.run_asked.result.hands) (aim_of c.in-Some.aim) (options_of c.options_for-options.result) c.in-Ok.asked
+    (λ task. RunsWhole (λ h. g.P.Hand.Hand.log h) (λ h. g.P.Hand.Hand.heard h) (λ h. g.P.Hand.Hand.faults h) (λ h. g.P.Hand.Hand.clock h) (λ h. g.P.Hand.Hand.engine h) (g.P.Plug.engine c.args.plug.now) task c.run_asked.result (g.O.Sink.written c.args.out.now) (g.O.Sink.written c.run_asked.new.out) (g.O.Sink.faults c.args.out.now) (g.O.Sink.faults c.run_asked.new.out))
     (λ task. (w : ℕ) (hand : _) → slice_get c.run_asked.result.hands w ≡ Some hand → IsCausedAnew task c.run_asked.result.journal w (account (g.P.Hand.Hand.log hand) (g.P.Hand.Hand.heard hand) (g.P.Hand.Hand.faults hand)))
-    c.project_asked.ensures.kept (command_is c.args.words.now c.args.env.now c.in-Ok.asked.options c.in-Ok.ensures.options) (aims c.in-Ok.asked.options.command c.aim_for.result c.in-Some.aim c.aim_for.ensures c.in-Some.is) c.in-Ok.ensures.told c.in-Ok.ensures.text ran (λ task whole. whole.ran.caused))
+    c.project_asked.ensures.kept (command_is c.args.words.now c.args.env.now c.in-Ok.asked.options c.in-Ok.ensures.options) (aims c.in-Ok.asked.options.command c.aim_for.result c.in-Some.aim c.aim_for.ensures c.in-Some.is) c.options_for-options.ensures c.in-Ok.ensures.told c.in-Ok.ensures.text ran (λ task whole. whole.ran.caused))
+
+pub returns-in-Some-clause-timed : goal.returns-in-Some-clause-timed
+returns-in-Some-clause-timed g c = if_begun c.run_asked.result.journal c.run_asked.ensures.ran (λ ran.
+    task_by c.args.words.now c.args.env.now c.args.cwd.now (g.F.Files.told c.args.files.now) (g.F.Files.told c.project_asked.new.files) (first_reading (λ h. g.P.Hand.Hand.clock h) c.run_asked.result.hands) (aim_of c.in-Some.aim) (options_of c.options_for-options.result) c.in-Ok.asked
+    (λ task. RunsWhole (λ h. g.P.Hand.Hand.log h) (λ h. g.P.Hand.Hand.heard h) (λ h. g.P.Hand.Hand.faults h) (λ h. g.P.Hand.Hand.clock h) (λ h. g.P.Hand.Hand.engine h) (g.P.Plug.engine c.args.plug.now) task c.run_asked.result (g.O.Sink.written c.args.out.now) (g.O.Sink.written c.run_asked.new.out) (g.O.Sink.faults c.args.out.now) (g.O.Sink.faults c.run_asked.new.out))
+    (λ task. (w : ℕ) (hand : _) → slice_get c.run_asked.result.hands w ≡ Some hand → IsTimed task c.run_asked.result.journal w new_clock (g.P.Hand.Hand.clock hand))
+    c.project_asked.ensures.kept (command_is c.args.words.now c.args.env.now c.in-Ok.asked.options c.in-Ok.ensures.options) (aims c.in-Ok.asked.options.command c.aim_for.result c.in-Some.aim c.aim_for.ensures c.in-Some.is) c.options_for-options.ensures c.in-Ok.ensures.told c.in-Ok.ensures.text ran (λ task whole. whole.ran.timed))
 
 pub returns-in-Some-clause-run_status : goal.returns-in-Some-clause-run_status
 returns-in-Some-clause-run_status g c = if_begun c.run_asked.result.journal c.run_asked.ensures.ran (λ ran.
-    task_by c.args.words.now c.args.env.now c.args.cwd.now (g.F.Files.told c.args.files.now) (g.F.Files.told c.project_asked.new.files) (first_reading (λ h. g.P.Hand.Hand.clock h) c.run_asked.result.hands) (aim_of c.in-Some.aim) c.in-Ok.asked
-    (λ task. RunsWhole (λ h. g.P.Hand.Hand.log h) (λ h. g.P.Hand.Hand.heard h) (λ h. g.P.Hand.Hand.faults h) (λ h. g.P.Hand.Hand.engine h) (g.P.Plug.engine c.args.plug.now) task c.run_asked.result (g.O.Sink.written c.args.out.now) (g.O.Sink.written c.run_asked.new.out) (g.O.Sink.faults c.args.out.now) (g.O.Sink.faults c.run_asked.new.out))
+    task_by c.args.words.now c.args.env.now c.args.cwd.now (g.F.Files.told c.args.files.now) (g.F.Files.told c.project_asked.new.files) (first_reading (λ h. g.P.Hand.Hand.clock h) c.run_asked.result.hands) (aim_of c.in-Some.aim) (options_of c.options_for-options.result) c.in-Ok.asked
+    (λ task. RunsWhole (λ h. g.P.Hand.Hand.log h) (λ h. g.P.Hand.Hand.heard h) (λ h. g.P.Hand.Hand.faults h) (λ h. g.P.Hand.Hand.clock h) (λ h. g.P.Hand.Hand.engine h) (g.P.Plug.engine c.args.plug.now) task c.run_asked.result (g.O.Sink.written c.args.out.now) (g.O.Sink.written c.run_asked.new.out) (g.O.Sink.faults c.args.out.now) (g.O.Sink.faults c.run_asked.new.out))
     (λ task. IsStatusOf (run_status task c.run_asked.result.journal) c.run_asked.result.status)
-    c.project_asked.ensures.kept (command_is c.args.words.now c.args.env.now c.in-Ok.asked.options c.in-Ok.ensures.options) (aims c.in-Ok.asked.options.command c.aim_for.result c.in-Some.aim c.aim_for.ensures c.in-Some.is) c.in-Ok.ensures.told c.in-Ok.ensures.text ran (λ task whole. status_by (run_fault task c.run_asked.result.journal) (g.O.Sink.faults c.args.out.now) (g.O.Sink.faults c.run_asked.new.out) c.run_asked.result.refusal c.run_asked.result.status whole.ran.refused c.run_asked.ensures.status))
+    c.project_asked.ensures.kept (command_is c.args.words.now c.args.env.now c.in-Ok.asked.options c.in-Ok.ensures.options) (aims c.in-Ok.asked.options.command c.aim_for.result c.in-Some.aim c.aim_for.ensures c.in-Some.is) c.options_for-options.ensures c.in-Ok.ensures.told c.in-Ok.ensures.text ran (λ task whole. status_by (run_fault task c.run_asked.result.journal) (g.O.Sink.faults c.args.out.now) (g.O.Sink.faults c.run_asked.new.out) c.run_asked.result.refusal c.run_asked.result.status whole.ran.refused c.run_asked.ensures.status))
 
 pub returns-in-Some-clause-run_fault : goal.returns-in-Some-clause-run_fault
 returns-in-Some-clause-run_fault g c = if_begun c.run_asked.result.journal c.run_asked.ensures.ran (λ ran.
-    task_by c.args.words.now c.args.env.now c.args.cwd.now (g.F.Files.told c.args.files.now) (g.F.Files.told c.project_asked.new.files) (first_reading (λ h. g.P.Hand.Hand.clock h) c.run_asked.result.hands) (aim_of c.in-Some.aim) c.in-Ok.asked
-    (λ task. RunsWhole (λ h. g.P.Hand.Hand.log h) (λ h. g.P.Hand.Hand.heard h) (λ h. g.P.Hand.Hand.faults h) (λ h. g.P.Hand.Hand.engine h) (g.P.Plug.engine c.args.plug.now) task c.run_asked.result (g.O.Sink.written c.args.out.now) (g.O.Sink.written c.run_asked.new.out) (g.O.Sink.faults c.args.out.now) (g.O.Sink.faults c.run_asked.new.out))
+    task_by c.args.words.now c.args.env.now c.args.cwd.now (g.F.Files.told c.args.files.now) (g.F.Files.told c.project_asked.new.files) (first_reading (λ h. g.P.Hand.Hand.clock h) c.run_asked.result.hands) (aim_of c.in-Some.aim) (options_of c.options_for-options.result) c.in-Ok.asked
+    (λ task. RunsWhole (λ h. g.P.Hand.Hand.log h) (λ h. g.P.Hand.Hand.heard h) (λ h. g.P.Hand.Hand.faults h) (λ h. g.P.Hand.Hand.clock h) (λ h. g.P.Hand.Hand.engine h) (g.P.Plug.engine c.args.plug.now) task c.run_asked.result (g.O.Sink.written c.args.out.now) (g.O.Sink.written c.run_asked.new.out) (g.O.Sink.faults c.args.out.now) (g.O.Sink.faults c.run_asked.new.out))
     (λ task. IsRefusalOf (run_fault task c.run_asked.result.journal) (g.O.Sink.faults c.args.out.now) (g.O.Sink.faults c.run_asked.new.out) c.run_asked.result.refusal)
-    c.project_asked.ensures.kept (command_is c.args.words.now c.args.env.now c.in-Ok.asked.options c.in-Ok.ensures.options) (aims c.in-Ok.asked.options.command c.aim_for.result c.in-Some.aim c.aim_for.ensures c.in-Some.is) c.in-Ok.ensures.told c.in-Ok.ensures.text ran (λ task whole. whole.ran.refused))
+    c.project_asked.ensures.kept (command_is c.args.words.now c.args.env.now c.in-Ok.asked.options c.in-Ok.ensures.options) (aims c.in-Ok.asked.options.command c.aim_for.result c.in-Some.aim c.aim_for.ensures c.in-Some.is) c.options_for-options.ensures c.in-Ok.ensures.told c.in-Ok.ensures.text ran (λ task whole. whole.ran.refused))
 
 pub returns-in-Some-clause-report : goal.returns-in-Some-clause-report
 returns-in-Some-clause-report g c = if_begun c.run_asked.result.journal c.run_asked.ensures.ran (λ ran.
-    task_by c.args.words.now c.args.env.now c.args.cwd.now (g.F.Files.told c.args.files.now) (g.F.Files.told c.project_asked.new.files) (first_reading (λ h. g.P.Hand.Hand.clock h) c.run_asked.result.hands) (aim_of c.in-Some.aim) c.in-Ok.asked
-    (λ task. RunsWhole (λ h. g.P.Hand.Hand.log h) (λ h. g.P.Hand.Hand.heard h) (λ h. g.P.Hand.Hand.faults h) (λ h. g.P.Hand.Hand.engine h) (g.P.Plug.engine c.args.plug.now) task c.run_asked.result (g.O.Sink.written c.args.out.now) (g.O.Sink.written c.run_asked.new.out) (g.O.Sink.faults c.args.out.now) (g.O.Sink.faults c.run_asked.new.out))
+    task_by c.args.words.now c.args.env.now c.args.cwd.now (g.F.Files.told c.args.files.now) (g.F.Files.told c.project_asked.new.files) (first_reading (λ h. g.P.Hand.Hand.clock h) c.run_asked.result.hands) (aim_of c.in-Some.aim) (options_of c.options_for-options.result) c.in-Ok.asked
+    (λ task. RunsWhole (λ h. g.P.Hand.Hand.log h) (λ h. g.P.Hand.Hand.heard h) (λ h. g.P.Hand.Hand.faults h) (λ h. g.P.Hand.Hand.clock h) (λ h. g.P.Hand.Hand.engine h) (g.P.Plug.engine c.args.plug.now) task c.run_asked.result (g.O.Sink.written c.args.out.now) (g.O.Sink.written c.run_asked.new.out) (g.O.Sink.faults c.args.out.now) (g.O.Sink.faults c.run_asked.new.out))
     (λ task. Reports (run_report task c.run_asked.result.journal) c.run_asked.result.refusal (g.O.Sink.written c.args.out.now) (g.O.Sink.written c.run_asked.new.out) (g.O.Sink.faults c.args.out.now) (g.O.Sink.faults c.run_asked.new.out))
-    c.project_asked.ensures.kept (command_is c.args.words.now c.args.env.now c.in-Ok.asked.options c.in-Ok.ensures.options) (aims c.in-Ok.asked.options.command c.aim_for.result c.in-Some.aim c.aim_for.ensures c.in-Some.is) c.in-Ok.ensures.told c.in-Ok.ensures.text ran (λ task whole. whole.ran.reported))
+    c.project_asked.ensures.kept (command_is c.args.words.now c.args.env.now c.in-Ok.asked.options c.in-Ok.ensures.options) (aims c.in-Ok.asked.options.command c.aim_for.result c.in-Some.aim c.aim_for.ensures c.in-Some.is) c.options_for-options.ensures c.in-Ok.ensures.told c.in-Ok.ensures.text ran (λ task whole. whole.ran.reported))
 
 pub returns-in-Some-clause-kept : goal.returns-in-Some-clause-kept
 returns-in-Some-clause-kept g c = if_begun c.run_asked.result.journal c.run_asked.ensures.ran (λ ran.
-    task_by c.args.words.now c.args.env.now c.args.cwd.now (g.F.Files.told c.args.files.now) (g.F.Files.told c.project_asked.new.files) (first_reading (λ h. g.P.Hand.Hand.clock h) c.run_asked.result.hands) (aim_of c.in-Some.aim) c.in-Ok.asked
-    (λ task. RunsWhole (λ h. g.P.Hand.Hand.log h) (λ h. g.P.Hand.Hand.heard h) (λ h. g.P.Hand.Hand.faults h) (λ h. g.P.Hand.Hand.engine h) (g.P.Plug.engine c.args.plug.now) task c.run_asked.result (g.O.Sink.written c.args.out.now) (g.O.Sink.written c.run_asked.new.out) (g.O.Sink.faults c.args.out.now) (g.O.Sink.faults c.run_asked.new.out))
+    task_by c.args.words.now c.args.env.now c.args.cwd.now (g.F.Files.told c.args.files.now) (g.F.Files.told c.project_asked.new.files) (first_reading (λ h. g.P.Hand.Hand.clock h) c.run_asked.result.hands) (aim_of c.in-Some.aim) (options_of c.options_for-options.result) c.in-Ok.asked
+    (λ task. RunsWhole (λ h. g.P.Hand.Hand.log h) (λ h. g.P.Hand.Hand.heard h) (λ h. g.P.Hand.Hand.faults h) (λ h. g.P.Hand.Hand.clock h) (λ h. g.P.Hand.Hand.engine h) (g.P.Plug.engine c.args.plug.now) task c.run_asked.result (g.O.Sink.written c.args.out.now) (g.O.Sink.written c.run_asked.new.out) (g.O.Sink.faults c.args.out.now) (g.O.Sink.faults c.run_asked.new.out))
     (λ task. is_up task.aim.purpose ≡ true → SparesKept task c.run_asked.result.journal)
-    c.project_asked.ensures.kept (command_is c.args.words.now c.args.env.now c.in-Ok.asked.options c.in-Ok.ensures.options) (aims c.in-Ok.asked.options.command c.aim_for.result c.in-Some.aim c.aim_for.ensures c.in-Some.is) c.in-Ok.ensures.told c.in-Ok.ensures.text ran (λ task whole. whole.ran.spares))
+    c.project_asked.ensures.kept (command_is c.args.words.now c.args.env.now c.in-Ok.asked.options c.in-Ok.ensures.options) (aims c.in-Ok.asked.options.command c.aim_for.result c.in-Some.aim c.aim_for.ensures c.in-Some.is) c.options_for-options.ensures c.in-Ok.ensures.told c.in-Ok.ensures.text ran (λ task whole. whole.ran.spares))
 
 pub returns-in-Some-clause-world : goal.returns-in-Some-clause-world
 returns-in-Some-clause-world g c = if_begun_in c.run_asked.result.journal c.run_asked.ensures.ran (λ inside ran.
-    task_by c.args.words.now c.args.env.now c.args.cwd.now (g.F.Files.told c.args.files.now) (g.F.Files.told c.project_asked.new.files) (first_reading (λ h. g.P.Hand.Hand.clock h) c.run_asked.result.hands) (aim_of c.in-Some.aim) c.in-Ok.asked
-    (λ task. RunsWhole (λ h. g.P.Hand.Hand.log h) (λ h. g.P.Hand.Hand.heard h) (λ h. g.P.Hand.Hand.faults h) (λ h. g.P.Hand.Hand.engine h) (g.P.Plug.engine c.args.plug.now) task c.run_asked.result (g.O.Sink.written c.args.out.now) (g.O.Sink.written c.run_asked.new.out) (g.O.Sink.faults c.args.out.now) (g.O.Sink.faults c.run_asked.new.out))
+    task_by c.args.words.now c.args.env.now c.args.cwd.now (g.F.Files.told c.args.files.now) (g.F.Files.told c.project_asked.new.files) (first_reading (λ h. g.P.Hand.Hand.clock h) c.run_asked.result.hands) (aim_of c.in-Some.aim) (options_of c.options_for-options.result) c.in-Ok.asked
+    (λ task. RunsWhole (λ h. g.P.Hand.Hand.log h) (λ h. g.P.Hand.Hand.heard h) (λ h. g.P.Hand.Hand.faults h) (λ h. g.P.Hand.Hand.clock h) (λ h. g.P.Hand.Hand.engine h) (g.P.Plug.engine c.args.plug.now) task c.run_asked.result (g.O.Sink.written c.args.out.now) (g.O.Sink.written c.run_asked.new.out) (g.O.Sink.faults c.args.out.now) (g.O.Sink.faults c.run_asked.new.out))
     (λ task. (hand : _) → Among c.run_asked.result.hands hand → LeadsOn task c.run_asked.result.journal (g.P.Plug.engine c.args.plug.now) (g.P.Hand.Hand.engine hand))
-    c.project_asked.ensures.kept (command_is c.args.words.now c.args.env.now c.in-Ok.asked.options c.in-Ok.ensures.options) (aims c.in-Ok.asked.options.command c.aim_for.result c.in-Some.aim c.aim_for.ensures c.in-Some.is) c.in-Ok.ensures.told c.in-Ok.ensures.text ran (λ task whole. inside _ whole.moved.leads))
+    c.project_asked.ensures.kept (command_is c.args.words.now c.args.env.now c.in-Ok.asked.options c.in-Ok.ensures.options) (aims c.in-Ok.asked.options.command c.aim_for.result c.in-Some.aim c.aim_for.ensures c.in-Some.is) c.options_for-options.ensures c.in-Ok.ensures.told c.in-Ok.ensures.text ran (λ task whole. inside _ whole.moved.leads))
 
 pub returns-in-Some-clause-exact : goal.returns-in-Some-clause-exact
 returns-in-Some-clause-exact g c = λ zero. let none = not_refused c.run_asked.result.refusal c.run_asked.result.status c.run_asked.ensures.status zero in
-    task_by c.args.words.now c.args.env.now c.args.cwd.now (g.F.Files.told c.args.files.now) (g.F.Files.told c.project_asked.new.files) (first_reading (λ h. g.P.Hand.Hand.clock h) c.run_asked.result.hands) (aim_of c.in-Some.aim) c.in-Ok.asked
-    (λ task. RunsWhole (λ h. g.P.Hand.Hand.log h) (λ h. g.P.Hand.Hand.heard h) (λ h. g.P.Hand.Hand.faults h) (λ h. g.P.Hand.Hand.engine h) (g.P.Plug.engine c.args.plug.now) task c.run_asked.result (g.O.Sink.written c.args.out.now) (g.O.Sink.written c.run_asked.new.out) (g.O.Sink.faults c.args.out.now) (g.O.Sink.faults c.run_asked.new.out))
+    task_by c.args.words.now c.args.env.now c.args.cwd.now (g.F.Files.told c.args.files.now) (g.F.Files.told c.project_asked.new.files) (first_reading (λ h. g.P.Hand.Hand.clock h) c.run_asked.result.hands) (aim_of c.in-Some.aim) (options_of c.options_for-options.result) c.in-Ok.asked
+    (λ task. RunsWhole (λ h. g.P.Hand.Hand.log h) (λ h. g.P.Hand.Hand.heard h) (λ h. g.P.Hand.Hand.faults h) (λ h. g.P.Hand.Hand.clock h) (λ h. g.P.Hand.Hand.engine h) (g.P.Plug.engine c.args.plug.now) task c.run_asked.result (g.O.Sink.written c.args.out.now) (g.O.Sink.written c.run_asked.new.out) (g.O.Sink.faults c.args.out.now) (g.O.Sink.faults c.run_asked.new.out))
     (λ task. is_up task.aim.purpose ≡ true → (hand : _) → Among c.run_asked.result.hands hand → HoldsExactly task (g.P.Hand.Hand.engine hand))
-    c.project_asked.ensures.kept (command_is c.args.words.now c.args.env.now c.in-Ok.asked.options c.in-Ok.ensures.options) (aims c.in-Ok.asked.options.command c.aim_for.result c.in-Some.aim c.aim_for.ensures c.in-Some.is) c.in-Ok.ensures.told c.in-Ok.ensures.text (has_begun c.run_asked.result.journal c.run_asked.result.refusal c.run_asked.ensures.unbegun none c.run_asked.ensures.ran) (λ task whole. whole.moved.exact none)
+    c.project_asked.ensures.kept (command_is c.args.words.now c.args.env.now c.in-Ok.asked.options c.in-Ok.ensures.options) (aims c.in-Ok.asked.options.command c.aim_for.result c.in-Some.aim c.aim_for.ensures c.in-Some.is) c.options_for-options.ensures c.in-Ok.ensures.told c.in-Ok.ensures.text (has_begun c.run_asked.result.journal c.run_asked.result.refusal c.run_asked.ensures.unbegun none c.run_asked.ensures.ran) (λ task whole. whole.moved.exact none)
 
 pub returns-in-Some-clause-gone : goal.returns-in-Some-clause-gone
 returns-in-Some-clause-gone g c = λ zero. let none = not_refused c.run_asked.result.refusal c.run_asked.result.status c.run_asked.ensures.status zero in
-    task_by c.args.words.now c.args.env.now c.args.cwd.now (g.F.Files.told c.args.files.now) (g.F.Files.told c.project_asked.new.files) (first_reading (λ h. g.P.Hand.Hand.clock h) c.run_asked.result.hands) (aim_of c.in-Some.aim) c.in-Ok.asked
-    (λ task. RunsWhole (λ h. g.P.Hand.Hand.log h) (λ h. g.P.Hand.Hand.heard h) (λ h. g.P.Hand.Hand.faults h) (λ h. g.P.Hand.Hand.engine h) (g.P.Plug.engine c.args.plug.now) task c.run_asked.result (g.O.Sink.written c.args.out.now) (g.O.Sink.written c.run_asked.new.out) (g.O.Sink.faults c.args.out.now) (g.O.Sink.faults c.run_asked.new.out))
+    task_by c.args.words.now c.args.env.now c.args.cwd.now (g.F.Files.told c.args.files.now) (g.F.Files.told c.project_asked.new.files) (first_reading (λ h. g.P.Hand.Hand.clock h) c.run_asked.result.hands) (aim_of c.in-Some.aim) (options_of c.options_for-options.result) c.in-Ok.asked
+    (λ task. RunsWhole (λ h. g.P.Hand.Hand.log h) (λ h. g.P.Hand.Hand.heard h) (λ h. g.P.Hand.Hand.faults h) (λ h. g.P.Hand.Hand.clock h) (λ h. g.P.Hand.Hand.engine h) (g.P.Plug.engine c.args.plug.now) task c.run_asked.result (g.O.Sink.written c.args.out.now) (g.O.Sink.written c.run_asked.new.out) (g.O.Sink.faults c.args.out.now) (g.O.Sink.faults c.run_asked.new.out))
     (λ task. is_up task.aim.purpose ≡ false → (hand : _) → Among c.run_asked.result.hands hand → HoldsNone task (g.P.Hand.Hand.engine hand))
-    c.project_asked.ensures.kept (command_is c.args.words.now c.args.env.now c.in-Ok.asked.options c.in-Ok.ensures.options) (aims c.in-Ok.asked.options.command c.aim_for.result c.in-Some.aim c.aim_for.ensures c.in-Some.is) c.in-Ok.ensures.told c.in-Ok.ensures.text (has_begun c.run_asked.result.journal c.run_asked.result.refusal c.run_asked.ensures.unbegun none c.run_asked.ensures.ran) (λ task whole. whole.moved.gone none)
+    c.project_asked.ensures.kept (command_is c.args.words.now c.args.env.now c.in-Ok.asked.options c.in-Ok.ensures.options) (aims c.in-Ok.asked.options.command c.aim_for.result c.in-Some.aim c.aim_for.ensures c.in-Some.is) c.options_for-options.ensures c.in-Ok.ensures.told c.in-Ok.ensures.text (has_begun c.run_asked.result.journal c.run_asked.result.refusal c.run_asked.ensures.unbegun none c.run_asked.ensures.ran) (λ task whole. whole.moved.gone none)
 
 pub returns-in-Some-clause-exact_in_each_world : goal.returns-in-Some-clause-exact_in_each_world
 returns-in-Some-clause-exact_in_each_world g c = λ zero. let none = not_refused c.run_asked.result.refusal c.run_asked.result.status c.run_asked.ensures.status zero in
-    task_by c.args.words.now c.args.env.now c.args.cwd.now (g.F.Files.told c.args.files.now) (g.F.Files.told c.project_asked.new.files) (first_reading (λ h. g.P.Hand.Hand.clock h) c.run_asked.result.hands) (aim_of c.in-Some.aim) c.in-Ok.asked
-    (λ task. RunsWhole (λ h. g.P.Hand.Hand.log h) (λ h. g.P.Hand.Hand.heard h) (λ h. g.P.Hand.Hand.faults h) (λ h. g.P.Hand.Hand.engine h) (g.P.Plug.engine c.args.plug.now) task c.run_asked.result (g.O.Sink.written c.args.out.now) (g.O.Sink.written c.run_asked.new.out) (g.O.Sink.faults c.args.out.now) (g.O.Sink.faults c.run_asked.new.out))
+    task_by c.args.words.now c.args.env.now c.args.cwd.now (g.F.Files.told c.args.files.now) (g.F.Files.told c.project_asked.new.files) (first_reading (λ h. g.P.Hand.Hand.clock h) c.run_asked.result.hands) (aim_of c.in-Some.aim) (options_of c.options_for-options.result) c.in-Ok.asked
+    (λ task. RunsWhole (λ h. g.P.Hand.Hand.log h) (λ h. g.P.Hand.Hand.heard h) (λ h. g.P.Hand.Hand.faults h) (λ h. g.P.Hand.Hand.clock h) (λ h. g.P.Hand.Hand.engine h) (g.P.Plug.engine c.args.plug.now) task c.run_asked.result (g.O.Sink.written c.args.out.now) (g.O.Sink.written c.run_asked.new.out) (g.O.Sink.faults c.args.out.now) (g.O.Sink.faults c.run_asked.new.out))
     (λ task. is_up task.aim.purpose ≡ true → EndsExact task c.run_asked.result.journal)
-    c.project_asked.ensures.kept (command_is c.args.words.now c.args.env.now c.in-Ok.asked.options c.in-Ok.ensures.options) (aims c.in-Ok.asked.options.command c.aim_for.result c.in-Some.aim c.aim_for.ensures c.in-Some.is) c.in-Ok.ensures.told c.in-Ok.ensures.text (has_begun c.run_asked.result.journal c.run_asked.result.refusal c.run_asked.ensures.unbegun none c.run_asked.ensures.ran) (λ task whole. whole.ran.exact none)
+    c.project_asked.ensures.kept (command_is c.args.words.now c.args.env.now c.in-Ok.asked.options c.in-Ok.ensures.options) (aims c.in-Ok.asked.options.command c.aim_for.result c.in-Some.aim c.aim_for.ensures c.in-Some.is) c.options_for-options.ensures c.in-Ok.ensures.told c.in-Ok.ensures.text (has_begun c.run_asked.result.journal c.run_asked.result.refusal c.run_asked.ensures.unbegun none c.run_asked.ensures.ran) (λ task whole. whole.ran.exact none)
 
 pub returns-in-Some-clause-gone_in_each_world : goal.returns-in-Some-clause-gone_in_each_world
 returns-in-Some-clause-gone_in_each_world g c = λ zero. let none = not_refused c.run_asked.result.refusal c.run_asked.result.status c.run_asked.ensures.status zero in
-    task_by c.args.words.now c.args.env.now c.args.cwd.now (g.F.Files.told c.args.files.now) (g.F.Files.told c.project_asked.new.files) (first_reading (λ h. g.P.Hand.Hand.clock h) c.run_asked.result.hands) (aim_of c.in-Some.aim) c.in-Ok.asked
-    (λ task. RunsWhole (λ h. g.P.Hand.Hand.log h) (λ h. g.P.Hand.Hand.heard h) (λ h. g.P.Hand.Hand.faults h) (λ h. g.P.Hand.Hand.engine h) (g.P.Plug.engine c.args.plug.now) task c.run_asked.result (g.O.Sink.written c.args.out.now) (g.O.Sink.written c.run_asked.new.out) (g.O.Sink.faults c.args.out.now) (g.O.Sink.faults c.run_asked.new.out))
+    task_by c.args.words.now c.args.env.now c.args.cwd.now (g.F.Files.told c.args.files.now) (g.F.Files.told c.project_asked.new.files) (first_reading (λ h. g.P.Hand.Hand.clock h) c.run_asked.result.hands) (aim_of c.in-Some.aim) (options_of c.options_for-options.result) c.in-Ok.asked
+    (λ task. RunsWhole (λ h. g.P.Hand.Hand.log h) (λ h. g.P.Hand.Hand.heard h) (λ h. g.P.Hand.Hand.faults h) (λ h. g.P.Hand.Hand.clock h) (λ h. g.P.Hand.Hand.engine h) (g.P.Plug.engine c.args.plug.now) task c.run_asked.result (g.O.Sink.written c.args.out.now) (g.O.Sink.written c.run_asked.new.out) (g.O.Sink.faults c.args.out.now) (g.O.Sink.faults c.run_asked.new.out))
     (λ task. is_up task.aim.purpose ≡ false → EndsGone task c.run_asked.result.journal)
-    c.project_asked.ensures.kept (command_is c.args.words.now c.args.env.now c.in-Ok.asked.options c.in-Ok.ensures.options) (aims c.in-Ok.asked.options.command c.aim_for.result c.in-Some.aim c.aim_for.ensures c.in-Some.is) c.in-Ok.ensures.told c.in-Ok.ensures.text (has_begun c.run_asked.result.journal c.run_asked.result.refusal c.run_asked.ensures.unbegun none c.run_asked.ensures.ran) (λ task whole. whole.ran.gone none)
+    c.project_asked.ensures.kept (command_is c.args.words.now c.args.env.now c.in-Ok.asked.options c.in-Ok.ensures.options) (aims c.in-Ok.asked.options.command c.aim_for.result c.in-Some.aim c.aim_for.ensures c.in-Some.is) c.options_for-options.ensures c.in-Ok.ensures.told c.in-Ok.ensures.text (has_begun c.run_asked.result.journal c.run_asked.result.refusal c.run_asked.ensures.unbegun none c.run_asked.ensures.ran) (λ task whole. whole.ran.gone none)
 
 pub returns-in-Some-clause-words : goal.returns-in-Some-clause-words
 returns-in-Some-clause-words g c = no_words_refused c.args.words.now c.args.env.now _ c.in-Ok.asked.options c.in-Ok.ensures.options
@@ -303,3 +313,6 @@ returns-in-Ok-clause-digest_fault g c = λ path e. absurd (page_no_loading (page
 
 pub run_asked-requires-clause-reachable : goal.run_asked-requires-clause-reachable
 run_asked-requires-clause-reachable g c = reachable c.args.env.now c.args.words.now c.in-Ok.asked.options c.args.cwd.now (aim_of c.in-Some.aim) c.in-Ok.ensures.options (aims c.in-Ok.asked.options.command c.aim_for.result c.in-Some.aim c.aim_for.ensures c.in-Some.is)
+
+pub run_asked-requires-clause-acyclic : goal.run_asked-requires-clause-acyclic
+run_asked-requires-clause-acyclic g c = spelled_acyclic c.args.words.now c.args.env.now c.args.cwd.now (g.F.Files.told c.args.files.now) c.in-Ok.asked.project c.in-Ok.ensures.text

@@ -3,7 +3,7 @@ use Rattle.std.specs.Prelude.{IfOk}
 use Rattle.engine_types.specs.declared.Action.{Action}
 use Rattle.plan_core.specs.declared.refusal.PlanRefusal.{PlanRefusal}
 use Rattle.run_model.specs.Plans.{Basis, action_count, is_too_long}
-use Rattle.serial_run.specs.Serial.{aim_of}
+use Rattle.project_run.specs.Options.{aim_of}
 use Rattle.project_run.proofs.PlansOfAims.{down_is, up_count, up_length, up_planned}
 use Rattle.project_run.proofs.opening.plan_by.Goals as goal
 

@@ -3,7 +3,7 @@ use Rattle.std.proofs.Common.{◌≡◌, ◌∙◌, ℕ, ◌-◌, List, Some, le
 use Rattle.std.specs.Prelude.{reverse}
 use Rattle.std.proofs.lemmas.List.{take_all}
 use Rattle.engine_types.specs.declared.Entry.{Entry}
-use Rattle.run_report.specs.Faults.{before_claim}
+use Rattle.run_report.specs.Claims.{before_claim}
 use Rattle.run_report.proofs.Backward.{claim_before, claim_here}
 use Rattle.run_report.proofs.asking.before_claim.Goals as goal
 

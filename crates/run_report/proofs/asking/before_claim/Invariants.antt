@@ -1,6 +1,6 @@
 use Rattle.std.proofs.Common.{◌≡◌, ◌≤◌, length, take}
 use Rattle.std.specs.Prelude.{reverse}
-use Rattle.run_report.specs.Faults.{before_claim}
+use Rattle.run_report.specs.Claims.{before_claim}
 use Rattle.run_report.proofs.asking.before_claim.Given as goal
 
 abbrev pub invariant-loop-at : goal.invariant-loop-at

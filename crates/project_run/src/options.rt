@@ -1,0 +1,76 @@
+ghost use Rattle.std.specs.Prelude.{◌≡◌, option_map};
+ghost use Rattle.ledger_run.specs.Tellings.{telling};
+ghost use Rattle.outside_api.specs.Clock.{new_clock};
+ghost use Rattle.run_model.specs.Logs.{deadline_after};
+ghost use Rattle.run_model.specs.Observation.{is_up};
+ghost use Rattle.project_run.specs.Options.{aim_of, bounded, clock_begun, limits_by};
+
+use crate::plan_aim::Aim;
+use engine_types::{Purpose, RunLimits};
+use outside_api::Hand;
+
+/// What the options of a run bound: whether it waits for goals, after how many seconds it is late, and how many seconds a stop
+/// waits in place of what each slot says.
+#[derive(Debug, Clone, Copy, PartialEq, Eq)]
+pub struct RunOptions {
+    pub wait: bool,
+    pub wait_seconds: Option<u32>,
+    pub stop_seconds: Option<u32>,
+}
+
+/// What bounds a run, with a deadline that is counted from the first reading of the hand's clock, made here; there is no reading
+/// where there is no deadline. Goals are waited for only where a project is brought up.
+pub(crate) fn limits_for<H: Hand>(hand: &mut H, aim: Aim, options: RunOptions) -> RunLimits
+    requires { H.clock hand.old ≡ new_clock }
+    ensures limits { result
+        ≡ bounded (aim_of aim) (limits_by options (H.clock hand.new)) }
+    ensures clock { H.clock hand.new
+        ≡ clock_begun options.wait_seconds (H.clock hand.new).first }
+    ensures kept { telling (H.log hand.new) (H.heard hand.new) (H.faults hand.new)
+        (H.clock hand.new) (H.engine hand.new)
+        ≡ telling (H.log hand.old) (H.heard hand.old) (H.faults hand.old) (H.clock hand.new)
+        (H.engine hand.old) }
+{
+    RunLimits {
+        workers: 1,
+        deadline: deadline_for(hand, options.wait_seconds),
+        wait: options.wait && is_up(aim.purpose),
+        stop_seconds: options.stop_seconds,
+    }
+}
+
+/// The deadline of a run that is late after so many seconds.
+fn deadline_for<H: Hand>(hand: &mut H, wait_seconds: Option<u32>) -> Option<u64>
+    requires { H.clock hand.old ≡ new_clock }
+    ensures deadline { result
+        ≡ option_map (deadline_after (H.clock hand.new).first) wait_seconds }
+    ensures clock { H.clock hand.new ≡ clock_begun wait_seconds (H.clock hand.new).first }
+    ensures kept { telling (H.log hand.new) (H.heard hand.new) (H.faults hand.new)
+        (H.clock hand.new) (H.engine hand.new)
+        ≡ telling (H.log hand.old) (H.heard hand.old) (H.faults hand.old) (H.clock hand.new)
+        (H.engine hand.old) }
+{
+    match wait_seconds {
+        Some(seconds) => {
+            let first = hand.now();
+            Some(deadline_after(first, seconds))
+        }
+        None => None,
+    }
+}
+
+/// So many seconds after a reading in milliseconds, as far as 64 bits tell.
+fn deadline_after(first: u64, seconds: u32) -> u64
+    ensures { result ≡ deadline_after first seconds }
+{
+    first.saturating_add(1000 * u64::from(seconds))
+}
+
+fn is_up(purpose: Purpose) -> bool
+    ensures { result ≡ is_up purpose }
+{
+    match purpose {
+        Purpose::Up => true,
+        Purpose::Down => false,
+    }
+}

@@ -1,5 +1,0 @@
-pub mod Serial
-pub mod Asking
-pub mod LastEntries
-pub mod Laws
-pub mod OneVolume
