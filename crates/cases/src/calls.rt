@@ -14,6 +14,9 @@ pub fn inputs_of(call: &str) -> Option<&'static [&'static str]> {
     if let Some(inputs) = cases_bytes::inputs_of(call) {
         return Some(inputs);
     }
+    if let Some(inputs) = cases_declared::inputs_of(call) {
+        return Some(inputs);
+    }
     cases_calls::inputs_of(call)
 }
 
@@ -27,6 +30,8 @@ pub fn answer(call: &str, fields: &Fields, answers: &mut Answers) {
         cases_runs::answer(call, fields, answers);
     } else if cases_bytes::inputs_of(call).is_some() {
         cases_bytes::answer(call, fields, answers);
+    } else if cases_declared::inputs_of(call).is_some() {
+        cases_declared::answer(call, fields, answers);
     } else {
         cases_calls::answer(call, fields, answers);
     }
