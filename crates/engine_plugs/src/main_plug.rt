@@ -14,29 +14,28 @@ use memory_engine::MemoryEngine;
 use outside_api::{DialAnswer, Hand, Plug, Target};
 use socket_wire::SocketWire;
 use std::alloc::Global;
-use std::rt::{Clock, Files, Net};
 use tree_base::{Memory, Text};
 
 /// The plug of the program. It tells no Engine, and counts the hands that it made. No dial fails: the hand of a socket connects
 /// at its exchanges, and each hand in memory has a fresh Engine.
 #[derive(Drop)]
-pub struct MainPlug<'r, R> {
-    rt: &'r R,
+pub struct MainPlug<'r> {
+    rt: &'r HostRuntime,
     dialled: u64,
 }
 
-impl<'r, R: Net + Clock + Files> MainPlug<'r, R> {
+impl<'r> MainPlug<'r> {
     /// A plug that made no hand yet. No memory.
-    pub fn new(rt: &'r R) -> MainPlug<'r, R>
-        ensures dialled { ⟦<MainPlug<'r, R> as Plug>⟧.dialled result ≡ Some 0 }
-        ensures faults { ⟦<MainPlug<'r, R> as Plug>⟧.faults result ≡ 0 }
+    pub fn new(rt: &'r HostRuntime) -> MainPlug<'r>
+        ensures dialled { ⟦<MainPlug<'r> as Plug>⟧.dialled result ≡ Some 0 }
+        ensures faults { ⟦<MainPlug<'r> as Plug>⟧.faults result ≡ 0 }
     {
         MainPlug { rt, dialled: 0 }
     }
 }
 
-impl<'r, R: Net + Clock + Files> Plug for MainPlug<'r, R> {
-    type Hand = MainHand<SocketWire<'r, R>>;
+impl<'r> Plug for MainPlug<'r> {
+    type Hand = MainHand<SocketWire<'r>>;
 
     ghost engine = { λ _. None };
 
@@ -51,22 +50,22 @@ impl<'r, R: Net + Clock + Files> Plug for MainPlug<'r, R> {
         target: &Target,
         stop_file: Option<&Text>,
         _number: u32,
-    ) -> DialAnswer<MainHand<SocketWire<'r, R>>>
+    ) -> DialAnswer<MainHand<SocketWire<'r>>>
         requires { ForSome (Some self.old.dialled) (λ n. n < 2 ^ 62) }
         ensures counted { 0 ≤ 0 }
         ensures failed { result ≡ DialAnswer.Failed → Rose 0 0 }
         ensures never_fails { result ≡ DialAnswer.Failed → ⊥ }
         ensures dialled { CountsDial (Some self.old.dialled) (Some self.new.dialled) result }
         ensures log { (hand : _) → result ≡ DialAnswer.Dialled hand
-            → ⟦<MainHand<SocketWire<'r, R>> as Hand>⟧.log hand ≡ [] }
+            → ⟦<MainHand<SocketWire<'r>> as Hand>⟧.log hand ≡ [] }
         ensures heard { (hand : _) → result ≡ DialAnswer.Dialled hand
-            → HeardNothing (⟦<MainHand<SocketWire<'r, R>> as Hand>⟧.heard hand) }
+            → HeardNothing (⟦<MainHand<SocketWire<'r>> as Hand>⟧.heard hand) }
         ensures clock { (hand : _) → result ≡ DialAnswer.Dialled hand
-            → ⟦<MainHand<SocketWire<'r, R>> as Hand>⟧.clock hand ≡ new_clock }
+            → ⟦<MainHand<SocketWire<'r>> as Hand>⟧.clock hand ≡ new_clock }
         ensures faults { (hand : _) → result ≡ DialAnswer.Dialled hand
-            → ⟦<MainHand<SocketWire<'r, R>> as Hand>⟧.faults hand ≡ 0 }
+            → ⟦<MainHand<SocketWire<'r>> as Hand>⟧.faults hand ≡ 0 }
         ensures engine { (hand : _) → result ≡ DialAnswer.Dialled hand
-            → BeginsWith no_engine (⟦<MainHand<SocketWire<'r, R>> as Hand>⟧.engine hand) }
+            → BeginsWith no_engine (⟦<MainHand<SocketWire<'r>> as Hand>⟧.engine hand) }
         ensures made { (hand : _) → result ≡ DialAnswer.Dialled hand
             → elim hand [
               | MainHand.Http http ↦ IsSocketHand target.now (option_copied stop_file.entry)
@@ -85,20 +84,20 @@ impl<'r, R: Net + Clock + Files> Plug for MainPlug<'r, R> {
 }
 
 /// A new hand that speaks with the Engine of a target.
-fn hand_for<'r, R: Net + Clock + Files>(
+fn hand_for<'r>(
     alloc: Global,
-    rt: &'r R,
+    rt: &'r HostRuntime,
     target: &Target,
     stop_file: Option<&Text>,
-) -> Result<MainHand<SocketWire<'r, R>>, Memory>
+) -> Result<MainHand<SocketWire<'r>>, Memory>
     ensures log { IfOk result (λ hand.
-        ⟦<MainHand<SocketWire<'r, R>> as Hand>⟧.log hand ≡ []) }
+        ⟦<MainHand<SocketWire<'r>> as Hand>⟧.log hand ≡ []) }
     ensures heard { IfOk result (λ hand.
-        HeardNothing (⟦<MainHand<SocketWire<'r, R>> as Hand>⟧.heard hand)) }
+        HeardNothing (⟦<MainHand<SocketWire<'r>> as Hand>⟧.heard hand)) }
     ensures clock { IfOk result (λ hand.
-        ⟦<MainHand<SocketWire<'r, R>> as Hand>⟧.clock hand ≡ new_clock) }
+        ⟦<MainHand<SocketWire<'r>> as Hand>⟧.clock hand ≡ new_clock) }
     ensures faults { IfOk result (λ hand.
-        ⟦<MainHand<SocketWire<'r, R>> as Hand>⟧.faults hand ≡ 0) }
+        ⟦<MainHand<SocketWire<'r>> as Hand>⟧.faults hand ≡ 0) }
     ensures made { IfOk result (λ hand. elim hand [
       | MainHand.Http http ↦ IsSocketHand target.now (option_copied stop_file.entry)
           (path_of http.wire) (stop_file_of http.wire)
@@ -112,17 +111,17 @@ fn hand_for<'r, R: Net + Clock + Files>(
 }
 
 /// A new hand over the socket at a path, which doesn't connect yet.
-fn socket_hand<'r, R: Net + Clock + Files>(
+fn socket_hand<'r>(
     alloc: Global,
-    rt: &'r R,
+    rt: &'r HostRuntime,
     path: &Text,
     stop_file: Option<&Text>,
-) -> Result<HttpHand<SocketWire<'r, R>>, Memory>
-    ensures log { IfOk result (λ hand. ⟦<HttpHand<SocketWire<'r, R>> as Hand>⟧.log hand ≡ []) }
+) -> Result<HttpHand<SocketWire<'r>>, Memory>
+    ensures log { IfOk result (λ hand. ⟦<HttpHand<SocketWire<'r>> as Hand>⟧.log hand ≡ []) }
     ensures clock { IfOk result (λ hand.
-        ⟦<HttpHand<SocketWire<'r, R>> as Hand>⟧.clock hand ≡ new_clock) }
+        ⟦<HttpHand<SocketWire<'r>> as Hand>⟧.clock hand ≡ new_clock) }
     ensures faults { IfOk result (λ hand.
-        ⟦<HttpHand<SocketWire<'r, R>> as Hand>⟧.faults hand ≡ 0) }
+        ⟦<HttpHand<SocketWire<'r>> as Hand>⟧.faults hand ≡ 0) }
     ensures path { IfOk result (λ hand. path_of hand.wire ≡ path.now) }
     ensures stop_file { IfOk result (λ hand.
         stop_file_of hand.wire ≡ option_copied stop_file.entry) }

@@ -10,19 +10,19 @@ abbrev pub no_past : Option (List Talk)
 no_past = None
 
 -- the path of its socket
-abbrev pub path_of : {R : Type 0} → SocketWire R → List ℕ
+abbrev pub path_of : SocketWire → List ℕ
 path_of wire = wire.path
 
 -- where the file stands whose coming asks the worker to stop, if anywhere
-abbrev pub stop_file_of : {R : Type 0} → SocketWire R → Option (List ℕ)
+abbrev pub stop_file_of : SocketWire → Option (List ℕ)
 stop_file_of wire = wire.stop_file
 
 -- how many connections it opened
-abbrev pub opened : {R : Type 0} → SocketWire R → ℕ
+abbrev pub opened : SocketWire → ℕ
 opened wire = wire.dialled
 
 -- how many of its dials failed, and how many connections with a fault it closed
-abbrev pub failed_dials : {R : Type 0} → SocketWire R → ℕ
+abbrev pub failed_dials : SocketWire → ℕ
 failed_dials wire = wire.failed
 
 -- the count of faults after a dial: one more where it failed

@@ -12,7 +12,7 @@ use crate::socket_pipe::SocketPipe;
 use outside_api::{DialAnswer, Pipe, Wire};
 use std::alloc::Global;
 use std::os::unix::net::UnixStream;
-use std::rt::{Clock, Files, Net};
+use std::rt::{Clock, Files};
 use std::time::Duration;
 use std::{fs, thread};
 use tree_base::Text;
@@ -24,8 +24,8 @@ use wires::EvenWire;
 /// Its time is that of the system's clock that never goes back. It is asked to stop where a file is found at the path of its
 /// stop file, and never without one.
 #[derive(Drop)]
-pub struct SocketWire<'r, R> {
-    rt: &'r R,
+pub struct SocketWire<'r> {
+    rt: &'r HostRuntime,
     path: Text,
     stop_file: Option<Text>,
     dialled: u64,
@@ -33,17 +33,17 @@ pub struct SocketWire<'r, R> {
     clock: ClockCounts,
 }
 
-impl<'r, R: Net + Clock + Files> SocketWire<'r, R> {
+impl<'r> SocketWire<'r> {
     ghost use Rattle.socket_wire.specs.WiresOfSockets.{failed_dials, opened, path_of, stop_file_of};
 
     /// A wire over the socket at a path, which opened no connection yet. No memory.
-    pub fn new(rt: &'r R, path: Text, stop_file: Option<Text>) -> SocketWire<'r, R>
+    pub fn new(rt: &'r HostRuntime, path: Text, stop_file: Option<Text>) -> SocketWire<'r>
         ensures path { path_of result ≡ path }
         ensures stop_file { stop_file_of result ≡ stop_file }
-        ensures past { ⟦<SocketWire<'r, R> as Wire>⟧.past result ≡ None }
-        ensures dialled { ⟦<SocketWire<'r, R> as Wire>⟧.dialled result ≡ 0 }
-        ensures faults { ⟦<SocketWire<'r, R> as Wire>⟧.faults result ≡ 0 }
-        ensures clock { ⟦<SocketWire<'r, R> as Wire>⟧.clock result ≡ new_clock }
+        ensures past { ⟦<SocketWire<'r> as Wire>⟧.past result ≡ None }
+        ensures dialled { ⟦<SocketWire<'r> as Wire>⟧.dialled result ≡ 0 }
+        ensures faults { ⟦<SocketWire<'r> as Wire>⟧.faults result ≡ 0 }
+        ensures clock { ⟦<SocketWire<'r> as Wire>⟧.clock result ≡ new_clock }
     {
         SocketWire {
             rt,
@@ -79,7 +79,7 @@ impl<'r, R: Net + Clock + Files> SocketWire<'r, R> {
     }
 }
 
-impl<'r, R: Net + Clock + Files> Wire for SocketWire<'r, R> {
+impl<'r> Wire for SocketWire<'r> {
     type P = SocketPipe;
 
     ghost use Rattle.socket_wire.specs.WiresOfSockets.{failed_dials, faults_after_close, faults_after_dial, no_past, opened, path_of, stop_file_of};
@@ -170,7 +170,7 @@ impl<'r, R: Net + Clock + Files> Wire for SocketWire<'r, R> {
     }
 }
 
-impl<'r, R: Net + Clock + Files> EvenWire for SocketWire<'r, R> {
+impl<'r> EvenWire for SocketWire<'r> {
     ghost use Rattle.std.specs.Prelude.{refl};
 
     ghost even = { λ _ _. refl };
