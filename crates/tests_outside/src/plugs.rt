@@ -1,6 +1,9 @@
 //! The plug of the program, and that of a peer that doesn't answer.
 
-use engine_hand::{SilentHand, SilentPlug};
+ghost use Rattle.std.specs.Prelude.{◌<◌, ◌^◌};
+ghost use Rattle.std.specs.Option.{ForSome};
+
+use engine_hand::SilentPlug;
 use engine_plugs::MainPlug;
 use engine_types::{Outcome, Request, WireEnd};
 use outside_api::{DialAnswer, Hand, Plug, Target};
@@ -8,44 +11,46 @@ use std::alloc::Global;
 use std::test::Fail;
 use tree_base::Text;
 
-/// What the first dial of a plug answers, in a word.
-fn dial(rt: &HostRuntime, target: &Target) -> &'static str {
-    let mut plug = MainPlug::new(rt);
-    match plug.dial(rt.alloc(), target, None, 0) {
-        DialAnswer::Dialled(_) => "dialled",
-        DialAnswer::Failed => "failed",
-        DialAnswer::Memory => "memory",
-    }
-}
-
-#[test]
-fn the_plug_of_the_program_makes_hands_of_memory_and_of_sockets(
-    rt: HostRuntime,
-) -> Result<(), Fail> {
-    let alloc = rt.alloc();
-    let socket = Target::Socket(Text::from_str(alloc, "/var/run/docker.sock")?);
-    assert_eq!(rt; dial(&rt, &socket), "dialled");
-    assert_eq!(rt; dial(&rt, &Target::InMemory), "dialled");
-    Ok(())
-}
-
-/// How an exchange with a silent peer ends, in a word.
-fn end_of(alloc: Global, mut hand: SilentHand) -> &'static str {
-    match hand.exchange(alloc, Request::ListVolumes) {
+fn word_of(outcome: &Outcome) -> &'static str {
+    match outcome {
+        Outcome::Answered(_) => "answered",
         Outcome::Lost(WireEnd::Ended) => "ended",
-        _ => "otherwise",
+        Outcome::Lost(_) => "lost",
+        Outcome::NotSent => "not sent",
+        Outcome::Memory => "memory",
+    }
+}
+
+/// What comes of listing volumes with the first hand for a target, in a word.
+fn outcome_at<P: Plug>(alloc: Global, plug: &mut P, target: &Target) -> &'static str
+    requires { ForSome (P.dialled plug.old) (λ n. n < 2 ^ 62) }
+{
+    match plug.dial(alloc, target, None, 0) {
+        DialAnswer::Dialled(mut hand) => {
+            let outcome = hand.exchange(alloc, Request::ListVolumes);
+            drop(hand);
+            let word = word_of(&outcome);
+            drop(outcome);
+            word
+        }
+        DialAnswer::Failed => "no hand",
+        DialAnswer::Memory => "no memory for a hand",
     }
 }
 
 #[test]
-fn a_silent_peer_ends_the_connection(rt: HostRuntime) -> Result<(), Fail> {
+fn the_hands_of_the_program_speak_with_their_targets(rt: HostRuntime) -> Result<(), Fail> {
     let alloc = rt.alloc();
-    let mut plug = SilentPlug::new();
-    let end = match plug.dial(alloc, &Target::InMemory, None, 0) {
-        DialAnswer::Dialled(hand) => end_of(alloc, hand),
-        DialAnswer::Failed => "failed",
-        DialAnswer::Memory => "memory",
-    };
-    assert_eq!(rt; end, "ended");
+    let nowhere = Text::from_str(alloc, "/no such folder/engine.sock")?;
+    let outcome = outcome_at(alloc, &mut MainPlug::new(&rt), &Target::Socket(nowhere));
+    assert_eq!(rt; outcome, "not sent");
+    let outcome = outcome_at(alloc, &mut MainPlug::new(&rt), &Target::InMemory);
+    assert_eq!(rt; outcome, "answered");
     Ok(())
+}
+
+#[test]
+fn a_silent_peer_ends_the_connection(rt: HostRuntime) {
+    let outcome = outcome_at(rt.alloc(), &mut SilentPlug::new(), &Target::InMemory);
+    assert_eq!(rt; outcome, "ended");
 }
