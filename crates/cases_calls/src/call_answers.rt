@@ -1,4 +1,5 @@
-ghost use Rattle.std.specs.Prelude.{◌<◌, ◌^◌, length};
+ghost use Rattle.std.specs.Prelude.{◌≡◌, ◌<◌, ◌^◌, None, length};
+ghost use Rattle.service_graph.specs.Cycles.{cycle};
 ghost use Rattle.typed_project.specs.DistinctNames.{IsKeyed};
 
 use crate::config_call::put_ended;
@@ -104,7 +105,8 @@ fn wanted_of(alloc: Global, scene: &Scene, files: &mut MemoryFiles) -> Option<Wa
 }
 
 fn wanted_for(alloc: Global, asked: &Asked, files: &mut MemoryFiles) -> Option<Wanted>
-    requires { IsKeyed asked.now.project }
+    requires keyed { IsKeyed asked.now.project }
+    requires acyclic { cycle asked.now.project.services ≡ None }
 {
     let command = &asked.options.command;
     match declared_asked(alloc, command, &asked.project, files) {

@@ -3,22 +3,22 @@ ghost use Rattle.std.specs.Prelude.{None};
 use engine_hand::MemoryHand;
 use engine_types::{Outcome, Request};
 use http_hand::HttpHand;
-use outside_api::{Hand, Wire};
+use outside_api::Hand;
+use socket_wire::SocketWire;
 use std::alloc::Global;
-use wires::EvenWire;
 
 /// A hand of the program: over a wire, or with an Engine in memory of its own. It is in all what that hand is.
 #[derive(Drop)]
-pub enum MainHand<W: Wire> {
-    Http(HttpHand<W>),
+pub enum MainHand<'r> {
+    Http(HttpHand<SocketWire<'r>>),
     Memory(MemoryHand),
 }
 
-impl<W: EvenWire> Hand for MainHand<W> {
+impl<'r> Hand for MainHand<'r> {
     ghost use Rattle.engine_plugs.specs.declared.main_hand.MainHand.TheVariants.{Http, Memory};
 
     ghost log = { elim [
-      | Http hand ↦ ⟦<HttpHand<W> as Hand>⟧.log hand
+      | Http hand ↦ ⟦<HttpHand<SocketWire<'r>> as Hand>⟧.log hand
       | Memory hand ↦ ⟦<MemoryHand as Hand>⟧.log hand
     ] };
 
@@ -28,17 +28,17 @@ impl<W: EvenWire> Hand for MainHand<W> {
     ] };
 
     ghost heard = { elim [
-      | Http hand ↦ ⟦<HttpHand<W> as Hand>⟧.heard hand
+      | Http hand ↦ ⟦<HttpHand<SocketWire<'r>> as Hand>⟧.heard hand
       | Memory hand ↦ None
     ] };
 
     ghost faults = { elim [
-      | Http hand ↦ ⟦<HttpHand<W> as Hand>⟧.faults hand
+      | Http hand ↦ ⟦<HttpHand<SocketWire<'r>> as Hand>⟧.faults hand
       | Memory hand ↦ ⟦<MemoryHand as Hand>⟧.faults hand
     ] };
 
     ghost clock = { elim [
-      | Http hand ↦ ⟦<HttpHand<W> as Hand>⟧.clock hand
+      | Http hand ↦ ⟦<HttpHand<SocketWire<'r>> as Hand>⟧.clock hand
       | Memory hand ↦ ⟦<MemoryHand as Hand>⟧.clock hand
     ] };
 

@@ -35,7 +35,7 @@ impl<'r> MainPlug<'r> {
 }
 
 impl<'r> Plug for MainPlug<'r> {
-    type Hand = MainHand<SocketWire<'r>>;
+    type Hand = MainHand<'r>;
 
     ghost engine = { λ _. None };
 
@@ -50,22 +50,22 @@ impl<'r> Plug for MainPlug<'r> {
         target: &Target,
         stop_file: Option<&Text>,
         _number: u32,
-    ) -> DialAnswer<MainHand<SocketWire<'r>>>
+    ) -> DialAnswer<MainHand<'r>>
         requires { ForSome (Some self.old.dialled) (λ n. n < 2 ^ 62) }
         ensures counted { 0 ≤ 0 }
         ensures failed { result ≡ DialAnswer.Failed → Rose 0 0 }
         ensures never_fails { result ≡ DialAnswer.Failed → ⊥ }
         ensures dialled { CountsDial (Some self.old.dialled) (Some self.new.dialled) result }
         ensures log { (hand : _) → result ≡ DialAnswer.Dialled hand
-            → ⟦<MainHand<SocketWire<'r>> as Hand>⟧.log hand ≡ [] }
+            → ⟦<MainHand<'r> as Hand>⟧.log hand ≡ [] }
         ensures heard { (hand : _) → result ≡ DialAnswer.Dialled hand
-            → HeardNothing (⟦<MainHand<SocketWire<'r>> as Hand>⟧.heard hand) }
+            → HeardNothing (⟦<MainHand<'r> as Hand>⟧.heard hand) }
         ensures clock { (hand : _) → result ≡ DialAnswer.Dialled hand
-            → ⟦<MainHand<SocketWire<'r>> as Hand>⟧.clock hand ≡ new_clock }
+            → ⟦<MainHand<'r> as Hand>⟧.clock hand ≡ new_clock }
         ensures faults { (hand : _) → result ≡ DialAnswer.Dialled hand
-            → ⟦<MainHand<SocketWire<'r>> as Hand>⟧.faults hand ≡ 0 }
+            → ⟦<MainHand<'r> as Hand>⟧.faults hand ≡ 0 }
         ensures engine { (hand : _) → result ≡ DialAnswer.Dialled hand
-            → BeginsWith no_engine (⟦<MainHand<SocketWire<'r>> as Hand>⟧.engine hand) }
+            → BeginsWith no_engine (⟦<MainHand<'r> as Hand>⟧.engine hand) }
         ensures made { (hand : _) → result ≡ DialAnswer.Dialled hand
             → elim hand [
               | MainHand.Http http ↦ IsSocketHand target.now (option_copied stop_file.entry)
@@ -89,15 +89,15 @@ fn hand_for<'r>(
     rt: &'r HostRuntime,
     target: &Target,
     stop_file: Option<&Text>,
-) -> Result<MainHand<SocketWire<'r>>, Memory>
+) -> Result<MainHand<'r>, Memory>
     ensures log { IfOk result (λ hand.
-        ⟦<MainHand<SocketWire<'r>> as Hand>⟧.log hand ≡ []) }
+        ⟦<MainHand<'r> as Hand>⟧.log hand ≡ []) }
     ensures heard { IfOk result (λ hand.
-        HeardNothing (⟦<MainHand<SocketWire<'r>> as Hand>⟧.heard hand)) }
+        HeardNothing (⟦<MainHand<'r> as Hand>⟧.heard hand)) }
     ensures clock { IfOk result (λ hand.
-        ⟦<MainHand<SocketWire<'r>> as Hand>⟧.clock hand ≡ new_clock) }
+        ⟦<MainHand<'r> as Hand>⟧.clock hand ≡ new_clock) }
     ensures faults { IfOk result (λ hand.
-        ⟦<MainHand<SocketWire<'r>> as Hand>⟧.faults hand ≡ 0) }
+        ⟦<MainHand<'r> as Hand>⟧.faults hand ≡ 0) }
     ensures made { IfOk result (λ hand. elim hand [
       | MainHand.Http http ↦ IsSocketHand target.now (option_copied stop_file.entry)
           (path_of http.wire) (stop_file_of http.wire)
