@@ -28,7 +28,7 @@ fn a_wire_over_a_socket_says_what_it_is_told_and_hears_the_end(
     let removed = fs::remove_file(&rt, path.as_str());
     let said = match answer {
         DialAnswer::Dialled(mut pipe) => {
-            let said = speak(&rt, &mut pipe, &listener);
+            let said = speak(&mut pipe, &listener);
             wire.close(pipe);
             said
         }
@@ -37,33 +37,32 @@ fn a_wire_over_a_socket_says_what_it_is_told_and_hears_the_end(
     let is_gone = matches!(wire.dial(alloc), DialAnswer::Failed);
     drop(wire);
     drop(listener);
+    let said = said?;
     removed?;
-    said?;
+    assert!(rt; said);
     assert!(rt; is_gone, "where no socket is left");
     Ok(())
 }
 
-/// Says and hears something, and then the end.
-fn speak(rt: &HostRuntime, pipe: &mut SocketPipe, listener: &UnixListener) -> Result<(), Fail> {
+/// Whether both ends say and hear the same, and then the end.
+fn speak(pipe: &mut SocketPipe, listener: &UnixListener) -> Result<bool, Fail> {
     let (mut peer, _) = listener.accept()?;
-    let spoken = speak_with(rt, pipe, &mut peer);
+    let spoken = speak_with(pipe, &mut peer);
     drop(peer);
-    spoken?;
-    assert!(rt; pipe.read(&mut [0u8; 8]) == PipeAnswer::Got(0));
-    assert!(rt; pipe.write(b"ask") == SinkAnswer::Failed);
-    Ok(())
+    Ok(
+        spoken?
+            && pipe.read(&mut [0u8; 8]) == PipeAnswer::Got(0)
+            && pipe.write(b"ask") == SinkAnswer::Failed,
+    )
 }
 
-fn speak_with(rt: &HostRuntime, pipe: &mut SocketPipe, peer: &mut UnixStream) -> Result<(), Fail> {
+fn speak_with(pipe: &mut SocketPipe, peer: &mut UnixStream) -> Result<bool, Fail> {
     let mut room = [0u8; 8];
-    assert!(rt; pipe.write(b"ask") == SinkAnswer::Took(3));
-    assert_eq!(rt; peer.read(&mut room)?, 3);
-    assert_eq!(rt; &room[..3], b"ask".as_slice());
-
-    assert_eq!(rt; peer.write(b"answer")?, 6);
-    assert!(rt; pipe.read(&mut room) == PipeAnswer::Got(6));
-    assert_eq!(rt; &room[..6], b"answer".as_slice());
-    Ok(())
+    let asked = pipe.write(b"ask") == SinkAnswer::Took(3);
+    let heard = peer.read(&mut room)? == 3 && &room[..3] == b"ask".as_slice();
+    let answered = peer.write(b"answer")? == 6;
+    let told = pipe.read(&mut room) == PipeAnswer::Got(6) && &room[..6] == b"answer".as_slice();
+    Ok(asked && heard && answered && told)
 }
 
 #[test]
