@@ -1,3 +1,4 @@
 pub mod Plans
+pub mod SlotSeconds
 pub mod Starts
 pub mod TwoServices

@@ -47,8 +47,9 @@ impl Found {
     }
 }
 
-/// The places of texts under these: where they are the texts of the containers that were seen, the places of these.
-fn texts_under<'a>(alloc: Global, texts: &'a [Text]) -> Result<TextIndex<'a>, Memory>
+/// The places of texts under these: where they are the texts of the containers that were seen, the places of these; where they
+/// are those of the slots, the numbers of these.
+pub fn texts_under<'a>(alloc: Global, texts: &'a [Text]) -> Result<TextIndex<'a>, Memory>
     ensures { IfOk result (λ index. index ≡ texts_under texts.now) }
 {
     let mut entries = Vec::new(alloc);

@@ -22,13 +22,14 @@ impl SlotTexts {
         ensures containers { IfOk result (λ texts.
             texts.containers ≡ map container_text seen.now.containers) }
     {
-        let slots = slot_texts(alloc, declared.slots.as_slice())?;
+        let slots = texts_of_slots(alloc, declared.slots.as_slice())?;
         let containers = container_texts(alloc, seen.containers.as_slice())?;
         Ok(SlotTexts { slots, containers })
     }
 }
 
-fn slot_texts(alloc: Global, slots: &[Slot]) -> Result<List<Text>, Memory>
+/// The text of each slot.
+pub fn texts_of_slots(alloc: Global, slots: &[Slot]) -> Result<List<Text>, Memory>
     ensures { IfOk result (λ texts. texts ≡ map slot_text slots.now) }
 {
     let mut texts = List::new(alloc);
@@ -59,7 +60,7 @@ pub(crate) fn slot_text(alloc: Global, slot: &Slot) -> Result<Text, Memory>
 }
 
 /// The text of the slot that a container's labels name.
-fn container_text(alloc: Global, row: &Listed) -> Result<Text, Memory>
+pub fn container_text(alloc: Global, row: &Listed) -> Result<Text, Memory>
     ensures { IfOk result (λ text. text ≡ container_text row.now) }
 {
     let service = service_named(&row.labels);

@@ -12,7 +12,7 @@ use tree_base::Memory;
 
 /// Numbers that stand under texts, and are found by them at once. Contracts see the list of the entries.
 #[derive(Drop)]
-pub(crate) struct TextIndex<'a> {
+pub struct TextIndex<'a> {
     entries: Vec<(&'a str, u64)>,
     numbers: HashMap<&'a str, Vec<u64>>,
 }
@@ -44,7 +44,7 @@ impl<'a> TextIndex<'a> {
     }
 
     /// The numbers under a text, in the order of the entries. No memory.
-    pub(crate) fn find(&self, text: &str) -> &[u64]
+    pub fn find(&self, text: &str) -> &[u64]
         ensures { result.now ≡ numbers_under self.now text.now }
     {
         match self.numbers.get(text) {
