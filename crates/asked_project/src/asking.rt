@@ -18,6 +18,7 @@ use include_extends::{LoadRefusal, LoadRequest, Loaded, load};
 use outside_files::Files;
 use refusals::Refusal;
 use std::alloc::Global;
+use std::mem::forget;
 use tree_base::{Env, List, Memory, Text, TryCopy};
 use typed_project::Project;
 
@@ -94,11 +95,13 @@ fn project_for<F: Files>(
     match load_for(alloc, &options, env, cwd, files) {
         Ok(loaded) => {
             let project = project_loaded(alloc, &options, &loaded);
-            // By calls, here and below: else the drop of each text would be proved at this place.
-            drop(loaded);
+            // A call loads once, and its memory goes with it: to give back what was loaded piece by piece takes a tenth
+            // of the time that `config` takes.
+            forget(loaded);
             asked_with(options, project)
         }
         Err(refusal) => {
+            // By a call, here and below: else the drop of each text would be proved at this place.
             drop(options);
             Err(Refusal::from(refusal))
         }

@@ -4,3 +4,4 @@ pub mod Hashed
 pub mod Keys
 pub mod Lists
 pub mod Records
+pub mod PageLines

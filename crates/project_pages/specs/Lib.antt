@@ -1,2 +1,3 @@
 pub mod AttributePages
 pub mod Puts
+pub mod Sections

@@ -5,6 +5,7 @@ ghost use Rattle.project_pages.specs.Puts.{hashed_value, is_hashed, is_hashed_na
 
 use crate::entries::put_node;
 use crate::kept::kept_node;
+use crate::lines::{Entry, put_node_entry};
 use crate::numbers::{decimal_text, duration_text, number_text, signed_text};
 use crate::rows::{check_node, logging_node};
 use crate::to_node::{Keyed, ToNode, mapping, nodes};
@@ -60,6 +61,13 @@ impl Keyed for Attribute {
 
     fn key(&self) -> &Text {
         &self.name
+    }
+}
+
+impl Entry for Attribute {
+    fn put_entry(&self, alloc: Global, depth: u32, out: &mut Text) -> Result<(), Memory> {
+        let node = self.value.node(alloc)?;
+        put_node_entry(alloc, depth, self.name.as_str(), &node, out)
     }
 }
 

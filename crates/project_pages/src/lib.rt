@@ -9,6 +9,7 @@
 mod attributes;
 mod entries;
 mod kept;
+mod lines;
 mod numbers;
 mod pages;
 mod rows;

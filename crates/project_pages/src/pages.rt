@@ -1,13 +1,17 @@
-ghost use Rattle.std.specs.Prelude.{◌≡◌, IfOk};
+ghost use Rattle.std.specs.Prelude.{◌≡◌, ◌++◌, IfOk, OnOk, codes};
 ghost use Rattle.typed_project.specs.Projects.{IsOrdered};
+ghost use Rattle.project_print.specs.Pages.{entry, shown};
+ghost use Rattle.project_print.specs.Written.{hanging};
+ghost use Rattle.project_print.specs.declared.node.Node.{Node};
 ghost use Rattle.project_pages.specs.AttributePages.{page, page_json, project_node, service_json};
 ghost use Rattle.typed_project.specs.DistinctNames.{HasDistinctNames, HaveDistinctNames};
 
 use crate::attributes::hashed_entries;
 use crate::entries::{put_mapping, put_text};
+use crate::lines::{put_mapping_entry, put_node_entry, put_section_lines};
 use crate::sections::put_section;
 use crate::to_node::mapping;
-use project_print::{Dollars, Node, json_text, node_page, node_page_json};
+use project_print::{Dollars, Node, json_text, node_page_json};
 use std::alloc::Global;
 use tree_base::{Memory, Text, TextMap};
 use typed_project::{Project, Service};
@@ -37,8 +41,23 @@ pub fn page(alloc: Global, project: &Project) -> Result<Text, Memory>
     requires names { HasDistinctNames project.now }
     ensures { IfOk result (λ text. text ≡ page project.now) }
 {
-    let node = project_node(alloc, project)?;
-    node_page(alloc, &node)
+    let mut out = Text::new(alloc);
+    put_section_lines(alloc, "configs", project.configs.as_slice(), &mut out)?;
+    put_name(alloc, &project.name, &mut out)?;
+    put_section_lines(alloc, "networks", project.networks.as_slice(), &mut out)?;
+    put_section_lines(alloc, "secrets", project.secrets.as_slice(), &mut out)?;
+    put_mapping_entry(alloc, 0, "services", project.services.as_slice(), &mut out)?;
+    put_section_lines(alloc, "volumes", project.volumes.as_slice(), &mut out)?;
+    Ok(out)
+}
+
+/// Puts the line of a project's name last.
+fn put_name(alloc: Global, name: &Text, out: &mut Text) -> Result<(), Memory>
+    ensures { OnOk result (out.new ≡
+        out.old ++ hanging 0 (entry (codes "name", shown (Node.Text name.now)))) }
+{
+    let node = Node::Text(name.copy(alloc)?);
+    put_node_entry(alloc, 0, "name", &node, out)
 }
 
 /// The page of a project as JSON without spaces, with a line end. Memory where there is no memory

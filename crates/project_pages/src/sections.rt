@@ -8,6 +8,7 @@ ghost use Rattle.typed_project.specs.DistinctNames.{HaveDistinctNames};
 ghost use Rattle.project_pages.specs.Puts.{any_of, file_node, with_found};
 
 use crate::entries::{put_mapping, put_text};
+use crate::lines::{Entry, put_mapping_entry, put_node_entry};
 use crate::to_node::{Keyed, ToNode, mapping};
 use attribute_types::Attribute;
 use project_print::Node;
@@ -33,6 +34,18 @@ impl Keyed for Service {
     }
 }
 
+impl Entry for Service {
+    fn put_entry(&self, alloc: Global, depth: u32, out: &mut Text) -> Result<(), Memory> {
+        put_mapping_entry(
+            alloc,
+            depth,
+            self.key.as_str(),
+            self.attributes.as_slice(),
+            out,
+        )
+    }
+}
+
 impl ToNode for Network {
     ghost shown = { λ network. attributes_node network.attributes };
 
@@ -48,6 +61,18 @@ impl Keyed for Network {
 
     fn key(&self) -> &Text {
         &self.key
+    }
+}
+
+impl Entry for Network {
+    fn put_entry(&self, alloc: Global, depth: u32, out: &mut Text) -> Result<(), Memory> {
+        put_mapping_entry(
+            alloc,
+            depth,
+            self.key.as_str(),
+            self.attributes.as_slice(),
+            out,
+        )
     }
 }
 
@@ -69,6 +94,18 @@ impl Keyed for Volume {
     }
 }
 
+impl Entry for Volume {
+    fn put_entry(&self, alloc: Global, depth: u32, out: &mut Text) -> Result<(), Memory> {
+        put_mapping_entry(
+            alloc,
+            depth,
+            self.key.as_str(),
+            self.attributes.as_slice(),
+            out,
+        )
+    }
+}
+
 impl ToNode for FileItem {
     ghost shown = { file_node };
 
@@ -87,6 +124,13 @@ impl Keyed for FileItem {
 
     fn key(&self) -> &Text {
         &self.key
+    }
+}
+
+impl Entry for FileItem {
+    fn put_entry(&self, alloc: Global, depth: u32, out: &mut Text) -> Result<(), Memory> {
+        let node = self.node(alloc)?;
+        put_node_entry(alloc, depth, self.key.as_str(), &node, out)
     }
 }
 

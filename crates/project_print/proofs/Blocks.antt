@@ -95,6 +95,15 @@ map_text d es some =
     ∙ block_text d (codes "{}") (map entry (map (λ (e : List ℕ × Node). (e.0, shown e.1)) es)) (some_entries es some)
     ∙ ap (hanging d) (sym (fold_at_map es))
 
+-- also where its entries are given by their keys and what is shown of them
+pub map_lines : (d : ℕ) (es : List (List ℕ × Node)) → es ≢ [] → parts_text d 0 (map entry (map (λ (e : List ℕ × Node). (e.0, shown e.1)) es)) ≡ hanging d (shown (Map es))
+map_lines d es some =
+    block_text d (codes "{}") (map entry (map (λ (e : List ℕ × Node). (e.0, shown e.1)) es)) (some_entries es some) ∙ ap (hanging d) (sym (fold_at_map es))
+
+-- a mapping without entries
+pub no_lines : (d : ℕ) → hanging d (shown (Map [])) ≡ codes "{}\n"
+no_lines d = ap (hanging d) (fold_at_map [])
+
 -- and so are the items of a sequence
 pub seq_text : (d : ℕ) (xs : List Node) → xs ≢ [] → items_text d (map shown xs) ≡ hanging d (shown (Seq xs))
 seq_text d xs some = block_text d (codes "[]") (map item (map shown xs)) (some_items xs some) ∙ ap (hanging d) (sym (fold_at_seq xs))
@@ -127,6 +136,27 @@ entry_step d at below out one two three total k b v parts rest deep is e f g p s
   where
     joined : (a g k h r : List ℕ) → (((a ++ g) ++ k) ++ h) ++ r ≡ a ++ (g ++ ((k ++ h) ++ r))
     joined a g k h r = simp append_assoc
+
+-- one part more
+pub part_step : (d at : ℕ) (out one two total : List ℕ) (part : Shown) (parts rest : List Shown)
+    → one ≡ out ++ gap d at → two ≡ one ++ hanging d part → parts ≡ part ∷ rest → out ++ parts_text d at parts ≡ total → two ++ parts_text d (at + 1) rest ≡ total
+part_step d at out one two total part parts rest e f p so_far =
+    (λ i. (f ∙ ap (λ x. x ++ hanging d part) e) i ++ parts_text d (add-one at i) rest)
+    ∙ joined out (gap d at) (hanging d part) (parts_text d (suc at) rest)
+    ∙ ap (λ x. out ++ parts_text d at x) (sym p)
+    ∙ so_far
+  where
+    joined : (a g h r : List ℕ) → ((a ++ g) ++ h) ++ r ≡ a ++ (g ++ (h ++ r))
+    joined a g h r = simp append_assoc
+
+-- a key, and what is shown under it
+pub keyed : (d below : ℕ) (out one two k : List ℕ) (b : Bool) (v : Shown)
+    → below ≡ d + 1 → b ≡ v.is_block → one ≡ out ++ key_text below k b → two ≡ one ++ hanging below v → two ≡ out ++ hanging d (entry (k, v))
+keyed d below out one two k b v deep is e f =
+    let level : below ≡ suc d = deep ∙ add-one d in
+    f ∙ ap (λ x. x ++ hanging below v) e
+    ∙ append_assoc out (key_text below k b) (hanging below v)
+    ∙ ap (λ x. out ++ x) ((λ i. key_text (level i) k (is i) ++ hanging (level i) v) ∙ sym (entry_text d k v))
 
 -- one item more
 pub item_step : (d at below : ℕ) (out one two three total : List ℕ) (v : Node) (parts rest : List Shown)

@@ -1,11 +1,12 @@
 -- Functions of bytes that leave the bytes of other characters than ASCII's as they are.
 use Rattle.std.proofs.Common.{◌≡◌, ◌∙◌, ℕ, ◌+◌, ◌/◌, ◌%◌, ◌≤◌, ◌<◌, List, [], ◌∷◌, ◌++◌, Bool, true, false, cond, eqb, ltb, flat_map, refl, sym, ap, inl, inr, append_assoc, arith}
 use lib.Utf8.{encode}
-use Rattle.std.proofs.lemmas.Bool.{cases_lt, ltb-true}
+use Rattle.std.specs.List.{list_any}
+use Rattle.std.proofs.lemmas.Bool.{cases_lt, ltb-true, or_parts}
 use Rattle.std.proofs.lemmas.Grind.{flat_map-append}
 use Rattle.std.proofs.lemmas.List.{append-nil}
 use Rattle.std.proofs.lemmas.Str.{encode_ascii}
-use Rattle.project_print.specs.Scalars.{doubled_byte, escaped}
+use Rattle.project_print.specs.Scalars.{doubled, doubled_byte, escaped}
 
 -- bytes past ASCII
 abbrev AreHigh : List ℕ → Type 0
@@ -72,6 +73,13 @@ doubled_same c p =
       | inl low ↦ low_mapped doubled_byte c low ∙ rw p refl ∙ sym (encode_ascii c low)
       | inr past ↦ high_kept doubled_byte doubled_high c past
     ]
+
+-- and a text that has none
+pub no_dollars : (text : List ℕ) → list_any (λ c. eqb c 36) text ≡ false → doubled text ≡ text
+no_dollars [] none = refl
+no_dollars (c ∷ cs) none =
+    let parts = or_parts (eqb c 36) (list_any (λ c. eqb c 36) cs) none in
+    rw parts.0 (ap (λ xs. c ∷ xs) (no_dollars cs parts.1))
 
 -- one character more of those that are mapped
 pub mapped_step : (f : ℕ → List ℕ) (c : ℕ) (out new rest text : List ℕ) → text ≡ encode c ++ rest → new ≡ out ++ flat_map f (encode c) → new ++ flat_map f rest ≡ out ++ flat_map f text

@@ -1,5 +1,5 @@
-ghost use Rattle.std.specs.Prelude.{◌≡◌, ◌+◌, [], ◌∷◌, ◌++◌, IfOk, OnOk, length, map};
-ghost use Rattle.std.specs.List.{zip};
+ghost use Rattle.std.specs.Prelude.{◌≡◌, ◌+◌, [], ◌∷◌, ◌++◌, IfOk, OnOk, length, map, nat_eq};
+ghost use Rattle.std.specs.List.{list_any, zip};
 ghost use Rattle.project_print.specs.Pages.{page_text, shown};
 ghost use Rattle.project_print.specs.Scalars.{doubled, scalar};
 ghost use Rattle.project_print.specs.Written.{entries_text, gap, hanging, indent, items_text, key_text};
@@ -20,9 +20,9 @@ pub fn node_page(alloc: Global, node: &Node) -> Result<Text, Memory>
 }
 
 /// Puts the node's lines last. The first one goes on where `out` ends, the others begin with two spaces for each
-/// level of `depth`.
+/// level of `depth`. Memory where there is no memory for them.
 #[cycle(layout)]
-fn put_node(node: &Node, alloc: Global, depth: u32, out: &mut Text) -> Result<(), Memory>
+pub fn put_node(node: &Node, alloc: Global, depth: u32, out: &mut Text) -> Result<(), Memory>
     ensures { OnOk result (out.new ≡ out.old ++ hanging depth (shown node.now)) }
 {
     match node {
@@ -61,7 +61,7 @@ fn put_entries(
     let below = deeper(depth)?;
     for (at, value) in values.iter().enumerate() {
         put_gap(at, depth, out)?;
-        put_key(&keys[at], value.is_block(), below, out)?;
+        put_key(keys[at].as_str(), value.is_block(), below, out)?;
         put_node(value, alloc, below, out)?;
     }
     Ok(())
@@ -80,8 +80,8 @@ fn put_items(items: &[Node], alloc: Global, depth: u32, out: &mut Text) -> Resul
     Ok(())
 }
 
-/// One level more. No value nests so deep that there is none.
-fn deeper(depth: u32) -> Result<u32, Memory>
+/// One level more. Memory where numbers end, which is deeper than memory lets a value nest.
+pub fn deeper(depth: u32) -> Result<u32, Memory>
     ensures { IfOk result (λ below. below ≡ depth + 1) }
 {
     depth.checked_add(1).ok_or(Memory)
@@ -97,9 +97,26 @@ fn put_line(text: &str, out: &mut Text) -> Result<(), Memory>
 fn put_text(alloc: Global, text: &Text, out: &mut Text) -> Result<(), Memory>
     ensures { OnOk result (out.new ≡ out.old ++ scalar (doubled text.now) ++ 10 ∷ []) }
 {
-    let twice = doubled(alloc, text.as_str())?;
-    put_scalar(twice.as_str(), out)?;
+    put_doubled(alloc, text.as_str(), out)?;
     out.push_str("\n")
+}
+
+/// Puts a text with each `$` twice last. Only one that has some is copied first.
+fn put_doubled(alloc: Global, text: &str, out: &mut Text) -> Result<(), Memory>
+    ensures { OnOk result (out.new ≡ out.old ++ scalar (doubled text.now)) }
+{
+    if has_dollar(text.as_bytes()) {
+        let twice = doubled(alloc, text)?;
+        put_scalar(twice.as_str(), out)
+    } else {
+        put_scalar(text, out)
+    }
+}
+
+fn has_dollar(bytes: &[u8]) -> bool
+    ensures { result ≡ list_any (λ byte. nat_eq byte 36) bytes.now }
+{
+    bytes.iter().any(|byte| *byte == b'$')
 }
 
 /// Puts the indentation of a depth last.
@@ -112,8 +129,9 @@ fn put_indent(depth: u32, out: &mut Text) -> Result<(), Memory>
     Ok(())
 }
 
-/// Puts what stands before a part of a block: the indentation, but before the first nothing.
-fn put_gap(at: usize, depth: u32, out: &mut Text) -> Result<(), Memory>
+/// Puts what stands before a part of a block: the indentation, but before the first nothing. Memory where there is no
+/// memory for it.
+pub fn put_gap(at: usize, depth: u32, out: &mut Text) -> Result<(), Memory>
     ensures { OnOk result (out.new ≡ out.old ++ gap depth at) }
 {
     if at == 0 {
@@ -123,11 +141,12 @@ fn put_gap(at: usize, depth: u32, out: &mut Text) -> Result<(), Memory>
     }
 }
 
-/// Puts a key last, and what stands between it and its value, of which the lines are at depth `below`.
-fn put_key(key: &Text, is_block: bool, below: u32, out: &mut Text) -> Result<(), Memory>
+/// Puts a key last, and what stands between it and its value, of which the lines are at depth `below`. Memory where
+/// there is no memory for it.
+pub fn put_key(key: &str, is_block: bool, below: u32, out: &mut Text) -> Result<(), Memory>
     ensures { OnOk result (out.new ≡ out.old ++ key_text below key.now is_block) }
 {
-    put_scalar(key.as_str(), out)?;
+    put_scalar(key, out)?;
     if is_block {
         out.push_str(":\n")?;
         put_indent(below, out)

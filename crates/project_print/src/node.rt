@@ -19,7 +19,7 @@ pub enum Node {
 
 impl Node {
     /// Whether the node takes lines of its own: a mapping or a sequence that isn't empty. No memory.
-    pub(crate) fn is_block(&self) -> bool
+    pub fn is_block(&self) -> bool
         ensures { result ≡ (shown self.now).is_block }
     {
         match self {

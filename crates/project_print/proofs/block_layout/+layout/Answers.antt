@@ -2,7 +2,7 @@ use Rattle.std.proofs.Common.{◌∙◌, ◌++◌, ◌<◌, ◌≤◌, length, m
 use Rattle.std.proofs.lemmas.Bool.{iff_false}
 use Rattle.std.proofs.lemmas.Result.{on_ok_weaker}
 use Rattle.project_print.specs.Pages.{entry, item, shown}
-use Rattle.project_print.specs.Written.{entries_text, hanging, items_text}
+use Rattle.project_print.specs.Written.{entries_text, hanging, items_text, key_text}
 use Rattle.project_print.proofs.Blocks.{entry_step, item_step, map_text, pairs_of, parts_done, seq_text}
 use Rattle.project_print.proofs.Places.{next_of_both, next_of_maps, none_of_both}
 use Rattle.project_print.proofs.block_layout.+layout.Goals as goal
@@ -24,8 +24,9 @@ put_node-returns-else-is_empty-2 t c =
 pub put_entries-loop-at-preserved : goal.put_entries-loop-at-preserved
 put_entries-loop-at-preserved t c =
     let within : c.loop-at.at < length c.args.values.now = omega arith in
+    let key = c.in_ok-put_key.ensures ∙ ap (λ k. c.put_gap.new.out ++ key_text c.in_ok-below.below k c.is_block.result) c.as_str.ensures.value in
     entry_step c.args.depth c.loop-at.at c.in_ok-below.below c.loop-at.out _ _ _ _ c.index-keys-at.result c.is_block.result c.index-values-at.result _ _
-    c.in_ok-below.ensures c.is_block.ensures c.in_ok-put_gap.ensures c.in_ok-put_key.ensures c.in_ok-put_node.ensures
+    c.in_ok-below.ensures c.is_block.ensures c.in_ok-put_gap.ensures key c.in_ok-put_node.ensures
     (next_of_both entry shown c.args.keys.now c.args.values.now c.loop-at.at c.index-keys-at.result c.index-values-at.result c.requires within c.index-keys-at.is c.index-values-at.is)
     c.loop-at.invariant
 
