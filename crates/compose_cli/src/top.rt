@@ -35,6 +35,7 @@ use outside_api::Plug;
 use outside_files::{Files, Sink};
 use project_run::{Aim, RunOptions};
 use std::alloc::Global;
+use std::mem::forget;
 use tree_base::{Env, List, Text};
 
 /// A run that waits for nothing, and is never late.
@@ -217,9 +218,16 @@ pub fn serial_main<F: Files, P: Plug, O: Sink, G: Sink>(
         Ok(asked) => match aim_for(&asked.options.command) {
             Some(aim) => {
                 let options = options_for(&asked.options.command);
-                run_asked(alloc, &asked, aim, options, env, cwd, files, plug, out, err)
-            },
-            None => without_hands(alloc, print_asked(alloc, &asked, out, err)),
+                let end = run_asked(alloc, &asked, aim, options, env, cwd, files, plug, out, err);
+                forget(asked);
+                end
+            }
+            // The call ends, and all its memory with it: the project isn't given back piece by piece.
+            None => {
+                let end = print_asked(alloc, &asked, out, err);
+                forget(asked);
+                without_hands(alloc, end)
+            }
         },
         Err(refusal) => refused(alloc, refusal, err),
     }

@@ -1,15 +1,15 @@
 -- A page by its sections.
-use Rattle.std.proofs.Common.{◌≡◌, ◌≢◌, ◌≤◌, ◌∙◌, ℕ, zero, suc, List, [], ◌∷◌, ◌++◌, drop, length, map, flat_map, codes, refl, sym, ap, arith, Bool, true, false, eqb, not}
+use Rattle.std.proofs.Common.{◌≡◌, ◌≢◌, ◌≤◌, ◌∙◌, ℕ, zero, suc, List, [], ◌∷◌, ◌++◌, drop, length, map, flat_map, codes, refl, sym, ap, arith, Bool, true, false, eqb, not, ◌↔◌, Option, Some, None, slice_get, ◌+◌, ◌<◌, add-one}
 use Rattle.std.proofs.lemmas.Grind.{flat_map-append}
 use Rattle.std.proofs.lemmas.List.{append-nil}
 use Rattle.typed_project.specs.declared.project.Project.{Project}
 use Rattle.project_print.specs.declared.node.Node.{Node}
 use Rattle.project_print.specs.declared.node.Node.TheVariants.{Map, Text}
-use Rattle.project_print.specs.Pages.{Shown, entry, page_text, shown}
+use Rattle.project_print.specs.Pages.{Shown, entry, item, page_text, shown}
 use Rattle.project_print.specs.Written.{gap, hanging, parts_text}
-use Rattle.project_print.proofs.Blocks.{map_is_block, map_lines, no_lines}
-use Rattle.project_pages.specs.AttributePages.{file_entry, if_any, network_entry, page, service_entry, volume_entry}
-use Rattle.project_pages.specs.Sections.{section_text}
+use Rattle.project_print.proofs.Blocks.{map_is_block, map_lines, no_items, no_lines, seq_is_block, seq_lines}
+use Rattle.project_pages.specs.AttributePages.{file_entry, if_any, network_entry, page, pair_entry, pairs_node, service_entry, texts_node, volume_entry}
+use Rattle.project_pages.specs.Sections.{maybe_text, section_text}
 
 -- the lines of an item under its key
 abbrev pub item_lines : {X : Type 0} → (X → List ℕ) → (X → Node) → X → Shown
@@ -125,3 +125,67 @@ page_by_sections project =
     ++ (section_text (codes "networks") (λ networks. Map (map network_entry networks)) project.networks
     ++ (section_of (codes "secrets") (λ secrets. Map (map file_entry secrets)) project.secrets i
     ++ (part services ++ section_of (codes "volumes") (λ volumes. Map (map volume_entry volumes)) project.volumes i)))))
+
+-- the items of texts, as they are shown
+shown_texts : (ts : List (List ℕ)) → map item (map shown (map Text ts)) ≡ map (λ t. item (shown (Text t))) ts
+shown_texts [] = refl
+shown_texts (t ∷ ts) = ap (λ ps. item (shown (Text t)) ∷ ps) (shown_texts ts)
+
+some_texts : (ts : List (List ℕ)) → ts ≢ [] → map Text ts ≢ []
+some_texts [] some = absurd (some refl)
+some_texts (t ∷ ts) some = λ none. cc
+
+-- texts one below the other are what is shown of a sequence of them
+pub texts_lines : (d : ℕ) (ts : List (List ℕ)) → ts ≢ [] → parts_text d 0 (map (λ t. item (shown (Text t))) ts) ≡ hanging d (shown (texts_node ts))
+texts_lines d ts some = ap (parts_text d 0) (sym (shown_texts ts)) ∙ seq_lines d (map Text ts) (some_texts ts some)
+
+-- a sequence of no texts
+pub no_texts_lines : (d : ℕ) (ts : List (List ℕ)) → ts ≡ [] → codes "[]\n" ≡ hanging d (shown (texts_node ts))
+no_texts_lines d ts none = sym (no_items d) ∙ ap (λ us. hanging d (shown (texts_node us))) (sym none)
+
+-- a sequence is a block exactly where there is a text
+pub texts_block : (b : Bool) (ts : List (List ℕ)) → b ≡ eqb (length ts) 0 → not b ≡ (shown (texts_node ts)).is_block
+texts_block b [] is = seq_is_block b [] ((λ so. refl), (λ none. grind arith))
+texts_block b (t ∷ ts) is =
+    seq_is_block b (Text t ∷ map Text ts) ((λ so. absurd (grind arith)), (λ none. absurd (let no : Text t ∷ map Text ts ≡ [] = none in cc)))
+
+-- the lines of a pair
+abbrev pub pair_lines : List ℕ × Option (List ℕ) → Shown
+pair_lines pair = entry (pair.0, shown (maybe_text pair.1))
+
+shown_pairs : (ps : List (List ℕ × Option (List ℕ))) → map entry (map (λ (e : List ℕ × Node). (e.0, shown e.1)) (map pair_entry ps)) ≡ map pair_lines ps
+shown_pairs [] = refl
+shown_pairs (p ∷ ps) = ap (λ qs. pair_lines p ∷ qs) (shown_pairs ps)
+
+some_pairs : (ps : List (List ℕ × Option (List ℕ))) → ps ≢ [] → map pair_entry ps ≢ []
+some_pairs [] some = absurd (some refl)
+some_pairs (p ∷ ps) some = λ none. cc
+
+-- pairs one below the other are what is shown of a mapping of them
+pub pairs_lines : (d : ℕ) (ps : List (List ℕ × Option (List ℕ))) → ps ≢ [] → parts_text d 0 (map pair_lines ps) ≡ hanging d (shown (pairs_node ps))
+pairs_lines d ps some = ap (parts_text d 0) (sym (shown_pairs ps)) ∙ map_lines d (map pair_entry ps) (some_pairs ps some)
+
+-- a mapping of no pairs
+pub no_pairs_lines : (d : ℕ) (ps : List (List ℕ × Option (List ℕ))) → ps ≡ [] → codes "{}\n" ≡ hanging d (shown (pairs_node ps))
+no_pairs_lines d ps none = sym (no_lines d) ∙ ap (λ qs. hanging d (shown (pairs_node qs))) (sym none)
+
+-- a mapping is a block exactly where there is a pair
+pub pairs_block : (b : Bool) (ps : List (List ℕ × Option (List ℕ))) → ((b ≡ true) ↔ (ps ≡ [])) → not b ≡ (shown (pairs_node ps)).is_block
+pairs_block b [] h = map_is_block b [] ((λ so. refl), (λ none. h.1 refl))
+pairs_block b (p ∷ ps) h =
+    map_is_block b (pair_entry p ∷ map pair_entry ps) ((λ so. absurd (let no : p ∷ ps ≡ [] = h.0 so in cc)), (λ none. absurd (let no : pair_entry p ∷ map pair_entry ps ≡ [] = none in cc)))
+
+next_pair : {X P : Type 0} (f : X → P) (xs : List X) (i : ℕ) (x : X) → slice_get xs i ≡ Some x → drop i (map f xs) ≡ f x ∷ drop (suc i) (map f xs)
+next_pair f [] i x at = let no : None ≡ Some x = at in cc
+next_pair f (y ∷ ys) zero x at = let same : Some y ≡ Some x = at in let found : y ≡ x = cc in λ i. f (found i) ∷ map f ys
+next_pair f (y ∷ ys) (suc i) x at = next_pair f ys i x at
+
+-- from a place on, what is made of the item at it, and the rest
+pub next_found : {X P : Type 0} (f : X → P) (xs : List X) (i : ℕ) (x : X) → slice_get xs i ≡ Some x → drop i (map f xs) ≡ f x ∷ drop (i + 1) (map f xs)
+next_found f xs i x at = next_pair f xs i x at ∙ ap (λ n. f x ∷ drop n (map f xs)) (sym (add-one i))
+
+-- a place before the end has an item
+pub some_there : {X : Type 0} (xs : List X) (i : ℕ) → i < length xs → slice_get xs i ≡ None → ⊥
+some_there [] i within none = omega arith
+some_there (x ∷ xs) zero within none = let no : Some x ≡ None = none in cc
+some_there (x ∷ xs) (suc i) within none = some_there xs i (omega arith) none

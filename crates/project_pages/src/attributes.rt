@@ -1,4 +1,6 @@
-ghost use Rattle.std.specs.Prelude.{◌≡◌, IfOk, OnOk, filter, map};
+ghost use Rattle.std.specs.Prelude.{◌≡◌, ◌++◌, IfOk, OnOk, filter, map};
+ghost use Rattle.project_print.specs.Pages.{entry, shown};
+ghost use Rattle.project_print.specs.Written.{hanging};
 ghost use Rattle.project_pages.specs.AttributePages.{attribute_entry, value_node};
 ghost use Rattle.typed_project.specs.DistinctNames.{HasDistinctParts, HaveDistinctNames};
 ghost use Rattle.project_pages.specs.Puts.{hashed_value, is_hashed, is_hashed_name, with_found};
@@ -8,6 +10,7 @@ use crate::kept::kept_node;
 use crate::lines::{Entry, put_node_entry};
 use crate::numbers::{decimal_text, duration_text, number_text, signed_text};
 use crate::rows::{check_node, logging_node};
+use crate::texts::{put_pairs_entry, put_text_entry, put_texts_entry};
 use crate::to_node::{Keyed, ToNode, mapping, nodes};
 use crate::values::{bool_node, pairs_node, texts_node};
 use attribute_types::{Attribute, Value};
@@ -66,8 +69,31 @@ impl Keyed for Attribute {
 
 impl Entry for Attribute {
     fn put_entry(&self, alloc: Global, depth: u32, out: &mut Text) -> Result<(), Memory> {
-        let node = self.value.node(alloc)?;
-        put_node_entry(alloc, depth, self.name.as_str(), &node, out)
+        put_value_entry(alloc, depth, self.name.as_str(), &self.value, out)
+    }
+}
+
+/// Puts a key and the lines of a value under it last. Only of what isn't made of texts alone a node is made.
+fn put_value_entry(
+    alloc: Global,
+    depth: u32,
+    key: &str,
+    value: &Value,
+    out: &mut Text,
+) -> Result<(), Memory>
+    requires { HasDistinctParts value.now }
+    ensures { OnOk result (out.new ≡
+        out.old ++ hanging depth (entry (key.now, shown (value_node value.now)))) }
+{
+    match value {
+        Value::Text(text) => put_text_entry(alloc, depth, key, text, out),
+        Value::List(texts) => put_texts_entry(alloc, depth, key, texts.as_slice(), out),
+        Value::Pairs(pairs) => put_pairs_entry(alloc, depth, key, pairs, out),
+        Value::Argv(words) => put_texts_entry(alloc, depth, key, words.as_slice(), out),
+        _ => {
+            let node = value.node(alloc)?;
+            put_node_entry(alloc, depth, key, &node, out)
+        }
     }
 }
 

@@ -14,6 +14,7 @@ mod numbers;
 mod pages;
 mod rows;
 mod sections;
+mod texts;
 mod to_node;
 mod values;
 

@@ -7,9 +7,9 @@ use Rattle.std.specs.List.{zip}
 use Rattle.std.specs.Map.{keys_of, values_of}
 use Rattle.tree_base.proofs.Pairs.{values_mapped}
 use Rattle.project_print.specs.declared.node.Node.{Node, the_lemmas}
-use Rattle.project_print.specs.declared.node.Node.TheVariants.{Map, Seq}
-use Rattle.project_print.specs.Pages.{Shown, block, deeper, ended, entry, item, lines_of, shown}
-use Rattle.project_print.specs.Scalars.{scalar}
+use Rattle.project_print.specs.declared.node.Node.TheVariants.{Map, Null, Seq, Text}
+use Rattle.project_print.specs.Pages.{Shown, block, deeper, ended, entry, item, lines_of, shown, word}
+use Rattle.project_print.specs.Scalars.{doubled, scalar}
 use Rattle.project_print.specs.Written.{entries_text, gap, hanging, indent, indented, items_text, key_text, parts_text}
 
 pub indent_more : (d : ℕ) → indent (suc d) ≡ indent d ++ codes "  "
@@ -136,6 +136,34 @@ entry_step d at below out one two three total k b v parts rest deep is e f g p s
   where
     joined : (a g k h r : List ℕ) → (((a ++ g) ++ k) ++ h) ++ r ≡ a ++ (g ++ ((k ++ h) ++ r))
     joined a g k h r = simp append_assoc
+
+fold_at_text : (t : List ℕ) → shown (Text t) ≡ word (scalar (doubled t))
+fold_at_text t = search (rules, the_lemmas)
+
+-- the line of a text, wherever it stands
+pub text_line : (d : ℕ) (t : List ℕ) → scalar (doubled t) ++ codes "\n" ≡ hanging d (shown (Text t))
+text_line d t = sym (append-nil (scalar (doubled t) ++ codes "\n")) ∙ ap (hanging d) (sym (fold_at_text t))
+
+fold_at_null : shown Null ≡ word (codes "null")
+fold_at_null = search (rules, the_lemmas)
+
+-- the line of null
+pub null_line : (d : ℕ) → codes "null\n" ≡ hanging d (shown Null)
+null_line d = ap (hanging d) (sym fold_at_null)
+
+-- neither is a block
+pub text_is_word : (t : List ℕ) → false ≡ (shown (Text t)).is_block
+text_is_word t = sym (ap (λ s. s.is_block) (fold_at_text t))
+
+pub null_is_word : false ≡ (shown Null).is_block
+null_is_word = sym (ap (λ s. s.is_block) fold_at_null)
+
+-- the items of a sequence, and none
+pub seq_lines : (d : ℕ) (xs : List Node) → xs ≢ [] → parts_text d 0 (map item (map shown xs)) ≡ hanging d (shown (Seq xs))
+seq_lines d xs some = seq_text d xs some
+
+pub no_items : (d : ℕ) → hanging d (shown (Seq [])) ≡ codes "[]\n"
+no_items d = ap (hanging d) (fold_at_seq [])
 
 -- one part more
 pub part_step : (d at : ℕ) (out one two total : List ℕ) (part : Shown) (parts rest : List Shown)

@@ -1,12 +1,13 @@
 -- Functions of bytes that leave the bytes of other characters than ASCII's as they are.
-use Rattle.std.proofs.Common.{◌≡◌, ◌∙◌, ℕ, ◌+◌, ◌/◌, ◌%◌, ◌≤◌, ◌<◌, List, [], ◌∷◌, ◌++◌, Bool, true, false, cond, eqb, ltb, flat_map, refl, sym, ap, inl, inr, append_assoc, arith}
+use Rattle.std.proofs.Common.{◌≡◌, ◌∙◌, ℕ, ◌+◌, ◌/◌, ◌%◌, ◌≤◌, ◌<◌, List, [], ◌∷◌, ◌++◌, Bool, true, false, cond, eqb, ltb, flat_map, refl, sym, ap, inl, inr, append_assoc, arith, tests}
 use lib.Utf8.{encode}
-use Rattle.std.specs.List.{list_any}
-use Rattle.std.proofs.lemmas.Bool.{cases_lt, ltb-true, or_parts}
+use Rattle.std.specs.List.{list_all, list_any}
+use Rattle.std.proofs.lemmas.Bool.{and_parts, cases_lt, ltb-true, or_parts}
+use Rattle.std.proofs.lemmas.Bool.Decides.{nat_tests}
 use Rattle.std.proofs.lemmas.Grind.{flat_map-append}
 use Rattle.std.proofs.lemmas.List.{append-nil}
 use Rattle.std.proofs.lemmas.Str.{encode_ascii}
-use Rattle.project_print.specs.Scalars.{doubled, doubled_byte, escaped}
+use Rattle.project_print.specs.Scalars.{doubled, doubled_byte, escaped, stands_in_quotes}
 
 -- bytes past ASCII
 abbrev AreHigh : List ℕ → Type 0
@@ -80,6 +81,21 @@ no_dollars [] none = refl
 no_dollars (c ∷ cs) none =
     let parts = or_parts (eqb c 36) (list_any (λ c. eqb c 36) cs) none in
     rw parts.0 (ap (λ xs. c ∷ xs) (no_dollars cs parts.1))
+
+byte_stands : (c : ℕ) → stands_in_quotes c ≡ true → escaped c ≡ c ∷ []
+byte_stands c h =
+    let low : 32 ≤ c = grind (arith, nat_tests, tests) in
+    let quote : eqb c 34 ≡ false = grind (arith, nat_tests, tests) in
+    let slash : eqb c 92 ≡ false = grind (arith, nat_tests, tests) in
+    let gone : eqb c 127 ≡ false = grind (arith, nat_tests, tests) in
+    escaped_plain c low quote slash gone
+
+-- a text of which each byte stands in quotes as it is stands in them as it is
+pub all_stand : (text : List ℕ) → list_all stands_in_quotes text ≡ true → flat_map escaped text ≡ text
+all_stand [] all = refl
+all_stand (c ∷ cs) all =
+    let parts = and_parts (stands_in_quotes c) (list_all stands_in_quotes cs) all in
+    λ i. byte_stands c parts.0 i ++ all_stand cs parts.1 i
 
 -- one character more of those that are mapped
 pub mapped_step : (f : ℕ → List ℕ) (c : ℕ) (out new rest text : List ℕ) → text ≡ encode c ++ rest → new ≡ out ++ flat_map f (encode c) → new ++ flat_map f rest ≡ out ++ flat_map f text

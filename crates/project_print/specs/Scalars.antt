@@ -1,5 +1,5 @@
 -- The words of a page: which stand as they are, and which in double quotes (YAML 1.2, chapters 5.7, 7.3.1 and 7.3.3).
-use Rattle.std.specs.Prelude.{ℕ, ◌/◌, ◌%◌, List, [], ◌∷◌, ◌++◌, Bool, false, not, codes, flat_map, nat_eq, nat_lt, ◌==◌, ◌&&◌, ◌||◌, if◌then◌else◌}
+use Rattle.std.specs.Prelude.{ℕ, ◌/◌, ◌%◌, List, [], ◌∷◌, ◌++◌, Bool, false, not, codes, flat_map, nat_eq, nat_le, nat_lt, ◌==◌, ◌&&◌, ◌||◌, if◌then◌else◌}
 use Rattle.std.specs.Char.{digit_char, is_ascii_alphabetic, is_ascii_alphanumeric, to_ascii_uppercase}
 use Rattle.std.specs.List.{ends_with, list_all, list_any}
 use Rattle.std.specs.Str.{bytes_eq, str_to_ascii_lowercase}
@@ -59,6 +59,10 @@ escaped c =
     else (if c == 9 then codes "\\t"
     else (if nat_lt c 32 || (c == 127) then 92 ∷ 120 ∷ upper_digit (c / 16) ∷ upper_digit (c % 16) ∷ []
     else c ∷ []))))
+
+-- a byte that stands in double quotes as it is
+abbrev pub stands_in_quotes : ℕ → Bool
+stands_in_quotes c = nat_le 32 c && (not (c == 34) && (not (c == 92) && not (c == 127)))
 
 -- a text in double quotes
 abbrev pub in_quotes : List ℕ → List ℕ

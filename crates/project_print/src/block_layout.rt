@@ -94,7 +94,8 @@ fn put_line(text: &str, out: &mut Text) -> Result<(), Memory>
     out.push_str("\n")
 }
 
-fn put_text(alloc: Global, text: &Text, out: &mut Text) -> Result<(), Memory>
+/// Puts the line of a text last, in which each `$` stands twice. Memory where there is no memory for it.
+pub fn put_text(alloc: Global, text: &Text, out: &mut Text) -> Result<(), Memory>
     ensures { OnOk result (out.new ≡ out.old ++ scalar (doubled text.now) ++ 10 ∷ []) }
 {
     put_doubled(alloc, text.as_str(), out)?;

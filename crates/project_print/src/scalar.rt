@@ -2,7 +2,7 @@ ghost use Rattle.std.specs.Prelude.{◌≡◌, ◌/◌, ◌%◌, ◌<◌, [], �
 ghost use Rattle.std.specs.Char.{encode_utf8};
 ghost use Rattle.std.specs.List.{list_all, list_any};
 ghost use Rattle.std.specs.Str.{bytes_eq, str_to_ascii_lowercase};
-ghost use Rattle.project_print.specs.Scalars.{begins_plain, doubled, doubled_byte, escaped, in_quotes, is_plain, is_plain_byte, is_plain_start, is_reserved, is_word, means_more, scalar, upper_digit};
+ghost use Rattle.project_print.specs.Scalars.{begins_plain, doubled, doubled_byte, escaped, in_quotes, is_plain, is_plain_byte, is_plain_start, is_reserved, is_word, means_more, scalar, stands_in_quotes, upper_digit};
 
 use std::alloc::Global;
 use tree_base::{Memory, Text};
@@ -118,10 +118,34 @@ fn put_in_quotes(text: &str, out: &mut Text) -> Result<(), Memory>
     ensures { OnOk result (out.new ≡ out.old ++ in_quotes text.now) }
 {
     out.push_str("\"")?;
+    put_content(text, out)?;
+    out.push_str("\"")
+}
+
+/// Puts what stands between the quotes of a text last: the text at once where nothing in it has an escape.
+fn put_content(text: &str, out: &mut Text) -> Result<(), Memory>
+    ensures { OnOk result (out.new ≡ out.old ++ flat_map escaped text.now) }
+{
+    if stand_in_quotes(text.as_bytes()) {
+        return out.push_str(text);
+    }
     for c in text.chars() {
         put_escaped(c, out)?;
     }
-    out.push_str("\"")
+    Ok(())
+}
+
+fn stand_in_quotes(bytes: &[u8]) -> bool
+    ensures { result ≡ list_all stands_in_quotes bytes.now }
+{
+    bytes.iter().all(|byte| stands_in_quotes(*byte))
+}
+
+/// Whether a byte stands in double quotes as it is.
+fn stands_in_quotes(byte: u8) -> bool
+    ensures { result ≡ stands_in_quotes byte }
+{
+    byte >= b' ' && byte != b'"' && byte != b'\\' && byte != 0x7F
 }
 
 /// Puts a text last, in quotes where it isn't plain.

@@ -1,6 +1,5 @@
-use Rattle.std.proofs.Common.{◌≡◌, ◌≢◌, ◌<◌, ◌≤◌, ◌∙◌, ◌++◌, [], length, map, sym, ap, arith}
+use Rattle.std.proofs.Common.{◌<◌, ◌≤◌, ◌∙◌, ◌++◌, length, ap, arith}
 use Rattle.std.proofs.lemmas.Result.{on_ok_weaker}
-use Rattle.project_print.specs.Written.{parts_text}
 use Rattle.project_print.proofs.Blocks.{part_step, parts_done}
 use Rattle.project_print.proofs.Places.{next_of_one}
 use Rattle.project_pages.proofs.Lists.{holds_at}
