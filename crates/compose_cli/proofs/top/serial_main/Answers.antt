@@ -166,120 +166,120 @@ returns-in-Some-clause-unbegun g c = if_runs c.args.words.now c.args.env.now _ c
 pub returns-in-Some-clause-quiet_unbegun : goal.returns-in-Some-clause-quiet_unbegun
 returns-in-Some-clause-quiet_unbegun g c = if_runs c.args.words.now c.args.env.now _ c.run_asked-end.ensures.quiet_unbegun
 
-pub returns-in-Ok-clause-words : goal.returns-in-Ok-clause-words
-returns-in-Ok-clause-words g c = no_words_refused c.args.words.now c.args.env.now _ c.in-Ok.asked.options c.in-Ok.ensures.options
+pub returns-in-None-clause-words : goal.returns-in-None-clause-words
+returns-in-None-clause-words g c = no_words_refused c.args.words.now c.args.env.now _ c.in-Ok.asked.options c.in-Ok.ensures.options
 
-pub returns-in-Ok-clause-words_only : goal.returns-in-Ok-clause-words_only
-returns-in-Ok-clause-words_only g c = λ refusal h e. absurd (page_no_words (page_for c.in-Ok.asked.options.command c.in-Ok.asked.project) (g.O.Sink.written c.args.out.now) (g.O.Sink.written c.print_asked-end.new.out) (g.O.Sink.faults c.args.out.now) (g.O.Sink.faults c.print_asked-end.new.out) c.without_hands.result.refusal refusal (page_kept (page_for c.in-Ok.asked.options.command c.in-Ok.asked.project) (g.O.Sink.written c.args.out.now) (g.O.Sink.written c.print_asked-end.new.out) (g.O.Sink.faults c.args.out.now) (g.O.Sink.faults c.print_asked-end.new.out) c.print_asked-end.result.refusal c.without_hands.result.refusal c.without_hands.ensures.refusal c.print_asked-end.ensures.printed) h e)
+pub returns-in-None-clause-words_only : goal.returns-in-None-clause-words_only
+returns-in-None-clause-words_only g c = λ refusal h e. absurd (page_no_words (page_for c.in-Ok.asked.options.command c.in-Ok.asked.project) (g.O.Sink.written c.args.out.now) (g.O.Sink.written c.print_asked-end.new.out) (g.O.Sink.faults c.args.out.now) (g.O.Sink.faults c.print_asked-end.new.out) c.without_hands.result.refusal refusal (page_kept (page_for c.in-Ok.asked.options.command c.in-Ok.asked.project) (g.O.Sink.written c.args.out.now) (g.O.Sink.written c.print_asked-end.new.out) (g.O.Sink.faults c.args.out.now) (g.O.Sink.faults c.print_asked-end.new.out) c.print_asked-end.result.refusal c.without_hands.result.refusal c.without_hands.ensures.refusal c.print_asked-end.ensures.printed) h e)
 
-pub returns-in-Ok-clause-loading : goal.returns-in-Ok-clause-loading
-returns-in-Ok-clause-loading g c = IfSome-map (g.F.Files.told c.args.files.now) _ _ c.in-Ok.ensures.told (λ contents means. means_unrefused _ (meaning c.args.words.now c.args.env.now c.args.cwd.now contents) c.in-Ok.asked means)
+pub returns-in-None-clause-loading : goal.returns-in-None-clause-loading
+returns-in-None-clause-loading g c = IfSome-map (g.F.Files.told c.args.files.now) _ _ c.in-Ok.ensures.told (λ contents means. means_unrefused _ (meaning c.args.words.now c.args.env.now c.args.cwd.now contents) c.in-Ok.asked means)
 
-pub returns-in-Ok-clause-read_fault : goal.returns-in-Ok-clause-read_fault
-returns-in-Ok-clause-read_fault g c = λ path e. absurd (page_no_read (page_for c.in-Ok.asked.options.command c.in-Ok.asked.project) (g.O.Sink.written c.args.out.now) (g.O.Sink.written c.print_asked-end.new.out) (g.O.Sink.faults c.args.out.now) (g.O.Sink.faults c.print_asked-end.new.out) c.without_hands.result.refusal path (page_kept (page_for c.in-Ok.asked.options.command c.in-Ok.asked.project) (g.O.Sink.written c.args.out.now) (g.O.Sink.written c.print_asked-end.new.out) (g.O.Sink.faults c.args.out.now) (g.O.Sink.faults c.print_asked-end.new.out) c.print_asked-end.result.refusal c.without_hands.result.refusal c.without_hands.ensures.refusal c.print_asked-end.ensures.printed) e)
+pub returns-in-None-clause-read_fault : goal.returns-in-None-clause-read_fault
+returns-in-None-clause-read_fault g c = λ path e. absurd (page_no_read (page_for c.in-Ok.asked.options.command c.in-Ok.asked.project) (g.O.Sink.written c.args.out.now) (g.O.Sink.written c.print_asked-end.new.out) (g.O.Sink.faults c.args.out.now) (g.O.Sink.faults c.print_asked-end.new.out) c.without_hands.result.refusal path (page_kept (page_for c.in-Ok.asked.options.command c.in-Ok.asked.project) (g.O.Sink.written c.args.out.now) (g.O.Sink.written c.print_asked-end.new.out) (g.O.Sink.faults c.args.out.now) (g.O.Sink.faults c.print_asked-end.new.out) c.print_asked-end.result.refusal c.without_hands.result.refusal c.without_hands.ensures.refusal c.print_asked-end.ensures.printed) e)
 
-pub returns-in-Ok-clause-dial : goal.returns-in-Ok-clause-dial
-returns-in-Ok-clause-dial g c = λ e. absurd (page_no_plug (page_for c.in-Ok.asked.options.command c.in-Ok.asked.project) (g.O.Sink.written c.args.out.now) (g.O.Sink.written c.print_asked-end.new.out) (g.O.Sink.faults c.args.out.now) (g.O.Sink.faults c.print_asked-end.new.out) c.without_hands.result.refusal (page_kept (page_for c.in-Ok.asked.options.command c.in-Ok.asked.project) (g.O.Sink.written c.args.out.now) (g.O.Sink.written c.print_asked-end.new.out) (g.O.Sink.faults c.args.out.now) (g.O.Sink.faults c.print_asked-end.new.out) c.print_asked-end.result.refusal c.without_hands.result.refusal c.without_hands.ensures.refusal c.print_asked-end.ensures.printed) e)
+pub returns-in-None-clause-dial : goal.returns-in-None-clause-dial
+returns-in-None-clause-dial g c = λ e. absurd (page_no_plug (page_for c.in-Ok.asked.options.command c.in-Ok.asked.project) (g.O.Sink.written c.args.out.now) (g.O.Sink.written c.print_asked-end.new.out) (g.O.Sink.faults c.args.out.now) (g.O.Sink.faults c.print_asked-end.new.out) c.without_hands.result.refusal (page_kept (page_for c.in-Ok.asked.options.command c.in-Ok.asked.project) (g.O.Sink.written c.args.out.now) (g.O.Sink.written c.print_asked-end.new.out) (g.O.Sink.faults c.args.out.now) (g.O.Sink.faults c.print_asked-end.new.out) c.print_asked-end.result.refusal c.without_hands.result.refusal c.without_hands.ensures.refusal c.print_asked-end.ensures.printed) e)
 
-pub returns-in-Ok-clause-page : goal.returns-in-Ok-clause-page
-returns-in-Ok-clause-page g c = λ config zero.
+pub returns-in-None-clause-page : goal.returns-in-None-clause-page
+returns-in-None-clause-page g c = λ config zero.
     for_project c.args.words.now c.args.env.now c.args.cwd.now (g.F.Files.told c.args.files.now) c.in-Ok.asked (λ project. GrewBy (g.O.Sink.written c.args.out.now) (page_asked (command_of c.args.words.now c.args.env.now) project) (g.O.Sink.written c.print_asked-end.new.out)) c.in-Ok.ensures.told c.in-Ok.ensures.text
     (asked_whole (g.O.Sink.written c.args.out.now) (g.O.Sink.written c.print_asked-end.new.out) (g.O.Sink.faults c.args.out.now) (g.O.Sink.faults c.print_asked-end.new.out) (command_of c.args.words.now c.args.env.now) c.in-Ok.asked.options.command c.in-Ok.asked.project (command_is c.args.words.now c.args.env.now c.in-Ok.asked.options c.in-Ok.ensures.options) c.print_asked-end.result.refusal (c.print_asked-end.ensures.none.1 (sym c.without_hands.ensures.status ∙ zero)) c.print_asked-end.ensures.printed)
 
-pub returns-in-Ok-clause-page_prefix : goal.returns-in-Ok-clause-page_prefix
-returns-in-Ok-clause-page_prefix g c = λ config. inr (
+pub returns-in-None-clause-page_prefix : goal.returns-in-None-clause-page_prefix
+returns-in-None-clause-page_prefix g c = λ config. inr (
     for_project c.args.words.now c.args.env.now c.args.cwd.now (g.F.Files.told c.args.files.now) c.in-Ok.asked (λ project. GrewByPrefix (g.O.Sink.written c.args.out.now) (g.O.Sink.written c.print_asked-end.new.out) (page_asked (command_of c.args.words.now c.args.env.now) project)) c.in-Ok.ensures.told c.in-Ok.ensures.text
     (asked_prefix (g.O.Sink.written c.args.out.now) (g.O.Sink.written c.print_asked-end.new.out) (g.O.Sink.faults c.args.out.now) (g.O.Sink.faults c.print_asked-end.new.out) (command_of c.args.words.now c.args.env.now) c.in-Ok.asked.options.command c.in-Ok.asked.project (command_is c.args.words.now c.args.env.now c.in-Ok.asked.options c.in-Ok.ensures.options) c.print_asked-end.result.refusal c.print_asked-end.ensures.printed))
 
-pub returns-in-Ok-clause-page_fault : goal.returns-in-Ok-clause-page_fault
-returns-in-Ok-clause-page_fault g c = λ config e. page_fault (page_for c.in-Ok.asked.options.command c.in-Ok.asked.project) (g.O.Sink.written c.args.out.now) (g.O.Sink.written c.print_asked-end.new.out) (g.O.Sink.faults c.args.out.now) (g.O.Sink.faults c.print_asked-end.new.out) c.without_hands.result.refusal (page_kept (page_for c.in-Ok.asked.options.command c.in-Ok.asked.project) (g.O.Sink.written c.args.out.now) (g.O.Sink.written c.print_asked-end.new.out) (g.O.Sink.faults c.args.out.now) (g.O.Sink.faults c.print_asked-end.new.out) c.print_asked-end.result.refusal c.without_hands.result.refusal c.without_hands.ensures.refusal c.print_asked-end.ensures.printed) e
+pub returns-in-None-clause-page_fault : goal.returns-in-None-clause-page_fault
+returns-in-None-clause-page_fault g c = λ config e. page_fault (page_for c.in-Ok.asked.options.command c.in-Ok.asked.project) (g.O.Sink.written c.args.out.now) (g.O.Sink.written c.print_asked-end.new.out) (g.O.Sink.faults c.args.out.now) (g.O.Sink.faults c.print_asked-end.new.out) c.without_hands.result.refusal (page_kept (page_for c.in-Ok.asked.options.command c.in-Ok.asked.project) (g.O.Sink.written c.args.out.now) (g.O.Sink.written c.print_asked-end.new.out) (g.O.Sink.faults c.args.out.now) (g.O.Sink.faults c.print_asked-end.new.out) c.print_asked-end.result.refusal c.without_hands.result.refusal c.without_hands.ensures.refusal c.print_asked-end.ensures.printed) e
 
-pub returns-in-Ok-clause-page_kind : goal.returns-in-Ok-clause-page_kind
-returns-in-Ok-clause-page_kind g c = λ config. page_kind (page_for c.in-Ok.asked.options.command c.in-Ok.asked.project) (g.O.Sink.written c.args.out.now) (g.O.Sink.written c.print_asked-end.new.out) (g.O.Sink.faults c.args.out.now) (g.O.Sink.faults c.print_asked-end.new.out) c.without_hands.result.refusal (page_kept (page_for c.in-Ok.asked.options.command c.in-Ok.asked.project) (g.O.Sink.written c.args.out.now) (g.O.Sink.written c.print_asked-end.new.out) (g.O.Sink.faults c.args.out.now) (g.O.Sink.faults c.print_asked-end.new.out) c.print_asked-end.result.refusal c.without_hands.result.refusal c.without_hands.ensures.refusal c.print_asked-end.ensures.printed)
+pub returns-in-None-clause-page_kind : goal.returns-in-None-clause-page_kind
+returns-in-None-clause-page_kind g c = λ config. page_kind (page_for c.in-Ok.asked.options.command c.in-Ok.asked.project) (g.O.Sink.written c.args.out.now) (g.O.Sink.written c.print_asked-end.new.out) (g.O.Sink.faults c.args.out.now) (g.O.Sink.faults c.print_asked-end.new.out) c.without_hands.result.refusal (page_kept (page_for c.in-Ok.asked.options.command c.in-Ok.asked.project) (g.O.Sink.written c.args.out.now) (g.O.Sink.written c.print_asked-end.new.out) (g.O.Sink.faults c.args.out.now) (g.O.Sink.faults c.print_asked-end.new.out) c.print_asked-end.result.refusal c.without_hands.result.refusal c.without_hands.ensures.refusal c.print_asked-end.ensures.printed)
 
-pub returns-in-Ok-clause-page_complete : goal.returns-in-Ok-clause-page_complete
-returns-in-Ok-clause-page_complete g c = λ config. if_loads c.args.words.now c.args.env.now c.args.cwd.now (g.F.Files.told c.args.files.now) _ (page_complete (page_for c.in-Ok.asked.options.command c.in-Ok.asked.project) (g.O.Sink.written c.args.out.now) (g.O.Sink.written c.print_asked-end.new.out) (g.O.Sink.faults c.args.out.now) (g.O.Sink.faults c.print_asked-end.new.out) (IsReadFault c.args.words.now c.args.env.now c.args.cwd.now (g.F.Files.told c.args.files.now) (g.F.Files.faults c.args.files.now) (g.F.Files.faults c.project_asked.new.files)) c.without_hands.result.refusal (page_kept (page_for c.in-Ok.asked.options.command c.in-Ok.asked.project) (g.O.Sink.written c.args.out.now) (g.O.Sink.written c.print_asked-end.new.out) (g.O.Sink.faults c.args.out.now) (g.O.Sink.faults c.print_asked-end.new.out) c.print_asked-end.result.refusal c.without_hands.result.refusal c.without_hands.ensures.refusal c.print_asked-end.ensures.printed))
+pub returns-in-None-clause-page_complete : goal.returns-in-None-clause-page_complete
+returns-in-None-clause-page_complete g c = λ config. if_loads c.args.words.now c.args.env.now c.args.cwd.now (g.F.Files.told c.args.files.now) _ (page_complete (page_for c.in-Ok.asked.options.command c.in-Ok.asked.project) (g.O.Sink.written c.args.out.now) (g.O.Sink.written c.print_asked-end.new.out) (g.O.Sink.faults c.args.out.now) (g.O.Sink.faults c.print_asked-end.new.out) (IsReadFault c.args.words.now c.args.env.now c.args.cwd.now (g.F.Files.told c.args.files.now) (g.F.Files.faults c.args.files.now) (g.F.Files.faults c.project_asked.new.files)) c.without_hands.result.refusal (page_kept (page_for c.in-Ok.asked.options.command c.in-Ok.asked.project) (g.O.Sink.written c.args.out.now) (g.O.Sink.written c.print_asked-end.new.out) (g.O.Sink.faults c.args.out.now) (g.O.Sink.faults c.print_asked-end.new.out) c.print_asked-end.result.refusal c.without_hands.result.refusal c.without_hands.ensures.refusal c.print_asked-end.ensures.printed))
 
-pub returns-in-Ok-clause-run_complete : goal.returns-in-Ok-clause-run_complete
-returns-in-Ok-clause-run_complete g c = λ loading. absurd (page_no_loading (page_for c.in-Ok.asked.options.command c.in-Ok.asked.project) (g.O.Sink.written c.args.out.now) (g.O.Sink.written c.print_asked-end.new.out) (g.O.Sink.faults c.args.out.now) (g.O.Sink.faults c.print_asked-end.new.out) c.without_hands.result.refusal (page_kept (page_for c.in-Ok.asked.options.command c.in-Ok.asked.project) (g.O.Sink.written c.args.out.now) (g.O.Sink.written c.print_asked-end.new.out) (g.O.Sink.faults c.args.out.now) (g.O.Sink.faults c.print_asked-end.new.out) c.print_asked-end.result.refusal c.without_hands.result.refusal c.without_hands.ensures.refusal c.print_asked-end.ensures.printed) loading)
+pub returns-in-None-clause-run_complete : goal.returns-in-None-clause-run_complete
+returns-in-None-clause-run_complete g c = λ loading. absurd (page_no_loading (page_for c.in-Ok.asked.options.command c.in-Ok.asked.project) (g.O.Sink.written c.args.out.now) (g.O.Sink.written c.print_asked-end.new.out) (g.O.Sink.faults c.args.out.now) (g.O.Sink.faults c.print_asked-end.new.out) c.without_hands.result.refusal (page_kept (page_for c.in-Ok.asked.options.command c.in-Ok.asked.project) (g.O.Sink.written c.args.out.now) (g.O.Sink.written c.print_asked-end.new.out) (g.O.Sink.faults c.args.out.now) (g.O.Sink.faults c.print_asked-end.new.out) c.print_asked-end.result.refusal c.without_hands.result.refusal c.without_hands.ensures.refusal c.print_asked-end.ensures.printed) loading)
 
-pub returns-in-Ok-clause-quiet : goal.returns-in-Ok-clause-quiet
-returns-in-Ok-clause-quiet g c = λ loading. absurd (page_no_loading (page_for c.in-Ok.asked.options.command c.in-Ok.asked.project) (g.O.Sink.written c.args.out.now) (g.O.Sink.written c.print_asked-end.new.out) (g.O.Sink.faults c.args.out.now) (g.O.Sink.faults c.print_asked-end.new.out) c.without_hands.result.refusal (page_kept (page_for c.in-Ok.asked.options.command c.in-Ok.asked.project) (g.O.Sink.written c.args.out.now) (g.O.Sink.written c.print_asked-end.new.out) (g.O.Sink.faults c.args.out.now) (g.O.Sink.faults c.print_asked-end.new.out) c.print_asked-end.result.refusal c.without_hands.result.refusal c.without_hands.ensures.refusal c.print_asked-end.ensures.printed) loading)
+pub returns-in-None-clause-quiet : goal.returns-in-None-clause-quiet
+returns-in-None-clause-quiet g c = λ loading. absurd (page_no_loading (page_for c.in-Ok.asked.options.command c.in-Ok.asked.project) (g.O.Sink.written c.args.out.now) (g.O.Sink.written c.print_asked-end.new.out) (g.O.Sink.faults c.args.out.now) (g.O.Sink.faults c.print_asked-end.new.out) c.without_hands.result.refusal (page_kept (page_for c.in-Ok.asked.options.command c.in-Ok.asked.project) (g.O.Sink.written c.args.out.now) (g.O.Sink.written c.print_asked-end.new.out) (g.O.Sink.faults c.args.out.now) (g.O.Sink.faults c.print_asked-end.new.out) c.print_asked-end.result.refusal c.without_hands.result.refusal c.without_hands.ensures.refusal c.print_asked-end.ensures.printed) loading)
 
-pub returns-in-Ok-clause-quiet_dial : goal.returns-in-Ok-clause-quiet_dial
-returns-in-Ok-clause-quiet_dial g c = λ e. absurd (page_no_plug (page_for c.in-Ok.asked.options.command c.in-Ok.asked.project) (g.O.Sink.written c.args.out.now) (g.O.Sink.written c.print_asked-end.new.out) (g.O.Sink.faults c.args.out.now) (g.O.Sink.faults c.print_asked-end.new.out) c.without_hands.result.refusal (page_kept (page_for c.in-Ok.asked.options.command c.in-Ok.asked.project) (g.O.Sink.written c.args.out.now) (g.O.Sink.written c.print_asked-end.new.out) (g.O.Sink.faults c.args.out.now) (g.O.Sink.faults c.print_asked-end.new.out) c.print_asked-end.result.refusal c.without_hands.result.refusal c.without_hands.ensures.refusal c.print_asked-end.ensures.printed) e)
+pub returns-in-None-clause-quiet_dial : goal.returns-in-None-clause-quiet_dial
+returns-in-None-clause-quiet_dial g c = λ e. absurd (page_no_plug (page_for c.in-Ok.asked.options.command c.in-Ok.asked.project) (g.O.Sink.written c.args.out.now) (g.O.Sink.written c.print_asked-end.new.out) (g.O.Sink.faults c.args.out.now) (g.O.Sink.faults c.print_asked-end.new.out) c.without_hands.result.refusal (page_kept (page_for c.in-Ok.asked.options.command c.in-Ok.asked.project) (g.O.Sink.written c.args.out.now) (g.O.Sink.written c.print_asked-end.new.out) (g.O.Sink.faults c.args.out.now) (g.O.Sink.faults c.print_asked-end.new.out) c.print_asked-end.result.refusal c.without_hands.result.refusal c.without_hands.ensures.refusal c.print_asked-end.ensures.printed) e)
 
-pub returns-in-Ok-clause-unbegun : goal.returns-in-Ok-clause-unbegun
-returns-in-Ok-clause-unbegun g c = idle c.args.words.now c.args.env.now _ (unasked c.args.words.now c.args.env.now c.in-Ok.asked.options.command c.aim_for.result (command_is c.args.words.now c.args.env.now c.in-Ok.asked.options c.in-Ok.ensures.options) c.aim_for.ensures c.in-None.is)
+pub returns-in-None-clause-unbegun : goal.returns-in-None-clause-unbegun
+returns-in-None-clause-unbegun g c = idle c.args.words.now c.args.env.now _ (unasked c.args.words.now c.args.env.now c.in-Ok.asked.options.command c.aim_for.result (command_is c.args.words.now c.args.env.now c.in-Ok.asked.options c.in-Ok.ensures.options) c.aim_for.ensures c.in-None.is)
 
-pub returns-in-Ok-clause-quiet_unbegun : goal.returns-in-Ok-clause-quiet_unbegun
-returns-in-Ok-clause-quiet_unbegun g c = idle c.args.words.now c.args.env.now _ (unasked c.args.words.now c.args.env.now c.in-Ok.asked.options.command c.aim_for.result (command_is c.args.words.now c.args.env.now c.in-Ok.asked.options c.in-Ok.ensures.options) c.aim_for.ensures c.in-None.is)
+pub returns-in-None-clause-quiet_unbegun : goal.returns-in-None-clause-quiet_unbegun
+returns-in-None-clause-quiet_unbegun g c = idle c.args.words.now c.args.env.now _ (unasked c.args.words.now c.args.env.now c.in-Ok.asked.options.command c.aim_for.result (command_is c.args.words.now c.args.env.now c.in-Ok.asked.options c.in-Ok.ensures.options) c.aim_for.ensures c.in-None.is)
 
-pub returns-in-Ok-clause-exact : goal.returns-in-Ok-clause-exact
-returns-in-Ok-clause-exact g c = λ zero. idle_task c.args.words.now c.args.env.now c.args.cwd.now (g.F.Files.told c.args.files.now) (first_reading (λ h. g.P.Hand.Hand.clock h) c.without_hands.result.hands) (λ task. is_up task.aim.purpose ≡ true → (hand : _) → Among c.without_hands.result.hands hand → HoldsExactly task (g.P.Hand.Hand.engine hand)) (unasked c.args.words.now c.args.env.now c.in-Ok.asked.options.command c.aim_for.result (command_is c.args.words.now c.args.env.now c.in-Ok.asked.options c.in-Ok.ensures.options) c.aim_for.ensures c.in-None.is)
+pub returns-in-None-clause-exact : goal.returns-in-None-clause-exact
+returns-in-None-clause-exact g c = λ zero. idle_task c.args.words.now c.args.env.now c.args.cwd.now (g.F.Files.told c.args.files.now) (first_reading (λ h. g.P.Hand.Hand.clock h) c.without_hands.result.hands) (λ task. is_up task.aim.purpose ≡ true → (hand : _) → Among c.without_hands.result.hands hand → HoldsExactly task (g.P.Hand.Hand.engine hand)) (unasked c.args.words.now c.args.env.now c.in-Ok.asked.options.command c.aim_for.result (command_is c.args.words.now c.args.env.now c.in-Ok.asked.options c.in-Ok.ensures.options) c.aim_for.ensures c.in-None.is)
 
-pub returns-in-Ok-clause-gone : goal.returns-in-Ok-clause-gone
-returns-in-Ok-clause-gone g c = λ zero. idle_task c.args.words.now c.args.env.now c.args.cwd.now (g.F.Files.told c.args.files.now) (first_reading (λ h. g.P.Hand.Hand.clock h) c.without_hands.result.hands) (λ task. is_up task.aim.purpose ≡ false → (hand : _) → Among c.without_hands.result.hands hand → HoldsNone task (g.P.Hand.Hand.engine hand)) (unasked c.args.words.now c.args.env.now c.in-Ok.asked.options.command c.aim_for.result (command_is c.args.words.now c.args.env.now c.in-Ok.asked.options c.in-Ok.ensures.options) c.aim_for.ensures c.in-None.is)
+pub returns-in-None-clause-gone : goal.returns-in-None-clause-gone
+returns-in-None-clause-gone g c = λ zero. idle_task c.args.words.now c.args.env.now c.args.cwd.now (g.F.Files.told c.args.files.now) (first_reading (λ h. g.P.Hand.Hand.clock h) c.without_hands.result.hands) (λ task. is_up task.aim.purpose ≡ false → (hand : _) → Among c.without_hands.result.hands hand → HoldsNone task (g.P.Hand.Hand.engine hand)) (unasked c.args.words.now c.args.env.now c.in-Ok.asked.options.command c.aim_for.result (command_is c.args.words.now c.args.env.now c.in-Ok.asked.options c.in-Ok.ensures.options) c.aim_for.ensures c.in-None.is)
 
-pub returns-in-Ok-clause-exact_in_each_world : goal.returns-in-Ok-clause-exact_in_each_world
-returns-in-Ok-clause-exact_in_each_world g c = λ zero. idle_task c.args.words.now c.args.env.now c.args.cwd.now (g.F.Files.told c.args.files.now) (first_reading (λ h. g.P.Hand.Hand.clock h) c.without_hands.result.hands) (λ task. is_up task.aim.purpose ≡ true → EndsExact task c.without_hands.result.journal) (unasked c.args.words.now c.args.env.now c.in-Ok.asked.options.command c.aim_for.result (command_is c.args.words.now c.args.env.now c.in-Ok.asked.options c.in-Ok.ensures.options) c.aim_for.ensures c.in-None.is)
+pub returns-in-None-clause-exact_in_each_world : goal.returns-in-None-clause-exact_in_each_world
+returns-in-None-clause-exact_in_each_world g c = λ zero. idle_task c.args.words.now c.args.env.now c.args.cwd.now (g.F.Files.told c.args.files.now) (first_reading (λ h. g.P.Hand.Hand.clock h) c.without_hands.result.hands) (λ task. is_up task.aim.purpose ≡ true → EndsExact task c.without_hands.result.journal) (unasked c.args.words.now c.args.env.now c.in-Ok.asked.options.command c.aim_for.result (command_is c.args.words.now c.args.env.now c.in-Ok.asked.options c.in-Ok.ensures.options) c.aim_for.ensures c.in-None.is)
 
-pub returns-in-Ok-clause-gone_in_each_world : goal.returns-in-Ok-clause-gone_in_each_world
-returns-in-Ok-clause-gone_in_each_world g c = λ zero. idle_task c.args.words.now c.args.env.now c.args.cwd.now (g.F.Files.told c.args.files.now) (first_reading (λ h. g.P.Hand.Hand.clock h) c.without_hands.result.hands) (λ task. is_up task.aim.purpose ≡ false → EndsGone task c.without_hands.result.journal) (unasked c.args.words.now c.args.env.now c.in-Ok.asked.options.command c.aim_for.result (command_is c.args.words.now c.args.env.now c.in-Ok.asked.options c.in-Ok.ensures.options) c.aim_for.ensures c.in-None.is)
+pub returns-in-None-clause-gone_in_each_world : goal.returns-in-None-clause-gone_in_each_world
+returns-in-None-clause-gone_in_each_world g c = λ zero. idle_task c.args.words.now c.args.env.now c.args.cwd.now (g.F.Files.told c.args.files.now) (first_reading (λ h. g.P.Hand.Hand.clock h) c.without_hands.result.hands) (λ task. is_up task.aim.purpose ≡ false → EndsGone task c.without_hands.result.journal) (unasked c.args.words.now c.args.env.now c.in-Ok.asked.options.command c.aim_for.result (command_is c.args.words.now c.args.env.now c.in-Ok.asked.options c.in-Ok.ensures.options) c.aim_for.ensures c.in-None.is)
 
-pub returns-clause-words : goal.returns-clause-words
-returns-clause-words g c = beside (options_asked c.args.words.now c.args.env.now) (λ refusal. IsSaid refusal c.refused.result.refusal) c.refused.ensures.nothing (said_words c.args.words.now c.args.env.now c.in-Err.refusal c.refused.result.refusal c.in-Err.ensures.words c.refused.ensures.refusal)
+pub returns-in-Err-clause-words : goal.returns-in-Err-clause-words
+returns-in-Err-clause-words g c = beside (options_asked c.args.words.now c.args.env.now) (λ refusal. IsSaid refusal c.refused.result.refusal) c.refused.ensures.nothing (said_words c.args.words.now c.args.env.now c.in-Err.refusal c.refused.result.refusal c.in-Err.ensures.words c.refused.ensures.refusal)
 
-pub returns-clause-words_only : goal.returns-clause-words_only
-returns-clause-words_only g c = λ refusal h e. said_exactly c.args.words.now c.args.env.now c.in-Err.refusal refusal c.refused.result.refusal c.in-Err.ensures.words_only c.refused.ensures.refusal h e
+pub returns-in-Err-clause-words_only : goal.returns-in-Err-clause-words_only
+returns-in-Err-clause-words_only g c = λ refusal h e. said_exactly c.args.words.now c.args.env.now c.in-Err.refusal refusal c.refused.result.refusal c.in-Err.ensures.words_only c.refused.ensures.refusal h e
 
-pub returns-clause-loading : goal.returns-clause-loading
-returns-clause-loading g c = IfSome-map (g.F.Files.told c.args.files.now) _ _ c.in-Err.ensures.told (λ contents means. refused_with (meaning c.args.words.now c.args.env.now c.args.cwd.now contents) c.in-Err.refusal c.refused.result c.refused.ensures.nothing means c.refused.ensures.refusal)
+pub returns-in-Err-clause-loading : goal.returns-in-Err-clause-loading
+returns-in-Err-clause-loading g c = IfSome-map (g.F.Files.told c.args.files.now) _ _ c.in-Err.ensures.told (λ contents means. refused_with (meaning c.args.words.now c.args.env.now c.args.cwd.now contents) c.in-Err.refusal c.refused.result c.refused.ensures.nothing means c.refused.ensures.refusal)
 
-pub returns-clause-read_fault : goal.returns-clause-read_fault
-returns-clause-read_fault g c = λ path e. c.in-Err.ensures.read path (ap Err (said_read c.in-Err.refusal c.refused.result.refusal path c.refused.ensures.refusal e))
+pub returns-in-Err-clause-read_fault : goal.returns-in-Err-clause-read_fault
+returns-in-Err-clause-read_fault g c = λ path e. c.in-Err.ensures.read path (ap Err (said_read c.in-Err.refusal c.refused.result.refusal path c.refused.ensures.refusal e))
 
-pub returns-clause-dial : goal.returns-clause-dial
-returns-clause-dial g c = λ e. absurd (asking_no_outside c.in-Err.refusal c.refused.result.refusal c.in-Err.ensures.kind c.refused.ensures.refusal Part.Plug e)
+pub returns-in-Err-clause-dial : goal.returns-in-Err-clause-dial
+returns-in-Err-clause-dial g c = λ e. absurd (asking_no_outside c.in-Err.refusal c.refused.result.refusal c.in-Err.ensures.kind c.refused.ensures.refusal Part.Plug e)
 
-pub returns-clause-page : goal.returns-clause-page
-returns-clause-page g c = λ config zero. absurd (said_not_zero c.in-Err.refusal c.refused.result.refusal c.refused.result.status c.refused.ensures.refusal c.refused.ensures.status zero)
+pub returns-in-Err-clause-page : goal.returns-in-Err-clause-page
+returns-in-Err-clause-page g c = λ config zero. absurd (said_not_zero c.in-Err.refusal c.refused.result.refusal c.refused.result.status c.refused.ensures.refusal c.refused.ensures.status zero)
 
-pub returns-clause-page_fault : goal.returns-clause-page_fault
-returns-clause-page_fault g c = λ config e. absurd (asking_no_outside c.in-Err.refusal c.refused.result.refusal c.in-Err.ensures.kind c.refused.ensures.refusal Part.Out e)
+pub returns-in-Err-clause-page_fault : goal.returns-in-Err-clause-page_fault
+returns-in-Err-clause-page_fault g c = λ config e. absurd (asking_no_outside c.in-Err.refusal c.refused.result.refusal c.in-Err.ensures.kind c.refused.ensures.refusal Part.Out e)
 
-pub returns-clause-page_kind : goal.returns-clause-page_kind
-returns-clause-page_kind g c = λ config. asking_kind c.in-Err.refusal c.refused.result.refusal c.in-Err.ensures.kind c.refused.ensures.refusal
+pub returns-in-Err-clause-page_kind : goal.returns-in-Err-clause-page_kind
+returns-in-Err-clause-page_kind g c = λ config. asking_kind c.in-Err.refusal c.refused.result.refusal c.in-Err.ensures.kind c.refused.ensures.refusal
 
-pub returns-clause-page_complete : goal.returns-clause-page_complete
-returns-clause-page_complete g c = λ config. only_outside c.args.words.now c.args.env.now c.args.cwd.now (g.F.Files.told c.args.files.now) (g.F.Files.faults c.args.files.now) (g.F.Files.faults c.project_asked.new.files) (g.O.Sink.faults c.args.out.now) (g.O.Sink.faults c.args.out.now) c.in-Err.refusal c.refused.result.refusal c.in-Err.ensures.told (λ path e. c.in-Err.ensures.read path (ap Err e)) c.refused.ensures.refusal
+pub returns-in-Err-clause-page_complete : goal.returns-in-Err-clause-page_complete
+returns-in-Err-clause-page_complete g c = λ config. only_outside c.args.words.now c.args.env.now c.args.cwd.now (g.F.Files.told c.args.files.now) (g.F.Files.faults c.args.files.now) (g.F.Files.faults c.project_asked.new.files) (g.O.Sink.faults c.args.out.now) (g.O.Sink.faults c.args.out.now) c.in-Err.refusal c.refused.result.refusal c.in-Err.ensures.told (λ path e. c.in-Err.ensures.read path (ap Err e)) c.refused.ensures.refusal
 
-pub returns-clause-run_complete : goal.returns-clause-run_complete
-returns-clause-run_complete g c = λ loading. loads_fault c.args.words.now c.args.env.now c.args.cwd.now (g.F.Files.told c.args.files.now) (g.F.Files.faults c.args.files.now) (g.F.Files.faults c.project_asked.new.files) c.refused.result.refusal (only_reads c.args.words.now c.args.env.now c.args.cwd.now (g.F.Files.told c.args.files.now) (g.F.Files.faults c.args.files.now) (g.F.Files.faults c.project_asked.new.files) c.in-Err.refusal c.refused.result.refusal c.in-Err.ensures.told (λ path e. c.in-Err.ensures.read path (ap Err e)) c.refused.ensures.refusal loading)
+pub returns-in-Err-clause-run_complete : goal.returns-in-Err-clause-run_complete
+returns-in-Err-clause-run_complete g c = λ loading. loads_fault c.args.words.now c.args.env.now c.args.cwd.now (g.F.Files.told c.args.files.now) (g.F.Files.faults c.args.files.now) (g.F.Files.faults c.project_asked.new.files) c.refused.result.refusal (only_reads c.args.words.now c.args.env.now c.args.cwd.now (g.F.Files.told c.args.files.now) (g.F.Files.faults c.args.files.now) (g.F.Files.faults c.project_asked.new.files) c.in-Err.refusal c.refused.result.refusal c.in-Err.ensures.told (λ path e. c.in-Err.ensures.read path (ap Err e)) c.refused.ensures.refusal loading)
 
-pub returns-clause-unbegun : goal.returns-clause-unbegun
-returns-clause-unbegun g c = if_runs c.args.words.now c.args.env.now _ (λ empty. before_unbegun c.in-Err.refusal c.refused.result.refusal c.in-Err.ensures.kind c.refused.ensures.refusal)
+pub returns-in-Err-clause-unbegun : goal.returns-in-Err-clause-unbegun
+returns-in-Err-clause-unbegun g c = if_runs c.args.words.now c.args.env.now _ (λ empty. before_unbegun c.in-Err.refusal c.refused.result.refusal c.in-Err.ensures.kind c.refused.ensures.refusal)
 
-pub returns-clause-exact : goal.returns-clause-exact
-returns-clause-exact g c = λ zero. absurd (said_not_zero c.in-Err.refusal c.refused.result.refusal c.refused.result.status c.refused.ensures.refusal c.refused.ensures.status zero)
+pub returns-in-Err-clause-exact : goal.returns-in-Err-clause-exact
+returns-in-Err-clause-exact g c = λ zero. absurd (said_not_zero c.in-Err.refusal c.refused.result.refusal c.refused.result.status c.refused.ensures.refusal c.refused.ensures.status zero)
 
-pub returns-clause-gone : goal.returns-clause-gone
-returns-clause-gone g c = λ zero. absurd (said_not_zero c.in-Err.refusal c.refused.result.refusal c.refused.result.status c.refused.ensures.refusal c.refused.ensures.status zero)
+pub returns-in-Err-clause-gone : goal.returns-in-Err-clause-gone
+returns-in-Err-clause-gone g c = λ zero. absurd (said_not_zero c.in-Err.refusal c.refused.result.refusal c.refused.result.status c.refused.ensures.refusal c.refused.ensures.status zero)
 
-pub returns-clause-exact_in_each_world : goal.returns-clause-exact_in_each_world
-returns-clause-exact_in_each_world g c = λ zero. absurd (said_not_zero c.in-Err.refusal c.refused.result.refusal c.refused.result.status c.refused.ensures.refusal c.refused.ensures.status zero)
+pub returns-in-Err-clause-exact_in_each_world : goal.returns-in-Err-clause-exact_in_each_world
+returns-in-Err-clause-exact_in_each_world g c = λ zero. absurd (said_not_zero c.in-Err.refusal c.refused.result.refusal c.refused.result.status c.refused.ensures.refusal c.refused.ensures.status zero)
 
-pub returns-clause-gone_in_each_world : goal.returns-clause-gone_in_each_world
-returns-clause-gone_in_each_world g c = λ zero. absurd (said_not_zero c.in-Err.refusal c.refused.result.refusal c.refused.result.status c.refused.ensures.refusal c.refused.ensures.status zero)
+pub returns-in-Err-clause-gone_in_each_world : goal.returns-in-Err-clause-gone_in_each_world
+returns-in-Err-clause-gone_in_each_world g c = λ zero. absurd (said_not_zero c.in-Err.refusal c.refused.result.refusal c.refused.result.status c.refused.ensures.refusal c.refused.ensures.status zero)
 
-pub returns-clause-quiet_unbegun : goal.returns-clause-quiet_unbegun
-returns-clause-quiet_unbegun g c = if_runs c.args.words.now c.args.env.now _ (λ empty. refl)
+pub returns-in-Err-clause-quiet_unbegun : goal.returns-in-Err-clause-quiet_unbegun
+returns-in-Err-clause-quiet_unbegun g c = if_runs c.args.words.now c.args.env.now _ (λ empty. refl)
 
 pub returns-in-Some-clause-config : goal.returns-in-Some-clause-config
 returns-in-Some-clause-config g c = λ none. let bad : Some (aim_of c.in-Some.aim) ≡ None = sym (asked c.args.words.now c.args.env.now c.in-Ok.asked.options.command c.aim_for.result c.in-Some.aim (command_is c.args.words.now c.args.env.now c.in-Ok.asked.options c.in-Ok.ensures.options) c.aim_for.ensures c.in-Some.is) ∙ none in absurd (cc bad)
 
-pub returns-in-Ok-clause-dialled : goal.returns-in-Ok-clause-dialled
-returns-in-Ok-clause-dialled g c = counts_none (g.P.Plug.dialled c.args.plug.now) c.without_hands.result c.without_hands.ensures.nothing
+pub returns-in-None-clause-dialled : goal.returns-in-None-clause-dialled
+returns-in-None-clause-dialled g c = counts_none (g.P.Plug.dialled c.args.plug.now) c.without_hands.result c.without_hands.ensures.nothing
 
 pub returns-in-Some-clause-read_fault : goal.returns-in-Some-clause-read_fault
 returns-in-Some-clause-read_fault g c = λ path e. absurd (c.run_asked-end.ensures.load path e)
@@ -299,20 +299,20 @@ returns-in-Some-clause-run_complete g c = λ loading. if_declared c.args.words.n
     (IfSome-map (g.F.Files.told c.project_asked.new.files) _ _ (c.run_asked-end.ensures.complete loading) (λ contents. digest_faults c.args.words.now c.args.env.now c.args.cwd.now (g.F.Files.told c.args.files.now) (g.F.Files.faults c.args.files.now) (g.F.Files.faults c.run_asked-end.new.files) (g.F.Files.told c.project_asked.new.files) c.in-Ok.asked (g.F.Files.faults c.project_asked.new.files) c.run_asked-end.result.refusal
     c.project_asked.ensures.kept c.in-Ok.ensures.options c.in-Ok.ensures.text c.project_asked.ensures.counted c.run_asked-end.ensures.counted (declared_from contents c.in-Ok.asked.options.command c.in-Ok.asked.project)))
 
-pub returns-in-Ok-clause-declaring : goal.returns-in-Ok-clause-declaring
-returns-in-Ok-clause-declaring g c = if_declared_idle c.args.words.now c.args.env.now c.args.cwd.now (g.F.Files.told c.args.files.now) (λ meant. IfErr meant (λ refusal. SendsNothing c.without_hands.result × IsUndeclared refusal c.without_hands.result.refusal)) (unasked c.args.words.now c.args.env.now c.in-Ok.asked.options.command c.aim_for.result (command_is c.args.words.now c.args.env.now c.in-Ok.asked.options c.in-Ok.ensures.options) c.aim_for.ensures c.in-None.is)
+pub returns-in-None-clause-declaring : goal.returns-in-None-clause-declaring
+returns-in-None-clause-declaring g c = if_declared_idle c.args.words.now c.args.env.now c.args.cwd.now (g.F.Files.told c.args.files.now) (λ meant. IfErr meant (λ refusal. SendsNothing c.without_hands.result × IsUndeclared refusal c.without_hands.result.refusal)) (unasked c.args.words.now c.args.env.now c.in-Ok.asked.options.command c.aim_for.result (command_is c.args.words.now c.args.env.now c.in-Ok.asked.options c.in-Ok.ensures.options) c.aim_for.ensures c.in-None.is)
 
-pub returns-clause-declaring : goal.returns-clause-declaring
-returns-clause-declaring g c = asking_undeclared c.args.words.now c.args.env.now c.args.cwd.now (g.F.Files.told c.args.files.now) c.in-Err.refusal c.refused.result c.refused.ensures.nothing c.in-Err.ensures.told c.refused.ensures.refusal
+pub returns-in-Err-clause-declaring : goal.returns-in-Err-clause-declaring
+returns-in-Err-clause-declaring g c = asking_undeclared c.args.words.now c.args.env.now c.args.cwd.now (g.F.Files.told c.args.files.now) c.in-Err.refusal c.refused.result c.refused.ensures.nothing c.in-Err.ensures.told c.refused.ensures.refusal
 
-pub returns-clause-digest_fault : goal.returns-clause-digest_fault
-returns-clause-digest_fault g c = λ path e. absurd (asking_no_digest c.in-Err.refusal c.refused.result.refusal (DigestRefusal.ReadFault path) c.in-Err.ensures.kind c.refused.ensures.refusal e)
+pub returns-in-Err-clause-digest_fault : goal.returns-in-Err-clause-digest_fault
+returns-in-Err-clause-digest_fault g c = λ path e. absurd (asking_no_digest c.in-Err.refusal c.refused.result.refusal (DigestRefusal.ReadFault path) c.in-Err.ensures.kind c.refused.ensures.refusal e)
 
-pub returns-in-Ok-clause-digest_fault : goal.returns-in-Ok-clause-digest_fault
-returns-in-Ok-clause-digest_fault g c = λ path e. absurd (page_no_loading (page_for c.in-Ok.asked.options.command c.in-Ok.asked.project) (g.O.Sink.written c.args.out.now) (g.O.Sink.written c.print_asked-end.new.out) (g.O.Sink.faults c.args.out.now) (g.O.Sink.faults c.print_asked-end.new.out) c.without_hands.result.refusal (page_kept (page_for c.in-Ok.asked.options.command c.in-Ok.asked.project) (g.O.Sink.written c.args.out.now) (g.O.Sink.written c.print_asked-end.new.out) (g.O.Sink.faults c.args.out.now) (g.O.Sink.faults c.print_asked-end.new.out) c.print_asked-end.result.refusal c.without_hands.result.refusal c.without_hands.ensures.refusal c.print_asked-end.ensures.printed) (subst IsOfLoading (sym e) tt))
+pub returns-in-None-clause-digest_fault : goal.returns-in-None-clause-digest_fault
+returns-in-None-clause-digest_fault g c = λ path e. absurd (page_no_loading (page_for c.in-Ok.asked.options.command c.in-Ok.asked.project) (g.O.Sink.written c.args.out.now) (g.O.Sink.written c.print_asked-end.new.out) (g.O.Sink.faults c.args.out.now) (g.O.Sink.faults c.print_asked-end.new.out) c.without_hands.result.refusal (page_kept (page_for c.in-Ok.asked.options.command c.in-Ok.asked.project) (g.O.Sink.written c.args.out.now) (g.O.Sink.written c.print_asked-end.new.out) (g.O.Sink.faults c.args.out.now) (g.O.Sink.faults c.print_asked-end.new.out) c.print_asked-end.result.refusal c.without_hands.result.refusal c.without_hands.ensures.refusal c.print_asked-end.ensures.printed) (subst IsOfLoading (sym e) tt))
 
-pub run_asked-requires-clause-reachable : goal.run_asked-requires-clause-reachable
-run_asked-requires-clause-reachable g c = reachable c.args.env.now c.args.words.now c.in-Ok.asked.options c.args.cwd.now (aim_of c.in-Some.aim) c.in-Ok.ensures.options (aims c.in-Ok.asked.options.command c.aim_for.result c.in-Some.aim c.aim_for.ensures c.in-Some.is)
+pub run_asked-end-requires-clause-reachable : goal.run_asked-end-requires-clause-reachable
+run_asked-end-requires-clause-reachable g c = reachable c.args.env.now c.args.words.now c.in-Ok.asked.options c.args.cwd.now (aim_of c.in-Some.aim) c.in-Ok.ensures.options (aims c.in-Ok.asked.options.command c.aim_for.result c.in-Some.aim c.aim_for.ensures c.in-Some.is)
 
-pub run_asked-requires-clause-acyclic : goal.run_asked-requires-clause-acyclic
-run_asked-requires-clause-acyclic g c = spelled_acyclic c.args.words.now c.args.env.now c.args.cwd.now (g.F.Files.told c.args.files.now) c.in-Ok.asked.project c.in-Ok.ensures.text
+pub run_asked-end-requires-clause-acyclic : goal.run_asked-end-requires-clause-acyclic
+run_asked-end-requires-clause-acyclic g c = spelled_acyclic c.args.words.now c.args.env.now c.args.cwd.now (g.F.Files.told c.args.files.now) c.in-Ok.asked.project c.in-Ok.ensures.text
