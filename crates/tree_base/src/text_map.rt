@@ -192,7 +192,7 @@ fn copy_keys(keys: &[Text], alloc: Global) -> Result<IndexSet<Text>, Memory>
     requires { IsDistinct bytes_eq keys.now }
     ensures { IfOk result (λ s. s.keys ≡ keys.now) }
 {
-    let mut copies = IndexSet::new(alloc);
+    let mut copies = IndexSet::with_capacity(alloc, keys.len())?;
     for key in keys {
         copies.insert(key.copy(alloc)?)?;
     }
