@@ -107,11 +107,11 @@ pub fn within(tree: Tree) -> Result<Tree, MergeRefusal>
 fn passed(tree: &Tree) -> Option<MergeRefusal>
     ensures { within tree.now ≡ option_map_or Err result (Ok tree.now) }
 {
-    if tree.nodes_within(MOST_NODES).is_none() {
-        Some(MergeRefusal::TooManyNodes)
-    } else if tree.text_within(MOST_BYTES).is_none() {
-        Some(MergeRefusal::TooMuchText)
-    } else {
+    if tree.is_within(MOST_NODES, MOST_BYTES) {
         None
+    } else if tree.nodes_within(MOST_NODES).is_none() {
+        Some(MergeRefusal::TooManyNodes)
+    } else {
+        Some(MergeRefusal::TooMuchText)
     }
 }

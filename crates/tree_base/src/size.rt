@@ -78,6 +78,50 @@ impl Tree {
         Some(left)
     }
 
+    /// Whether the tree has at most so many nodes, and its keys and scalars have at most so many bytes together. One walk
+    /// counts both, and stops at the first node, key or scalar past a limit. No memory.
+    pub fn is_within(&self, nodes: u64, bytes: u64) -> bool
+        ensures { IsTrue result ↔ ((node_count self.now ≤ nodes) × (text_size self.now ≤ bytes)) }
+    {
+        self.room_left(nodes, bytes).is_some()
+    }
+
+    /// What is left of two budgets after one for each node, and after the bytes of the keys and the scalars.
+    #[cycle(room)]
+    fn room_left(&self, nodes: u64, bytes: u64) -> Option<(u64, u64)>
+        ensures { SomeIff result ((node_count self.now ≤ nodes) × (text_size self.now ≤ bytes))
+            (nodes - node_count self.now, bytes - text_size self.now) }
+    {
+        match self {
+            Tree::Null => Some((nodes.checked_sub(1)?, bytes)),
+            Tree::Scalar(text) => Some((
+                nodes.checked_sub(1)?,
+                bytes.checked_sub(text.len() as u64)?,
+            )),
+            Tree::Map(entries) => Tree::all_room_left(
+                entries.values(),
+                nodes.checked_sub(1)?,
+                keys_left(entries.keys(), bytes)?,
+            ),
+            Tree::Seq(items) => Tree::all_room_left(items.as_slice(), nodes.checked_sub(1)?, bytes),
+            Tree::Reset => Some((nodes, bytes)),
+            Tree::Override(inner) => inner.get().room_left(nodes, bytes),
+        }
+    }
+
+    #[cycle(room)]
+    fn all_room_left(trees: &[Tree], nodes: u64, bytes: u64) -> Option<(u64, u64)>
+        ensures { SomeIff result ((sum_by node_count trees.now ≤ nodes) × (sum_by text_size trees.now ≤ bytes))
+            (nodes - sum_by node_count trees.now, bytes - sum_by text_size trees.now) }
+    {
+        let mut left = nodes;
+        let mut unread = bytes;
+        for tree in trees {
+            (left, unread) = tree.room_left(left, unread)?;
+        }
+        Some((left, unread))
+    }
+
     /// Whether at most `levels` nodes stand above one another. It stops at the first node past them. No memory.
     #[cycle(depth)]
     pub fn is_within_depth(&self, levels: u32) -> bool
