@@ -161,6 +161,14 @@ impl<V> TextMap<V> {
         self.values.get_mut(at)
     }
 
+    /// The values under the keys, one for each, in order: the way back from `into_parts`. No memory.
+    pub fn from_parts(keys: IndexSet<Text>, values: List<V>) -> TextMap<V>
+        requires { length values ≡ length keys.keys }
+        ensures { result ≡ zip keys.keys values }
+    {
+        TextMap { keys, values }
+    }
+
     /// The keys and the values, in order. No memory.
     pub fn into_parts(self) -> (IndexSet<Text>, List<V>)
         ensures keys { result.0.keys ≡ keys_of self }
