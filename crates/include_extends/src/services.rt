@@ -1,4 +1,4 @@
-ghost use Rattle.std.specs.Prelude.{◌≡◌, ◌≤◌, ℕ, Err, IfOk, List, codes};
+ghost use Rattle.std.specs.Prelude.{◌≡◌, ◌≤◌, ℕ, Err, IfOk, List, OnOk, Some, codes};
 ghost use Rattle.std.specs.Option.{option_copied};
 ghost use Rattle.include_extends.specs.Services.{bounded, elements_loaded, mapping_of, services_loaded, services_of, services_under, tree_loaded, with_services};
 ghost use Rattle.loaded_files.specs.Reads.{Gives, IsGiven};
@@ -97,11 +97,29 @@ fn services_under<F: Files>(
     ensures kept { F.told files.new ≡ F.told files.old }
 {
     match services_of(&top) {
-        Some(services) => {
+        Some(_) => {
+            let mut top = top;
+            let services = take_services(alloc, &mut top)?;
             let (all, left) = services_loaded(alloc, files, env, file, services, left)?;
             Ok((put_services(alloc, top, all)?, left))
         }
         None => Ok((top, left)),
+    }
+}
+
+/// Takes out what stands at `services`, where it is a mapping: null stands there then.
+fn take_services(alloc: Global, top: &mut Map) -> Result<Map, Memory>
+    ensures services { IfOk result (λ services. (found : _)
+        → services_of top.old ≡ Some found → services ≡ found) }
+    ensures rest { OnOk result (top.new ≡ with_entry top.old (codes "services") Tree.Null) }
+{
+    let key = Text::from_str(alloc, "services")?;
+    match top.put(key, Tree::Null)? {
+        Some(Tree::Map(services)) => services.take(alloc),
+        other => {
+            drop(other);
+            Ok(Map::new(alloc))
+        }
     }
 }
 
@@ -131,11 +149,11 @@ fn services_loaded<F: Files>(
     files: &mut F,
     env: &Env,
     file: &Text,
-    services: &Map,
+    services: Map,
     left: u32,
 ) -> Result<(Map, u32), LoadRefusal>
     ensures given { Gives (F.told files.old) result
-        (services_loaded env.now file.now services.now left) }
+        (services_loaded env.now file.now services left) }
     ensures fault { (at : List ℕ) → result ≡ Err (LoadRefusal.ReadFault at)
         → Rose (F.faults files.old) (F.faults files.new) }
     ensures counted { F.faults files.old ≤ F.faults files.new }

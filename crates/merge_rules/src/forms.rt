@@ -86,6 +86,7 @@ fn lengthen_values(
     ensures len { IfOk result (λ done. length done ≡ length values.now) }
 {
     let mut done = List::new(alloc);
+    done.reserve(values.len())?;
     for (at, value) in values.iter().enumerate() {
         let value = lengthen_value(value, &keys[at], spot, alloc)?;
         done.push(value)?;

@@ -28,20 +28,20 @@ pub fn services_extended<F: Files>(
     files: &mut F,
     env: &Env,
     file: &Text,
-    services: &Map,
+    services: Map,
     left: u32,
 ) -> Result<(Map, u32), LoadRefusal>
     ensures given { Gives (F.told files.old) result
-        (services_extended env.now file.now services.now left) }
+        (services_extended env.now file.now services left) }
     ensures fault { (at : List ℕ) → result ≡ Err (LoadRefusal.ReadFault at)
         → Rose (F.faults files.old) (F.faults files.new) }
     ensures counted { F.faults files.old ≤ F.faults files.new }
     ensures kept { F.told files.new ≡ F.told files.old }
 {
-    if extend_nothing(services) {
-        Ok((services.copy(alloc)?, left))
+    if extend_nothing(&services) {
+        Ok((services, left))
     } else {
-        over_bases(alloc, files, env, file, services, left)
+        over_bases(alloc, files, env, file, &services, left)
     }
 }
 

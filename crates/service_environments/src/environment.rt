@@ -1,15 +1,15 @@
 ghost use Rattle.std.specs.Prelude.{◌≡◌, ◌≤◌, [], ℕ, Err, IfOk, List, OnOk, codes};
-ghost use Rattle.file_paths.specs.Shapes.{entries_at};
+ghost use Rattle.file_paths.specs.Shapes.{entries_at, entries_in};
 ghost use Rattle.loaded_files.specs.Reads.{Gives};
 ghost use Rattle.loaded_files.specs.declared.refusal.LoadRefusal.{LoadRefusal};
 ghost use Rattle.outside_files.specs.Counts.{Rose};
 ghost use Rattle.service_environments.specs.Environments.{all_with_environments, file_read, files_read, settings_over, with_environment, with_environments, with_values};
 ghost use Rattle.tree_base.specs.Entries.{with_entry};
-ghost use Rattle.tree_base.specs.declared.Tree.{Tree};
+ghost use Rattle.tree_base.specs.declared.Tree.{Tree, out-Tree};
 
 use crate::env_item::{EnvItem, items_of};
 use crate::settings::{settings_over, with_values};
-use loaded_files::{LoadRefusal, entries_at, entries_in, names_of, with_file, with_file_if};
+use loaded_files::{LoadRefusal, entries_at, names_of, with_file, with_file_if};
 use outside_files::Files;
 use std::alloc::Global;
 use tree_base::{Env, Map, Memory, Text, TextMap, Tree};
@@ -56,7 +56,7 @@ fn all_with_environments<F: Files>(
     let mut services = services;
     let mut left = left;
     for name in names {
-        let service = attributes_of(alloc, &services, name)?;
+        let service = take_attributes(alloc, &mut services, name)?;
         let (whole, rest) = with_environment(alloc, files, env, service, left)?;
         put_service(alloc, &mut services, name, whole)?;
         left = rest;
@@ -64,13 +64,27 @@ fn all_with_environments<F: Files>(
     Ok((services, left))
 }
 
-/// The attributes of a service, copied; none where no mapping stands under its name.
-fn attributes_of(alloc: Global, services: &Map, name: &Text) -> Result<Map, Memory>
-    ensures { IfOk result (λ found. found ≡ entries_at name.now services.now) }
+/// Takes the attributes of a service out, and leaves null in its place; none where no mapping stands under its name.
+fn take_attributes(alloc: Global, services: &mut Map, name: &Text) -> Result<Map, Memory>
+    ensures attributes { IfOk result (λ found. found ≡ entries_at name.now services.old) }
+    ensures rest { OnOk result (services.new ≡ with_entry services.old name.now Tree.Null) }
 {
-    match services.get(name) {
-        Some(service) => entries_in(alloc, service),
+    match services.put(name.copy(alloc)?, Tree::Null)? {
+        Some(service) => entries_of(alloc, service),
         None => Ok(TextMap::new(alloc)),
+    }
+}
+
+/// The entries of a mapping, taken out; none where the tree is none.
+fn entries_of(alloc: Global, tree: Tree) -> Result<Map, Memory>
+    ensures { IfOk result (λ entries. entries ≡ entries_in (out-Tree tree)) }
+{
+    match tree {
+        Tree::Map(entries) => entries.take(alloc),
+        other => {
+            drop(other);
+            Ok(TextMap::new(alloc))
+        }
     }
 }
 

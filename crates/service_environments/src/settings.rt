@@ -98,6 +98,7 @@ fn scalars(alloc: Global, texts: &[Text]) -> Result<List<Tree>, Memory>
     ensures { IfOk result (λ trees. trees ≡ map Tree.Scalar texts.now) }
 {
     let mut trees = List::new(alloc);
+    trees.reserve(texts.len())?;
     for text in texts {
         trees.push(Tree::Scalar(text.copy(alloc)?))?;
     }

@@ -10,11 +10,11 @@ pub returns-in_err-extended-clause-given : goal.returns-in_err-extended-clause-g
 returns-in_err-extended-clause-given g c =
     let a = c.args in
     let p = err_from_is_err_and c.from_residual.result c.from_residual.ensures.1 in
-    rw (p.1, p.2) (not_extended (g.F.Files.told a.files.now) a.env.now a.file.now a.services.now a.left c.in_err-extended.field-0.0 c.in_err-extended.ensures.given)
+    rw (p.1, p.2) (not_extended (g.F.Files.told a.files.now) a.env.now a.file.now a.services a.left c.in_err-extended.field-0.0 c.in_err-extended.ensures.given)
 
 pub returns-clause-given : goal.returns-clause-given
 returns-clause-given g c =
     let a = c.args in
     let r = c.with_environments.result in
     let given = subst (λ (t : Option Contents). Gives t r (with_environments a.env.now c.in_ok-extended.extended c.in_ok-extended.left)) c.in_ok-extended.ensures.kept c.with_environments.ensures.given in
-    are_extended (g.F.Files.told a.files.now) a.env.now a.file.now a.services.now a.left c.in_ok-extended.extended c.in_ok-extended.left r c.in_ok-extended.ensures.given given
+    are_extended (g.F.Files.told a.files.now) a.env.now a.file.now a.services a.left c.in_ok-extended.extended c.in_ok-extended.left r c.in_ok-extended.ensures.given given

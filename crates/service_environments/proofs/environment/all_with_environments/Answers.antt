@@ -1,6 +1,7 @@
-use Rattle.std.proofs.Common.{◌≡◌, ◌∙◌, ℕ, ◌∷◌, ◌+◌, length, drop, refl, sym, subst, Ok, Err, List, Option, arith}
+use Rattle.std.proofs.Common.{◌≡◌, ◌∙◌, ℕ, ◌∷◌, ◌+◌, length, drop, refl, sym, ap, subst, Ok, Err, List, Option, arith}
 use Rattle.std.proofs.lemmas.Option.{slice_get_read}
 use Rattle.std.proofs.lemmas.Result.{err_from_is_err_and}
+use Rattle.std.specs.Cmp.Lexicographic.{nat_list_eq_equiv}
 use Rattle.file_paths.specs.Resolving.{Entries}
 use Rattle.loaded_files.specs.Reads.{Gives, Ran}
 use Rattle.loaded_files.proofs.Laid.{next_item, none_left}
@@ -9,6 +10,9 @@ use Rattle.file_paths.specs.Shapes.{entries_at}
 use Rattle.service_environments.specs.Environments.{all_with_environments, with_environment}
 use Rattle.service_environments.proofs.Steps.{service_on, service_out}
 use Rattle.service_environments.proofs.environment.all_with_environments.Goals as goal
+use Rattle.tree_base.proofs.Pairs.{put_twice}
+use Rattle.tree_base.specs.Entries.{with_entry}
+use Rattle.tree_base.specs.declared.Tree.{Map, Null}
 
 pub returns-in_err-whole-clause-given : goal.returns-in_err-whole-clause-given
 returns-in_err-whole-clause-given g c =
@@ -21,7 +25,7 @@ returns-in_err-whole-clause-given g c =
     let p = err_from_is_err_and c.from_residual-in_err-whole.result c.from_residual-in_err-whole.ensures.1 in
     let next : drop l.name-index names ≡ name ∷ drop (l.name-index + 1) names =
     next_item names l.name-index name (slice_get_read names (length names) l.name-index name refl (omega arith) c.name-item.is) in
-    let given = subst (λ (t : Option Contents). Gives {X = Entries × ℕ} t (Err e) (with_environment a.env.now (entries_at name l.services) l.left)) l.invariant.kept (rw c.in_ok-service.ensures at c.in_err-whole.ensures.given) in
+    let given = subst (λ (t : Option Contents). Gives {X = Entries × ℕ} t (Err e) (with_environment a.env.now (entries_at name l.services) l.left)) l.invariant.kept (rw c.in_ok-service.ensures.attributes at c.in_err-whole.ensures.given) in
     rw (p.1, p.2) (λ n. l.invariant.ran (Err e) (subst (λ (ns : List (List ℕ)). Ran told (all_with_environments a.env.now ns l.services l.left) (Err e)) (sym next)
     (service_out told a.env.now name (drop (l.name-index + 1) names) l.services l.left e (given (λ q. n q)))))
 
@@ -36,10 +40,12 @@ loop-name-preserved g c =
     let rest = c.in_ok-whole.rest in
     let next : drop l.name-index names ≡ name ∷ drop (l.name-index + 1) names =
     next_item names l.name-index name (slice_get_read names (length names) l.name-index name refl (omega arith) c.name-item.is) in
-    let given = subst (λ (t : Option Contents). Gives t (Ok (whole, rest)) (with_environment a.env.now (entries_at name l.services) l.left)) l.invariant.kept (rw c.in_ok-service.ensures at c.in_ok-whole.ensures.given) in
+    let put = c.in_ok-put_service.ensures ∙ ap (λ (all : Entries). with_entry all name (Map whole)) c.in_ok-service.ensures.rest
+    ∙ put_twice nat_list_eq_equiv l.services name Null (Map whole) in
+    let given = subst (λ (t : Option Contents). Gives t (Ok (whole, rest)) (with_environment a.env.now (entries_at name l.services) l.left)) l.invariant.kept (rw c.in_ok-service.ensures.attributes at c.in_ok-whole.ensures.given) in
     record {
       ran = λ r k. l.invariant.ran r (subst (λ (ns : List (List ℕ)). Ran told (all_with_environments a.env.now ns l.services l.left) r) (sym next)
-          (service_on told a.env.now name (drop (l.name-index + 1) names) l.services l.left whole c.put_service.new.services rest r given c.in_ok-put_service.ensures k));
+          (service_on told a.env.now name (drop (l.name-index + 1) names) l.services l.left whole c.put_service.new.services rest r given put k));
       counted = omega (arith, l.invariant.counted, c.in_ok-whole.ensures.counted);
       kept = c.in_ok-whole.ensures.kept ∙ l.invariant.kept;
     }
