@@ -11,18 +11,13 @@ use crate::refusal::PathRefusal;
 use crate::spot::{PathKind, PathSpot, kind_at, spot_below, spot_of_items};
 use crate::text::{mount_homed, text_homed};
 use std::alloc::Global;
-use tree_base::{Boxed, Env, List, Map, Text, Tree};
+use tree_base::{Boxed, Env, List, Map, Text, TextMap, Tree};
 
 /// The tree of a model with its paths taken against the model's directory, where the home is the one that its variables
-/// name. What holds no path is shared, and not copied. `NoHome` with the first path, in the tree's order, that has no
+/// name. What holds no path is handed on, and not copied. `NoHome` with the first path, in the tree's order, that has no
 /// home, and `Memory`.
-pub fn resolved(
-    alloc: Global,
-    directory: &Text,
-    env: &Env,
-    tree: &Tree,
-) -> Result<Tree, PathRefusal>
-    ensures { Gives result (resolved directory.now env.now tree.now) }
+pub fn resolved(alloc: Global, directory: &Text, env: &Env, tree: Tree) -> Result<Tree, PathRefusal>
+    ensures { Gives result (resolved directory.now env.now tree) }
 {
     resolve(tree, PathSpot::Root, directory, env, alloc)
 }
@@ -32,100 +27,97 @@ pub fn resolved_service(
     alloc: Global,
     directory: &Text,
     env: &Env,
-    service: &Tree,
+    service: Tree,
 ) -> Result<Tree, PathRefusal>
-    ensures { Gives result (resolved_service directory.now env.now service.now) }
+    ensures { Gives result (resolved_service directory.now env.now service) }
 {
     resolve(service, PathSpot::Service, directory, env, alloc)
 }
 
-/// A tree whose paths are absolute, which is shared where it has none. No spot stands more than six steps deep, so no
-/// tree is asked more often.
+/// A tree whose paths are absolute: itself where it has none. No spot stands more than six steps deep, so no tree is
+/// asked more often.
 #[cycle(resolve)]
 fn resolve(
-    tree: &Tree,
+    tree: Tree,
     spot: PathSpot,
     directory: &Text,
     env: &Env,
     alloc: Global,
 ) -> Result<Tree, PathRefusal>
-    ensures { Gives result (resolved_by (homed directory.now env.now) tree.now (rules_of spot)) }
+    ensures { Gives result (resolved_by (homed directory.now env.now) tree (rules_of spot)) }
 {
-    if keeps(tree, spot) {
-        Ok(tree.copy(alloc)?)
+    if keeps(&tree, spot) {
+        Ok(tree)
     } else {
         resolve_parts(tree, spot, directory, env, alloc)
     }
 }
 
-/// A tree whose paths are absolute, by its parts whose are.
+/// A tree whose paths are absolute, by its parts whose are. A mapping or sequence with no other owner is taken apart,
+/// and another one copied first.
 #[cycle(resolve)]
 fn resolve_parts(
-    tree: &Tree,
+    tree: Tree,
     spot: PathSpot,
     directory: &Text,
     env: &Env,
     alloc: Global,
 ) -> Result<Tree, PathRefusal>
-    ensures { Gives result (resolved_by (homed directory.now env.now) tree.now (rules_of spot)) }
+    ensures { Gives result (resolved_by (homed directory.now env.now) tree (rules_of spot)) }
 {
     match tree {
         Tree::Null => Ok(Tree::Null),
-        Tree::Scalar(text) => text_homed(kind_at(spot), text, directory, env, alloc),
-        Tree::Map(entries) => resolve_map(entries.get(), spot, directory, env, alloc),
-        Tree::Seq(items) => resolve_seq(items.as_slice(), spot, directory, env, alloc),
+        Tree::Scalar(text) => text_homed(kind_at(spot), &text, directory, env, alloc),
+        Tree::Map(entries) => resolve_map(entries.take(alloc)?, spot, directory, env, alloc),
+        Tree::Seq(items) => resolve_seq(items.take(alloc)?, spot, directory, env, alloc),
         Tree::Reset => Ok(Tree::Reset),
         Tree::Override(inner) => {
-            let value = resolve(inner.get(), spot, directory, env, alloc)?;
+            let value = resolve(inner.into_inner(), spot, directory, env, alloc)?;
             Ok(Tree::Override(Boxed::new(alloc, value)?))
         }
     }
 }
 
-/// A mapping whose paths are absolute, with the same keys.
+/// A mapping whose paths are absolute, under its keys.
 #[cycle(resolve)]
 fn resolve_map(
-    entries: &Map,
+    entries: Map,
     spot: PathSpot,
     directory: &Text,
     env: &Env,
     alloc: Global,
 ) -> Result<Tree, PathRefusal>
     ensures { Gives result
-        (resolved_by (homed directory.now env.now) (Tree.Map entries.now) (rules_of spot)) }
+        (resolved_by (homed directory.now env.now) (Tree.Map entries) (rules_of spot)) }
 {
-    let values = resolve_values(
-        entries.values(),
-        entries.keys(),
-        spot,
-        directory,
-        env,
-        alloc,
-    )?;
-    let all = entries.with_values(alloc, values)?;
+    let (keys, values) = entries.into_parts();
+    let done = resolve_values(values, keys.as_slice(), spot, directory, env, alloc)?;
+    let all = TextMap::from_parts(keys, done);
     let whole = entries_homed(kind_at(spot), all, directory, env, alloc)?;
     Ok(Tree::mapping(alloc, whole)?)
 }
 
-/// The values of a mapping, their paths absolute.
+/// The values of a mapping, each in its place, their paths absolute.
 #[cycle(resolve)]
 fn resolve_values(
-    values: &[Tree],
+    values: List<Tree>,
     keys: &[Text],
     spot: PathSpot,
     directory: &Text,
     env: &Env,
     alloc: Global,
 ) -> Result<List<Tree>, PathRefusal>
-    requires { length keys.now ≡ length values.now }
+    requires { length keys.now ≡ length values }
     ensures value { Gives result (values_homed (rules_of spot) []
-        (zip keys.now (map (resolved_by (homed directory.now env.now)) values.now))) }
-    ensures len { IfOk result (λ done. length done ≡ length values.now) }
+        (zip keys.now (map (resolved_by (homed directory.now env.now)) values))) }
+    ensures len { IfOk result (λ done. length done ≡ length values) }
 {
-    let mut done = List::new(alloc);
-    for (at, value) in values.iter().enumerate() {
+    let mut done = values;
+    for at in 0..keys.len() {
+        let value = done.replace(at, Tree::Null);
         let below = spot_below(spot, keys[at].as_str());
-        done.push(resolve(value, below, directory, env, alloc)?)?;
+        let made = resolve(value, below, directory, env, alloc)?;
+        drop(done.replace(at, made));
     }
     Ok(done)
 }
@@ -133,34 +125,36 @@ fn resolve_values(
 /// A sequence whose paths are absolute.
 #[cycle(resolve)]
 fn resolve_seq(
-    items: &[Tree],
+    items: List<Tree>,
     spot: PathSpot,
     directory: &Text,
     env: &Env,
     alloc: Global,
 ) -> Result<Tree, PathRefusal>
     ensures { Gives result
-        (resolved_by (homed directory.now env.now) (Tree.Seq items.now) (rules_of spot)) }
+        (resolved_by (homed directory.now env.now) (Tree.Seq items) (rules_of spot)) }
 {
     let all = resolve_items(items, spot_of_items(spot), directory, env, alloc)?;
     Ok(Tree::sequence(alloc, all)?)
 }
 
-/// Items at a spot, their paths absolute.
+/// Items at a spot, each in its place, their paths absolute.
 #[cycle(resolve)]
 fn resolve_items(
-    items: &[Tree],
+    items: List<Tree>,
     spot: PathSpot,
     directory: &Text,
     env: &Env,
     alloc: Global,
 ) -> Result<List<Tree>, PathRefusal>
     ensures { Gives result (items_homed (rules_of spot) []
-        (map (resolved_by (homed directory.now env.now)) items.now)) }
+        (map (resolved_by (homed directory.now env.now)) items)) }
 {
-    let mut done = List::new(alloc);
-    for item in items {
-        done.push(resolve(item, spot, directory, env, alloc)?)?;
+    let mut done = items;
+    for at in 0..done.len() {
+        let item = done.replace(at, Tree::Null);
+        let made = resolve(item, spot, directory, env, alloc)?;
+        drop(done.replace(at, made));
     }
     Ok(done)
 }

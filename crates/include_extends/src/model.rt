@@ -77,12 +77,12 @@ fn placed(alloc: Global, directory: &Text, env: &Env, tree: Tree) -> Result<Tree
     ensures fault { (at : List ℕ) → result ≡ Err (LoadRefusal.ReadFault at) → ⊥ }
 {
     let tree = shaped(alloc, tree)?;
-    with_paths(alloc, directory, env, &tree)
+    with_paths(alloc, directory, env, tree)
 }
 
 /// A tree with its paths taken against the model's directory.
-fn with_paths(alloc: Global, directory: &Text, env: &Env, tree: &Tree) -> Result<Tree, LoadRefusal>
-    ensures given { IsGiven result (of_path (resolved directory.now env.now tree.now)) }
+fn with_paths(alloc: Global, directory: &Text, env: &Env, tree: Tree) -> Result<Tree, LoadRefusal>
+    ensures given { IsGiven result (of_path (resolved directory.now env.now tree)) }
     ensures fault { (at : List ℕ) → result ≡ Err (LoadRefusal.ReadFault at) → ⊥ }
 {
     match resolved(alloc, directory, env, tree) {

@@ -55,7 +55,7 @@ fn placed_service(
     match directory {
         None => Ok(entries_in(alloc, service)?),
         Some(directory) => {
-            let placed = with_paths(alloc, directory, env, service)?;
+            let placed = with_paths(alloc, directory, env, service.copy(alloc)?)?;
             Ok(entries_in(alloc, &placed)?)
         }
     }
@@ -66,10 +66,10 @@ fn with_paths(
     alloc: Global,
     directory: &Text,
     env: &Env,
-    service: &Tree,
+    service: Tree,
 ) -> Result<Tree, LoadRefusal>
     ensures given { IsGiven result
-        (of_path (resolved_service directory.now env.now service.now)) }
+        (of_path (resolved_service directory.now env.now service)) }
     ensures fault { (at : List ℕ) → result ≡ Err (LoadRefusal.ReadFault at) → ⊥ }
 {
     match resolved_service(alloc, directory, env, service) {
