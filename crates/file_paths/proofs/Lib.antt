@@ -1,7 +1,6 @@
 pub mod Homes
 pub mod Joins
 pub mod KeptSteps
-pub mod Places
 pub mod Schemes
 pub mod Taken
 pub mod Walking

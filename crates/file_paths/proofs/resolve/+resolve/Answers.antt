@@ -10,7 +10,7 @@ use Rattle.attribute_paths.proofs.Walks.{entry_next, item_next, no_entry}
 use Rattle.file_paths.specs.PathRules.{PathRules}
 use Rattle.file_paths.specs.Resolving.{entries_homed, items_homed, resolved_by, values_homed}
 use Rattle.file_paths.specs.Spots.{rules_of}
-use Rattle.file_paths.proofs.Places.{behind_stays, item_below, put_back}
+use Rattle.attribute_paths.proofs.Places.{behind_stays, item_below, put_back}
 use Rattle.file_paths.proofs.Walking.{items_fail, items_go, map_done, map_fails, mount_fails, same_fails, seq_done, seq_fails, values_fail, values_go}
 use Rattle.tree_base.specs.declared.Tree.{Tree, Null, size-Tree}
 use Rattle.file_paths.proofs.resolve.+resolve.Goals as goal
@@ -19,13 +19,13 @@ pub resolve_values-resolve-requires : goal.resolve_values-resolve-requires
 resolve_values-resolve-requires t c =
     let l = c.loop-at in
     let value = c.replace-value.result in
-    (item_below size-Tree c.args.values l.at value t (sym (l.invariant.rest l.at (omega arith)) ∙ c.replace-value.ensures.old) c.decreases, tt)
+    (item_below size-Tree c.args.values l.at value t 1 2 (sym (l.invariant.rest l.at (omega arith)) ∙ c.replace-value.ensures.old) c.decreases (omega arith), tt)
 
 pub resolve_items-resolve-requires : goal.resolve_items-resolve-requires
 resolve_items-resolve-requires t c =
     let l = c.loop-at in
     let item = c.replace-item.result in
-    (item_below size-Tree c.args.items l.at item t (sym (l.invariant.rest l.at (omega arith)) ∙ c.replace-item.ensures.old) c.decreases, tt)
+    (item_below size-Tree c.args.items l.at item t 1 2 (sym (l.invariant.rest l.at (omega arith)) ∙ c.replace-item.ensures.old) c.decreases (omega arith), tt)
 
 pub resolve_values-returns-in_err-made-clause-value : goal.resolve_values-returns-in_err-made-clause-value
 resolve_values-returns-in_err-made-clause-value t c =
