@@ -1,16 +1,18 @@
 //! The program `compose`: it gives the words of the command line, the variables, the working directory, the files of
 //! the disk and the standard streams to the top call of `compose_cli`, and ends with the status that this answers.
-//! Questions about the program itself, `--help` and `--version`, it answers before.
+//! Where a create is refused because its name is used, it makes the call again a moment later. Questions about the
+//! program itself, `--help` and `--version`, it answers before.
 #![tactic(auto)]
 
+mod calls;
+mod null_sink;
 mod variables;
 
 ghost use Rattle.std.specs.Prelude.{◌<◌, ◌^◌, length};
 
-use compose_cli::serial_main;
+use calls::status_of_calls;
 use compose_words::{Notice, help_text, notice_of, version_text};
-use engine_plugs::MainPlug;
-use outside_files::{DiskFiles, OutSink, write_all};
+use outside_files::{OutSink, write_all};
 use std::env;
 use std::process::ExitCode;
 use tree_base::{List, Memory, Text};
@@ -55,24 +57,13 @@ fn answer(rt: &HostRuntime, notice: Notice) -> Result<u8, Memory> {
     }
 }
 
-/// Makes the top call.
+/// Makes the top call, more than once where `status_of_calls` says so.
 fn call(rt: &HostRuntime, words: &List<Text>) -> Result<u8, Memory>
     requires { length words.now < 2 ^ 32 }
 {
-    let alloc = rt.alloc();
     let variables = variables(rt)?;
     let directory = working_directory(rt)?;
-    let mut files = DiskFiles::new(rt);
-    let mut plug = MainPlug::new(rt);
-    let mut out = OutSink::new(rt.stdout());
-    let mut err = OutSink::new(rt.stderr());
-    let ended = serial_main(
-        alloc, words, &variables, &directory, &mut files, &mut plug, &mut out, &mut err,
-    );
-    let status = ended.status;
-    // By a call, since the drop of each variant of a refusal would be proved at this place.
-    drop(ended);
-    Ok(status)
+    Ok(status_of_calls(rt, words, &variables, &directory))
 }
 
 /// The words of the command line after the program's name.

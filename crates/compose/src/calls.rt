@@ -1,0 +1,113 @@
+ghost use Rattle.std.specs.Prelude.{◌<◌, ◌^◌, length};
+
+use crate::null_sink::NullSink;
+use compose_cli::{Ended, serial_main};
+use engine_plugs::MainPlug;
+use engine_types::{Outcome, Reply, Request};
+use outside_files::{DiskFiles, OutSink};
+use refusals::{Refusal, say_if_any, status_of};
+use std::thread;
+use std::time::Duration;
+use tree_base::{Env, List, Text};
+
+/// How often the top call is made again at most.
+const MOST_CALLS_AGAIN: u32 = 8;
+
+/// How many milliseconds later the top call is made again.
+const PAUSE: u64 = 250;
+
+/// The status with which the Engine refuses to create what there is by that name.
+const CONFLICT: u16 = 409;
+
+/// Makes the top call, and again as long as a create of its run is refused because its name is used, 250 milliseconds
+/// later and 8 times at most. Writes the line of what the last call is refused with, and gives its exit status.
+///
+/// An Engine goes on with the request of a program that was killed, and lists nothing of it until it is done. A run
+/// that begins meanwhile asks for the same and is refused, and a later one finds it. Each call is whole by itself: it
+/// reads the files anew, writes its own report, and counts its deadline from its own begin. A stop file that comes
+/// between two calls stops the run of the later one. With an Engine in memory no name is used, since each call has a
+/// fresh one.
+pub(crate) fn status_of_calls(
+    rt: &HostRuntime,
+    words: &List<Text>,
+    variables: &Env,
+    directory: &Text,
+) -> u8
+    requires { length words.now < 2 ^ 32 }
+{
+    for _ in 0..MOST_CALLS_AGAIN {
+        let refusal = refusal_of_call(rt, words, variables, directory);
+        if !is_name_used(&refusal) {
+            return end(rt, refusal);
+        }
+        // By a call, since the drop of each variant of a refusal would be proved at this place.
+        drop(refusal);
+        thread::sleep(rt, Duration::from_millis(PAUSE));
+    }
+    end(rt, refusal_of_call(rt, words, variables, directory))
+}
+
+/// Makes the top call: what it is refused with. Its line is not written yet.
+fn refusal_of_call(
+    rt: &HostRuntime,
+    words: &List<Text>,
+    variables: &Env,
+    directory: &Text,
+) -> Option<Refusal>
+    requires { length words.now < 2 ^ 32 }
+{
+    let mut files = DiskFiles::new(rt);
+    let mut plug = MainPlug::new(rt);
+    let mut out = OutSink::new(rt.stdout());
+    let mut err = NullSink;
+    let Ended {
+        status: _,
+        journal,
+        hands,
+        refusal,
+    } = serial_main(
+        rt.alloc(),
+        words,
+        variables,
+        directory,
+        &mut files,
+        &mut plug,
+        &mut out,
+        &mut err,
+    );
+    // By calls, since all drops would be proved at this place.
+    drop(journal);
+    drop(hands);
+    refusal
+}
+
+/// Whether a call is refused because the Engine answered a create that its name is used.
+fn is_name_used(refusal: &Option<Refusal>) -> bool {
+    match refusal {
+        Some(Refusal::Request { request, outcome }) => is_create(request) && is_conflict(outcome),
+        _ => false,
+    }
+}
+
+fn is_conflict(outcome: &Outcome) -> bool {
+    match outcome {
+        Outcome::Answered(Reply::Refused { status, .. }) => *status == CONFLICT,
+        _ => false,
+    }
+}
+
+fn is_create(request: &Request) -> bool {
+    matches!(
+        request,
+        Request::Create { .. } | Request::MakeNetwork { .. } | Request::MakeVolume { .. }
+    )
+}
+
+/// Writes the line of what the last call is refused with, if anything: the exit status.
+fn end(rt: &HostRuntime, refusal: Option<Refusal>) -> u8 {
+    let mut err = OutSink::new(rt.stderr());
+    let refusal = say_if_any(rt.alloc(), refusal, &mut err);
+    let status = status_of(&refusal);
+    drop(refusal);
+    status
+}
