@@ -23,15 +23,15 @@ use Rattle.attribute_scalars.specs.Walks.{Entries, is_extension, is_in, own_entr
 use Rattle.attribute_values.specs.Fields as fields
 use Rattle.attribute_rows.specs.Attributes.{attribute_by, attribute_under, form_value, wanted_of_service}
 use Rattle.file_paths.specs.Shapes.{is_mapping, is_scalar, mapping_of, or_null, sequence_of}
-use Rattle.merge_rules.specs.declared.rules.ShortForm.{ShortForm}
-use Rattle.merge_rules.specs.declared.rules.ShortForm.TheVariants as shorts
-use Rattle.merge_rules.specs.Answers.{under}
-use Rattle.merge_rules.specs.Attributes.{ShortRules, short_rules}
-use Rattle.merge_rules.specs.LongForms.{Made, entries_for, entries_from, entries_with, lengthened, list_long, made_by, text_long, values_long}
-use Rattle.merge_rules.specs.Spots.{service_forms, services_forms}
-use Rattle.merge_rules.specs.Uniqueness.{text_in}
-use Rattle.merge_rules.proofs.Answering.{goes_on}
-use Rattle.merge_rules.proofs.Lengthening.{entries_whole, map_long, parts, seq_long, stays, values_go}
+use Rattle.merge_tables.specs.declared.rules.ShortForm.{ShortForm}
+use Rattle.merge_tables.specs.declared.rules.ShortForm.TheVariants as shorts
+use Rattle.merge_tables.specs.Answers.{under}
+use Rattle.merge_tables.specs.Attributes.{ShortRules, short_rules}
+use Rattle.long_forms.specs.LongForms.{Made, entries_for, entries_from, entries_with, lengthened, list_long, made_by, text_long, values_long}
+use Rattle.merge_tables.specs.Spots.{service_forms, services_forms}
+use Rattle.merge_tables.specs.Parts.{text_in}
+use Rattle.merge_tables.proofs.Answering.{goes_on}
+use Rattle.long_forms.proofs.Lengthening.{entries_whole, map_long, parts, seq_long, stays, values_go}
 use Rattle.accepted_laws.proofs.Entering.{IsRead, of_all, of_own, sorted_read, unwanted, weaker}
 use Rattle.accepted_laws.proofs.Looks.{Kind, a_check, a_mapping, a_text, anything, bound, form_kind, form_looks, is_checked, looks, maps, pairs, rows, texts}
 use Rattle.accepted_laws.specs.Accepted.{AcceptedServicesAreLong, IsLongIfLoose, little_asked}

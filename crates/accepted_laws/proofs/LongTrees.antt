@@ -22,13 +22,13 @@ use Rattle.attribute_values.specs.Fields.{field_by, field_of, fields_of, unless_
 use Rattle.attribute_values.specs.Fields as fields
 use Rattle.attribute_values.specs.Forms.{plain_value}
 use Rattle.file_paths.specs.Shapes.{entries_in, is_mapping, or_null}
-use Rattle.merge_rules.specs.declared.refusal.MergeRefusal.{MergeRefusal}
-use Rattle.merge_rules.specs.Answers.{within}
+use Rattle.merge_tables.specs.declared.refusal.MergeRefusal.{MergeRefusal}
+use Rattle.merge_tables.specs.Answers.{within}
 use Rattle.merge_rules.specs.Laws.{own_keys}
-use Rattle.merge_rules.specs.Attributes.{ShortRules, short_rules}
-use Rattle.merge_rules.specs.LongForms.{lengthened, long_forms}
-use Rattle.merge_rules.specs.Spots.{resource_forms, resources_forms, service_forms, services_forms}
-use Rattle.merge_rules.proofs.Lengthening.{stays}
+use Rattle.merge_tables.specs.Attributes.{ShortRules, short_rules}
+use Rattle.long_forms.specs.LongForms.{lengthened, long_forms}
+use Rattle.merge_tables.specs.Spots.{resource_forms, resources_forms, service_forms, services_forms}
+use Rattle.long_forms.proofs.Lengthening.{stays}
 use Rattle.project_meaning.specs.Meaning.{element_form, network_of, section, section_form, service_of, volume_of, with_name}
 use Rattle.typed_project.specs.declared.network.Network.{Network}
 use Rattle.typed_project.specs.declared.volume.Volume.{Volume}

@@ -7,10 +7,10 @@ use Rattle.attribute_paths.specs.Patterns.{below_key}
 use Rattle.attribute_rows.specs.Attributes.{attributes_of}
 use Rattle.attribute_scalars.specs.Walks.{Entries, is_in}
 use Rattle.attribute_types.specs.declared.attribute.Attribute.{Attribute}
-use Rattle.merge_rules.specs.Answers.{within}
+use Rattle.merge_tables.specs.Answers.{within}
 use Rattle.merge_rules.specs.Laws.{own_keys}
-use Rattle.merge_rules.specs.LongForms.{lengthened, long_forms}
-use Rattle.merge_rules.specs.Spots.{service_forms}
+use Rattle.long_forms.specs.LongForms.{lengthened, long_forms}
+use Rattle.merge_tables.specs.Spots.{service_forms}
 use Rattle.project_meaning.specs.Meaning.{project_of}
 use Rattle.typed_project.specs.declared.project.Project.{Project}
 

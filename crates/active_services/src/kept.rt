@@ -101,7 +101,8 @@ fn with_needs_kept(
 
 /// The dependencies on services that are enabled or aren't there.
 fn needs_kept(alloc: Global, profiles: &[Text], services: &Map, needs: &Map) -> Result<Map, Memory>
-    ensures { IfOk result (λ kept. kept ≡ needs_kept (is_enabled profiles.now) services.now needs.now) }
+    ensures { IfOk result (λ kept. kept ≡ needs_kept
+        (is_enabled profiles.now) services.now needs.now) }
 {
     let mut kept = Map::new(alloc);
     for at in 0..needs.len() {
@@ -121,7 +122,8 @@ fn keep_need(
     need: &Tree,
     kept: &mut Map,
 ) -> Result<(), Memory>
-    ensures { OnOk result (kept.new ≡ (if is_disabled (is_enabled profiles.now) services.now name.now
+    ensures { OnOk result (kept.new ≡ (if is_disabled
+        (is_enabled profiles.now) services.now name.now
         then kept.old else with_entry kept.old name.now need.now)) }
 {
     if is_disabled(profiles, services, name) {

@@ -150,7 +150,6 @@ load_no_words LoadRefusal.Memory h = cc h
 -- what holds of refusals of a project
 project_no_words : (refusal : Refusal) → IsOfProject refusal → IsTrue (is_of_words refusal) → ⊥
 project_no_words (Refusal.NotBuilt Unbuilt.Words) k h = k
-project_no_words (Refusal.NotBuilt (Unbuilt.Attribute path)) k h = cc h
 project_no_words (Refusal.NotBuilt Unbuilt.Run) k h = k
 project_no_words (Refusal.Words words) k h = k
 project_no_words (Refusal.Load refusal) k h = k
@@ -169,7 +168,6 @@ project_no_words Refusal.Memory k h = cc h
 
 project_of_asking : (refusal : Refusal) → IsOfProject refusal → IsOfAsking refusal
 project_of_asking (Refusal.NotBuilt Unbuilt.Words) k = tt
-project_of_asking (Refusal.NotBuilt (Unbuilt.Attribute path)) k = tt
 project_of_asking (Refusal.NotBuilt Unbuilt.Run) k = absurd k
 project_of_asking (Refusal.Words words) k = tt
 project_of_asking (Refusal.Load refusal) k = tt

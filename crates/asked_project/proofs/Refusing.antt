@@ -61,7 +61,6 @@ words_kind refusal joined is = subst (λ (r : Refusal). IsTrue (is_of_words r ||
 pub words_of_asking : (refusal : Refusal) → IsTrue (is_of_words refusal || wants_memory refusal) → IsOfAsking refusal
 words_of_asking (Refusal.Words words) h = tt
 words_of_asking (Refusal.NotBuilt Unbuilt.Words) h = tt
-words_of_asking (Refusal.NotBuilt (Unbuilt.Attribute path)) h = tt
 words_of_asking (Refusal.NotBuilt Unbuilt.Run) h = absurd (cc h)
 words_of_asking (Refusal.Load load) h = tt
 words_of_asking (Refusal.Name name) h = tt

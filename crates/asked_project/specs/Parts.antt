@@ -6,7 +6,6 @@ use Rattle.asked_project.specs.declared.asking.Asked.{Asked}
 use Rattle.compose_words.specs.declared.Options.{Options}
 use Rattle.outside_files.specs.Files.{Contents}
 use Rattle.refusals.specs.declared.Refusal.{Refusal}
-use Rattle.refusals.specs.declared.Unbuilt.{Unbuilt}
 use Rattle.typed_project.specs.declared.project.Project.{Project}
 
 -- an answer for options has the project that these mean, or its refusal
@@ -18,10 +17,9 @@ abbrev pub asked_with : Options → Result Project Refusal → Result Asked Refu
 asked_with options (Ok project) = Ok (record { options = options; project = project })
 asked_with options (Err refusal) = Err refusal
 
--- a refusal of what was loaded: of what isn't built of it, of the project's name, of its active services, of what it
+-- a refusal of what was loaded: of the project's name, of its active services, of what it
 -- declares, or a want of memory
 abbrev pub IsOfProject : Refusal → Type 0
-IsOfProject (Refusal.NotBuilt (Unbuilt.Attribute path)) = Unit {0}
 IsOfProject (Refusal.Name refusal) = Unit {0}
 IsOfProject (Refusal.Active refusal) = Unit {0}
 IsOfProject (Refusal.Project refusal) = Unit {0}

@@ -19,7 +19,8 @@ pub(crate) const NO_NAMES: [&str; 0] = [];
 
 /// The entries of a mapping; another tree is of another kind.
 pub fn map_of(alloc: Global, tree: &Tree) -> Result<&Map, AttributeRefusal>
-    ensures { Gives (result_map_both (λ seen. seen.now) (λ refusal. refusal) result) (entries_in (out-Tree tree.now)) }
+    ensures { Gives (result_map_both (λ seen. seen.now) (λ refusal. refusal) result)
+        (entries_in (out-Tree tree.now)) }
 {
     match tree {
         Tree::Map(entries) => Ok(entries.get()),

@@ -99,7 +99,8 @@ fn int_value(tree: &Tree) -> Option<Value>
 }
 
 fn duration_value(tree: &Tree) -> Option<Value>
-    ensures { found_or_other result ≡ kept Value.Duration (written duration_of (out-Tree tree.now)) }
+    ensures { found_or_other result ≡ kept Value.Duration
+        (written duration_of (out-Tree tree.now)) }
 {
     Some(Value::Duration(duration_of(text_of(tree)?)?))
 }

@@ -119,6 +119,27 @@ impl Reading {
         self.given(line.end(), Text::new(self.alloc))
     }
 
+    /// The path itself where it begins with a slash, else the path below the directory.
+    pub fn path_in(&mut self, directory: &str, path: &str) -> Text {
+        let mut line = Line::new(self.alloc);
+        if !path.starts_with('/') {
+            line.put(directory);
+            line.put("/");
+        }
+        line.put(path);
+        self.said(line)
+    }
+
+    /// The words of a line, which white space divides.
+    pub fn words_in(&mut self, line: &str) -> List<Text> {
+        let mut words = List::new(self.alloc);
+        for word in line.split_whitespace() {
+            let word = self.text(word);
+            self.push(&mut words, word);
+        }
+        words
+    }
+
     /// The text of a part: a scalar, or a sequence of parts, each a scalar or a mapping `{times: N, of: TEXT}`,
     /// `{times: N, counting: TEXT}` or `{times: N, deeper: TEXT}`.
     pub fn text_of(&mut self, tree: &Tree, what: &str) -> Text {

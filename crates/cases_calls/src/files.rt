@@ -2,7 +2,7 @@ use case_files::{Answers, Fields, Line, Lines, Reading};
 use outside_files::{FileAnswer, Files, MemoryFiles};
 use std::alloc::Global;
 use std::str;
-use tree_base::{List, Text, TextMap, Tree};
+use tree_base::{List, TextMap, Tree};
 
 /// The files of the field `files`, of which the reads of `failing_reads`, from 1, fail. A path that begins with no
 /// slash is one in the directory.
@@ -36,22 +36,11 @@ fn add_file(
     to: &mut TextMap<List<u8>>,
 ) {
     let bytes = reading.bytes_of(tree, path);
-    let path = path_in(reading, directory, path);
+    let path = reading.path_in(directory, path);
     let old = to.put(path, bytes);
     if old.is_err() {
         reading.memory();
     }
-}
-
-/// The path itself where it begins with a slash, else the path below the directory.
-fn path_in(reading: &mut Reading, directory: &str, path: &str) -> Text {
-    let mut line = Line::new(reading.alloc);
-    if !path.starts_with('/') {
-        line.put(directory);
-        line.put("/");
-    }
-    line.put(path);
-    reading.said(line)
 }
 
 /// Reads files in memory one after another: `reads` has a mapping `{path: PATH, limit: BYTES}` for each read, and

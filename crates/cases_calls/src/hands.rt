@@ -4,8 +4,8 @@ ghost use Rattle.outside_api.specs.Clock.{new_clock};
 use crate::engines::{engine_at, request_in};
 use case_files::{Answers, Fields, Line, Lines, Reading};
 use cases_messages::exchange_lines;
-use engine_hand::{HandClock, MemoryHand, MemoryPlug};
-use outside_api::{DialAnswer, Hand, Plug, Target};
+use engine_hand::{MemoryHand, MemoryPlug};
+use outside_api::{DialAnswer, Hand, MemoryClock, Plug, Target};
 use std::alloc::Global;
 use tree_base::Tree;
 
@@ -55,13 +55,13 @@ const USES: u64 = 1 << 60;
 /// Uses a clock: each step of `clock` is `{pause: MILLISECONDS}`, `now`, or `{look: ANSWER}`. `times` has the readings, and
 /// `readings`, `first`, `last`, `paused`, `looks` and `yeses` what the clock counted.
 pub fn clock(fields: &Fields, answers: &mut Answers) {
-    let mut clock = HandClock::new();
+    let mut clock = MemoryClock::new();
     let times = use_each(&mut answers.reading, fields, &mut clock);
     answers.put_lines("times", times);
     put_counts(&clock, answers);
 }
 
-fn use_each(reading: &mut Reading, fields: &Fields, clock: &mut HandClock) -> Lines {
+fn use_each(reading: &mut Reading, fields: &Fields, clock: &mut MemoryClock) -> Lines {
     let mut times = Lines::new(reading.alloc);
     for tree in reading.items(fields, "clock") {
         match reading.word(tree) {
@@ -72,15 +72,15 @@ fn use_each(reading: &mut Reading, fields: &Fields, clock: &mut HandClock) -> Li
     times
 }
 
-fn read(alloc: Global, clock: &mut HandClock, times: &mut Lines) {
-    if clock.readings < USES {
+fn read(alloc: Global, clock: &mut MemoryClock, times: &mut Lines) {
+    if clock.counts.readings < USES {
         let mut line = Line::new(alloc);
         line.number(clock.now());
         times.push(line);
     }
 }
 
-fn step(reading: &mut Reading, tree: &Tree, clock: &mut HandClock) {
+fn step(reading: &mut Reading, tree: &Tree, clock: &mut MemoryClock) {
     if let Some(fields) = reading.fields_of(tree, "clock") {
         if fields.has("look") {
             look(reading.flag(&fields, "look"), clock);
@@ -90,25 +90,25 @@ fn step(reading: &mut Reading, tree: &Tree, clock: &mut HandClock) {
     }
 }
 
-fn look(answer: bool, clock: &mut HandClock) {
-    if clock.looks < USES {
+fn look(answer: bool, clock: &mut MemoryClock) {
+    if clock.counts.looks < USES {
         clock.look(answer);
     }
 }
 
-fn pause_clock(ms: u32, clock: &mut HandClock) {
-    if clock.paused < USES {
+fn pause_clock(ms: u32, clock: &mut MemoryClock) {
+    if clock.counts.paused < USES {
         clock.pause(ms);
     }
 }
 
-fn put_counts(clock: &HandClock, answers: &mut Answers) {
-    answers.put_number("readings", clock.readings);
-    answers.put_number("first", clock.first);
-    answers.put_number("last", clock.last);
-    answers.put_number("paused", clock.paused);
-    answers.put_number("looks", clock.looks);
-    answers.put_number("yeses", clock.yeses);
+fn put_counts(clock: &MemoryClock, answers: &mut Answers) {
+    answers.put_number("readings", clock.counts.readings);
+    answers.put_number("first", clock.counts.first);
+    answers.put_number("last", clock.counts.last);
+    answers.put_number("paused", clock.counts.paused);
+    answers.put_number("looks", clock.counts.looks);
+    answers.put_number("yeses", clock.counts.yeses);
 }
 
 /// Dials a plug for one hand twice: `first` and `second` say whether that made a hand.

@@ -44,16 +44,7 @@ fn words_of(reading: &mut Reading, fields: &Fields, call: &str) -> List<Text> {
         Some(Tree::Seq(_)) => reading.texts(fields, call),
         _ => {
             let line = reading.text_at(fields, call);
-            split(reading, line.as_str())
+            reading.words_in(line.as_str())
         }
     }
-}
-
-fn split(reading: &mut Reading, line: &str) -> List<Text> {
-    let mut words = List::new(reading.alloc);
-    for word in line.split_whitespace() {
-        let word = reading.text(word);
-        reading.push(&mut words, word);
-    }
-    words
 }

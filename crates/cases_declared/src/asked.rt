@@ -37,18 +37,9 @@ fn words_at(reading: &mut Reading, fields: &Fields) -> List<Text> {
         Some(Tree::Seq(_)) => reading.texts(fields, "words"),
         _ => {
             let line = reading.text_or(fields, "words", "up");
-            split(reading, line.as_str())
+            reading.words_in(line.as_str())
         }
     }
-}
-
-fn split(reading: &mut Reading, line: &str) -> List<Text> {
-    let mut words = List::new(reading.alloc);
-    for word in line.split_whitespace() {
-        let word = reading.text(word);
-        reading.push(&mut words, word);
-    }
-    words
 }
 
 fn options_read(reading: &mut Reading, read: Result<Options, WordsRefusal>) -> Option<Options> {

@@ -1,6 +1,6 @@
-use case_files::{Fields, Line, Reading};
+use case_files::{Fields, Reading};
 use outside_files::MemoryFiles;
-use tree_base::{List, Text, TextMap, Tree};
+use tree_base::{List, TextMap, Tree};
 
 /// The files of a case: its text as `compose.yaml`, and those of the field `files`, of which a path without a slash at its
 /// beginning is one in the directory. The reads with the numbers of `failing_reads`, from 1, fail.
@@ -31,20 +31,9 @@ fn add_file(
     to: &mut TextMap<List<u8>>,
 ) {
     let bytes = reading.bytes_of(text, path);
-    let path = path_in(reading, directory, path);
+    let path = reading.path_in(directory, path);
     let old = to.put(path, bytes);
     if old.is_err() {
         reading.memory();
     }
-}
-
-/// The path itself where it begins with a slash, else the path below the directory.
-fn path_in(reading: &mut Reading, directory: &str, path: &str) -> Text {
-    let mut line = Line::new(reading.alloc);
-    if !path.starts_with('/') {
-        line.put(directory);
-        line.put("/");
-    }
-    line.put(path);
-    reading.said(line)
 }

@@ -1,6 +1,8 @@
 use case_files::{Answers, Fields};
 use cases_ground::{path_tree, tree_with_marks};
-use merge_rules::{MergeRefusal, long_forms, overlay, overlay_onto};
+use long_forms::long_forms;
+use merge_rules::{overlay, overlay_onto};
+use merge_tables::MergeRefusal;
 use std::alloc::Global;
 use tree_base::{Path, Tree};
 

@@ -5,7 +5,7 @@ use refusals::{
     ActiveRefusal, DigestRefusal, IdentityRefusal, LoadRefusal, Part, ProjectRefusal, Refusal,
     Unbuilt, WordsRefusal, refusal_of, status_of,
 };
-use tree_base::{List, Path, Place, Step, Text, Tree};
+use tree_base::{Place, Tree};
 use yaml_lines::{YamlFault, YamlRefusal};
 
 /// What a refusal prints, `line`, and its exit `status`; `none: true` is no refusal. It is that of a run's fault, by the
@@ -123,40 +123,13 @@ fn part_at(reading: &mut Reading, fields: &Fields) -> Part {
 
 fn unbuilt_of(reading: &mut Reading, tree: &Tree) -> Unbuilt {
     match tree {
-        Tree::Seq(steps) => Unbuilt::Attribute {
-            path: path_of(reading, steps.as_slice()),
-        },
         Tree::Scalar(text) if text.as_str() == "words" => Unbuilt::Words,
         Tree::Scalar(text) if text.as_str() == "run" => Unbuilt::Run,
         _ => {
-            reading.wants("not_built", "`words`, `run` or steps");
+            reading.wants("not_built", "`words` or `run`");
             Unbuilt::Words
         }
     }
-}
-
-fn path_of(reading: &mut Reading, steps: &[Tree]) -> Path {
-    let mut path = List::new(reading.alloc);
-    for tree in steps {
-        let text = reading.text_of(tree, "not_built");
-        reading.push(&mut path, step_of(text));
-    }
-    path
-}
-
-/// The step of a text: `[12]` is a place.
-fn step_of(text: Text) -> Step {
-    match place_of(text.as_str()) {
-        Some(place) => Step::Index(place),
-        None => Step::Key(text),
-    }
-}
-
-fn place_of(text: &str) -> Option<u32> {
-    text.strip_prefix("[")?
-        .strip_suffix("]")?
-        .parse::<u32>()
-        .ok()
 }
 
 fn load_refusal(reading: &mut Reading, fields: &Fields) -> LoadRefusal {

@@ -115,7 +115,6 @@ declaring_said refusal found P kind is_said run digest identity memory = said re
     at : (r : Refusal) → IsOfDeclaring r → P (Some r)
     at (Refusal.NotBuilt Unbuilt.Run) kind = run
     at (Refusal.NotBuilt Unbuilt.Words) kind = absurd kind
-    at (Refusal.NotBuilt (Unbuilt.Attribute path)) kind = absurd kind
     at (Refusal.Digest cause) kind = digest cause
     at (Refusal.Identity cause) kind = identity cause
     at Refusal.Memory kind = memory

@@ -11,7 +11,7 @@ use Rattle.dotenv.specs.declared.refusal.EnvRefusal.{EnvRefusal}
 use Rattle.file_digests.specs.declared.DigestRefusal.{DigestRefusal}
 use Rattle.loaded_files.specs.declared.LoadRefusal.{LoadRefusal}
 use Rattle.interpolate.specs.declared.refusal.SubstTreeRefusal.{SubstTreeRefusal}
-use Rattle.merge_rules.specs.declared.refusal.MergeRefusal.{MergeRefusal}
+use Rattle.merge_tables.specs.declared.refusal.MergeRefusal.{MergeRefusal}
 use Rattle.loading_words.specs.Statuses.{active_status, env_status, merge_status, project_status, tree_status, yaml_status}
 use Rattle.refusals.specs.Statuses.{refusal_status, status_of, words_status}
 use Rattle.loading_words.specs.declared.ProjectRefusal.{ProjectRefusal}
@@ -97,7 +97,6 @@ words_not_zero WordsRefusal.Memory e = absurd (cc e)
 refusal_not_zero : (refusal : Refusal) → refusal_status refusal ≡ 0 → ⊥
 refusal_not_zero (Refusal.Words refusal) e = words_not_zero refusal e
 refusal_not_zero (Refusal.NotBuilt Unbuilt.Words) e = absurd (cc e)
-refusal_not_zero (Refusal.NotBuilt (Unbuilt.Attribute path)) e = absurd (cc e)
 refusal_not_zero (Refusal.NotBuilt Unbuilt.Run) e = absurd (cc e)
 refusal_not_zero (Refusal.Load (LoadRefusal.NotFound path)) e = absurd (cc e)
 refusal_not_zero (Refusal.Load (LoadRefusal.ReadFault path)) e = absurd (cc e)

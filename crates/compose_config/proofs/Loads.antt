@@ -205,7 +205,6 @@ asking_kind refusal found before is_said = said refusal found is_said IsOfConfig
     at Refusal.Memory h = tt
     at (Refusal.Words words) h = tt
     at (Refusal.NotBuilt Unbuilt.Words) h = tt
-    at (Refusal.NotBuilt (Unbuilt.Attribute path)) h = tt
     at (Refusal.NotBuilt Unbuilt.Run) h = absurd h
     at (Refusal.Load load) h = tt
     at (Refusal.Name name) h = tt

@@ -50,7 +50,8 @@ impl Maker {
 
     pub(crate) fn sysctls(&mut self, service: &Service) -> Option<Pairs>
         ensures kept { self.new.failed ≡ false → self.old.failed ≡ false }
-        ensures same { self.new.failed ≡ false → result ≡ unless_empty (vars_of (named_pairs service.now.attributes (codes "sysctls"))) }
+        ensures same { self.new.failed ≡ false → result
+            ≡ unless_empty (vars_of (named_pairs service.now.attributes (codes "sysctls"))) }
     {
         self.made(sysctls_of(self.alloc, service))
     }
@@ -71,14 +72,16 @@ impl Maker {
 
     pub(crate) fn log_config(&mut self, service: &Service) -> Option<LogConfig>
         ensures kept { self.new.failed ≡ false → self.old.failed ≡ false }
-        ensures same { self.new.failed ≡ false → result ≡ option_map log_config_of (logging_at service.now.attributes (codes "logging")) }
+        ensures same { self.new.failed ≡ false → result
+            ≡ option_map log_config_of (logging_at service.now.attributes (codes "logging")) }
     {
         self.made(log_config_of(self.alloc, service))
     }
 
     pub(crate) fn restart_policy(&mut self, service: &Service) -> Option<RestartPolicy>
         ensures kept { self.new.failed ≡ false → self.old.failed ≡ false }
-        ensures same { self.new.failed ≡ false → result ≡ option_map restart_policy_of (text_at service.now.attributes (codes "restart")) }
+        ensures same { self.new.failed ≡ false → result
+            ≡ option_map restart_policy_of (text_at service.now.attributes (codes "restart")) }
     {
         self.made(restart_policy_of(self.alloc, service))
     }
@@ -92,7 +95,8 @@ impl Maker {
 
     pub(crate) fn port_bindings(&mut self, service: &Service) -> Option<List<PortBindings>>
         ensures kept { self.new.failed ≡ false → self.old.failed ≡ false }
-        ensures same { self.new.failed ≡ false → result ≡ port_bindings_of (ports_in service.now.attributes) }
+        ensures same { self.new.failed ≡ false → result
+            ≡ port_bindings_of (ports_in service.now.attributes) }
     {
         self.made(port_bindings_of(self.alloc, service))
     }
@@ -138,7 +142,8 @@ impl Maker {
 
     pub(crate) fn healthcheck(&mut self, service: &Service) -> Option<Healthcheck>
         ensures kept { self.new.failed ≡ false → self.old.failed ≡ false }
-        ensures same { self.new.failed ≡ false → result ≡ option_map healthcheck_of (health_at service.now.attributes (codes "healthcheck")) }
+        ensures same { self.new.failed ≡ false → result
+            ≡ option_map healthcheck_of (health_at service.now.attributes (codes "healthcheck")) }
     {
         self.made(healthcheck_of(self.alloc, service))
     }

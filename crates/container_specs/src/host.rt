@@ -88,7 +88,8 @@ fn device_of(alloc: Global, text: &str) -> Result<Device, Memory>
 }
 
 fn device_behind(alloc: Global, host: &str, rest: &str) -> Result<Device, Memory>
-    ensures { IfOk result (λ device. device ≡ device_behind host.now rest.now (cut_once 58 rest.now)) }
+    ensures { IfOk result (λ device. device
+        ≡ device_behind host.now rest.now (cut_once 58 rest.now)) }
 {
     match cut_text(rest, ':') {
         None => device(alloc, host, rest, "rwm"),

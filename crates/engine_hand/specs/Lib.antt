@@ -1,4 +1,3 @@
 pub mod Fates
-pub mod HandClocks
 pub mod MemoryHands
 pub mod SilentHands

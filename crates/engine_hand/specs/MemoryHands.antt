@@ -5,7 +5,7 @@ use Rattle.memory_engine.specs.declared.state.MemoryEngine.{MemoryEngine}
 use Rattle.outside_api.specs.Clock.{Clock}
 use Rattle.outside_files.specs.Counts.{one_more}
 use Rattle.engine_hand.specs.Fates.{fate_of}
-use Rattle.engine_hand.specs.HandClocks.{counts_of}
+use Rattle.outside_api.specs.ClockCounts.{counts_of}
 use Rattle.engine_hand.specs.declared.fate.Fate.{Fate}
 use Rattle.engine_hand.specs.declared.memory_hand.MemoryHand.{MemoryHand}
 
@@ -19,7 +19,7 @@ faults_of hand = hand.failed
 
 -- what its clock counted
 abbrev pub clock_of : MemoryHand → Clock
-clock_of hand = counts_of hand.clock
+clock_of hand = counts_of hand.clock.counts
 
 -- the time in milliseconds
 abbrev pub time_of : MemoryHand → ℕ

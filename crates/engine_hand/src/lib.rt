@@ -8,14 +8,12 @@
 #![tactic(auto)]
 
 mod fate;
-mod hand_clock;
 mod memory_hand;
 mod memory_plug;
 mod outcome;
 mod silent_hand;
 mod silent_plug;
 
-pub use hand_clock::HandClock;
 pub use memory_hand::MemoryHand;
 pub use memory_plug::MemoryPlug;
 pub use silent_hand::SilentHand;

@@ -7,11 +7,10 @@ ghost use Rattle.memory_engine.specs.Ticking.{later, ticked};
 ghost use Rattle.engine_hand.specs.Fates.{ComesTo, faults_after, is_asked};
 
 use crate::fate::fate_of;
-use crate::hand_clock::HandClock;
 use crate::outcome::outcome_on;
 use engine_types::{Exchange, Outcome, Request};
 use memory_engine::MemoryEngine;
-use outside_api::Hand;
+use outside_api::{Hand, MemoryClock};
 use std::alloc::Global;
 use tree_base::ReservedList;
 
@@ -21,7 +20,7 @@ use tree_base::ReservedList;
 pub struct MemoryHand {
     pub engine: MemoryEngine,
     log: ReservedList<Exchange>,
-    clock: HandClock,
+    clock: MemoryClock,
     failed: u64,
 }
 
@@ -39,7 +38,7 @@ impl MemoryHand {
         MemoryHand {
             engine,
             log: ReservedList::new(alloc),
-            clock: HandClock::new(),
+            clock: MemoryClock::new(),
             failed: 0,
         }
     }
@@ -53,7 +52,7 @@ impl MemoryHand {
 }
 
 impl Hand for MemoryHand {
-    ghost use Rattle.engine_hand.specs.HandClocks.{counts_of};
+    ghost use Rattle.outside_api.specs.ClockCounts.{counts_of};
     ghost use Rattle.engine_hand.specs.MemoryHands.{log_of, faults_of, clock_of, time_of, next_fate};
 
     ghost log = { λ hand. hand.log.items };
@@ -64,7 +63,7 @@ impl Hand for MemoryHand {
 
     ghost faults = { λ hand. hand.failed };
 
-    ghost clock = { λ hand. counts_of hand.clock };
+    ghost clock = { λ hand. counts_of hand.clock.counts };
 
     /// Makes the next exchange on the Engine, which comes to what the plan of faults says of its number. Where there
     /// is no room in the log, nothing changes.

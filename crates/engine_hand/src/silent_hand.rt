@@ -1,9 +1,8 @@
 ghost use Rattle.std.specs.Prelude.{◌≡◌, [], None, Some};
 ghost use Rattle.outside_api.specs.Clock.{new_clock};
 
-use crate::hand_clock::HandClock;
 use engine_types::{Exchange, Outcome, Request, WireEnd};
-use outside_api::Hand;
+use outside_api::{Hand, MemoryClock};
 use std::alloc::Global;
 use tree_base::ReservedList;
 
@@ -15,7 +14,7 @@ pub struct SilentHand {
     log: ReservedList<Exchange>,
     /// Whether the connection ended, for each exchange.
     ends: ReservedList<bool>,
-    clock: HandClock,
+    clock: MemoryClock,
 }
 
 impl SilentHand {
@@ -29,13 +28,13 @@ impl SilentHand {
         SilentHand {
             log: ReservedList::new(alloc),
             ends: ReservedList::new(alloc),
-            clock: HandClock::new(),
+            clock: MemoryClock::new(),
         }
     }
 }
 
 impl Hand for SilentHand {
-    ghost use Rattle.engine_hand.specs.HandClocks.{counts_of};
+    ghost use Rattle.outside_api.specs.ClockCounts.{counts_of};
     ghost use Rattle.engine_hand.specs.SilentHands.{silences};
 
     ghost log = { λ hand. hand.log.items };
@@ -46,7 +45,7 @@ impl Hand for SilentHand {
 
     ghost faults = { λ _. 0 };
 
-    ghost clock = { λ hand. counts_of hand.clock };
+    ghost clock = { λ hand. counts_of hand.clock.counts };
 
     fn exchange(&mut self, _alloc: Global, request: Request) -> Outcome {
         if self.log.reserve(1).is_err() {

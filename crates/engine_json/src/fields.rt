@@ -40,7 +40,8 @@ pub(crate) fn pairs_of(alloc: Global, value: &Value) -> Result<Option<Pairs>, Me
 
 /// The same of an object.
 fn pairs_in(alloc: Global, members: &Map<String, Value>) -> Result<Option<Pairs>, Memory>
-    ensures { IfOk result (λ pairs. pairs ≡ of_each pair_of (map (λ m. (string_bytes m.0, view m.1)) members.now.entries)) }
+    ensures { IfOk result (λ pairs. pairs
+        ≡ of_each pair_of (map (λ m. (string_bytes m.0, view m.1)) members.now.entries)) }
 {
     let mut pairs = List::new(alloc);
     for (name, value) in members {
@@ -54,7 +55,8 @@ fn pairs_in(alloc: Global, members: &Map<String, Value>) -> Result<Option<Pairs>
 
 /// Puts a name with its value last.
 fn push_pair(alloc: Global, pairs: &mut Pairs, name: &str, value: &str) -> Result<(), Memory>
-    ensures { OnOk result (pairs.new ≡ pairs.old ++ record { name = name.now; value = value.now } ∷ []) }
+    ensures { OnOk result (pairs.new ≡ pairs.old
+        ++ record { name = name.now; value = value.now } ∷ []) }
 {
     let name = Text::from_str(alloc, name)?;
     let value = Text::from_str(alloc, value)?;

@@ -23,7 +23,8 @@ pub(crate) fn pull_in(alloc: Global, body: &[u8]) -> Result<Option<Reply>, Memor
 
 /// What the lines of the stream say.
 fn told_by(alloc: Global, lines: &[&[u8]]) -> Result<Option<Reply>, Memory>
-    ensures { IfOk result (λ reply. reply ≡ option_map pulled_by (failure_behind None (map (λ line. line.now) lines.now))) }
+    ensures { IfOk result (λ reply. reply
+        ≡ option_map pulled_by (failure_behind None (map (λ line. line.now) lines.now))) }
 {
     let mut failed = None;
     for line in lines {
@@ -36,7 +37,8 @@ fn told_by(alloc: Global, lines: &[&[u8]]) -> Result<Option<Reply>, Memory>
 
 /// Takes a line of the stream, and the message of the first error; false where it is neither blank nor an object.
 fn is_told(alloc: Global, line: &[u8], failed: &mut Option<Text>) -> Result<bool, Memory>
-    ensures { IfOk result (λ told. cond told (Some failed.new) None ≡ failure_after failed.old line.now) }
+    ensures { IfOk result (λ told. cond told (Some failed.new) None
+        ≡ failure_after failed.old line.now) }
 {
     if is_blank(line) {
         return Ok(true);
@@ -69,7 +71,8 @@ fn object_of(value: Value) -> Option<Value>
 
 /// Notes the message of an object's error, unless one came before.
 fn note(alloc: Global, value: &Value, failed: &mut Option<Text>) -> Result<(), Memory>
-    ensures { OnOk result (failed.new ≡ first_of failed.old (text_at (codes "error") (view value.now))) }
+    ensures { OnOk result (failed.new ≡ first_of failed.old
+        (text_at (codes "error") (view value.now))) }
 {
     if failed.is_none() {
         if let Some(message) = text_at(value, "error") {

@@ -89,7 +89,8 @@ fn good_status(request: &Request) -> u16
 
 /// The reply of a request that was done; None where the body has another form.
 fn good_reply(alloc: Global, request: &Request, body: &[u8]) -> Result<Option<Reply>, Memory>
-    ensures { IfOk result (λ reply. reply ≡ reply_of request.now (good_status request.now) body.now) }
+    ensures { IfOk result (λ reply. reply
+        ≡ reply_of request.now (good_status request.now) body.now) }
 {
     match request {
         Request::Logs { .. } => Ok(Some(Reply::Bytes(bytes_of(alloc, body)?))),
@@ -142,7 +143,8 @@ fn volumes_in(alloc: Global, value: &Value) -> Result<Option<Reply>, Memory>
 
 /// The reply at `State`.
 fn state_in(value: &Value) -> Option<Reply>
-    ensures { result ≡ option_map Reply.State (given (get (codes "State") (view value.now)) report_in) }
+    ensures { result ≡ option_map Reply.State
+        (given (get (codes "State") (view value.now)) report_in) }
 {
     Some(Reply::State(report_in(value.get("State")?)?))
 }

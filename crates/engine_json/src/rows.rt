@@ -140,7 +140,8 @@ fn network_of(alloc: Global, value: &Value) -> Result<Option<NetRow>, Memory>
 
 /// The `Labels` of a row.
 fn labels_of(alloc: Global, value: &Value) -> Result<Option<Pairs>, Memory>
-    ensures { IfOk result (λ labels. labels ≡ given (get (codes "Labels") (view value.now)) pairs_of) }
+    ensures { IfOk result (λ labels. labels
+        ≡ given (get (codes "Labels") (view value.now)) pairs_of) }
 {
     match value.get("Labels") {
         Some(labels) => pairs_of(alloc, labels),
@@ -150,7 +151,8 @@ fn labels_of(alloc: Global, value: &Value) -> Result<Option<Pairs>, Memory>
 
 /// The first of a row's `Names`, without its leading slash.
 fn name_of(value: &Value) -> Option<&str>
-    ensures { option_map (λ name. name.now) result ≡ given (given (get (codes "Names") (view value.now)) (rows Some)) first_name }
+    ensures { option_map (λ name. name.now) result
+        ≡ given (given (get (codes "Names") (view value.now)) (rows Some)) first_name }
 {
     let name = value.get("Names")?.as_array()?.first()?.as_str()?;
     Some(without_slash(name))

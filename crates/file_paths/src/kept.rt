@@ -11,7 +11,8 @@ use tree_base::{Text, Tree};
 /// memory.
 #[cycle(keeps)]
 pub(crate) fn keeps(tree: &Tree, spot: PathSpot) -> bool
-    ensures { IsTrue result → (home : Home) → resolved_by home tree.now (rules_of spot) ≡ Ok tree.now }
+    ensures { IsTrue result → (home : Home) → resolved_by home tree.now (rules_of spot)
+        ≡ Ok tree.now }
 {
     match spot {
         PathSpot::Plain => true,
@@ -22,7 +23,8 @@ pub(crate) fn keeps(tree: &Tree, spot: PathSpot) -> bool
 /// Whether a tree holds no path, by its parts.
 #[cycle(keeps)]
 fn keeps_parts(tree: &Tree, spot: PathSpot) -> bool
-    ensures { IsTrue result → (home : Home) → resolved_by home tree.now (rules_of spot) ≡ Ok tree.now }
+    ensures { IsTrue result → (home : Home) → resolved_by home tree.now (rules_of spot)
+        ≡ Ok tree.now }
 {
     match tree {
         Tree::Null => true,
@@ -37,7 +39,8 @@ fn keeps_parts(tree: &Tree, spot: PathSpot) -> bool
 
 /// Whether a text is no path.
 fn keeps_texts(kind: Option<PathKind>) -> bool
-    ensures { IsTrue result → (home : Home) (text : List ℕ) → text_homed home kind text ≡ Ok (Tree.Scalar text) }
+    ensures { IsTrue result → (home : Home) (text : List ℕ) → text_homed home kind text
+        ≡ Ok (Tree.Scalar text) }
 {
     match kind {
         None => true,
@@ -49,7 +52,8 @@ fn keeps_texts(kind: Option<PathKind>) -> bool
 
 /// Whether a mapping has no path of its own.
 fn keeps_entries(kind: Option<PathKind>) -> bool
-    ensures { IsTrue result → (home : Home) (entries : Entries) → entries_homed home kind entries ≡ Ok entries }
+    ensures { IsTrue result → (home : Home) (entries : Entries) → entries_homed home kind entries
+        ≡ Ok entries }
 {
     match kind {
         None => true,

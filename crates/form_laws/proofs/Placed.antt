@@ -11,14 +11,13 @@ use Rattle.tree_base.specs.declared.tree.Tree.{Tree, out-Tree}
 use Rattle.tree_base.specs.declared.tree.Tree.TheOpen.{Tree-F}
 use Rattle.tree_base.specs.declared.tree.Tree.TheVariants.{Map, Null, outs-Map, outs-Null}
 use Rattle.attribute_paths.specs.Patterns.{below_key}
-use Rattle.merge_rules.specs.declared.refusal.MergeRefusal.{MergeRefusal}
-use Rattle.merge_rules.specs.Alone.{entries_in}
-use Rattle.merge_rules.specs.Answers.{under, within}
-use Rattle.merge_rules.specs.Attributes.{ShortRules, short_rules}
-use Rattle.merge_rules.specs.LongForms.{lengthened, long_forms, values_long}
-use Rattle.merge_rules.specs.Uniqueness.{field}
-use Rattle.merge_rules.proofs.Lengthening.{map_long, parts}
-use Rattle.merge_rules.proofs.LongStays.{long_forms_stay, made_long}
+use Rattle.merge_tables.specs.declared.refusal.MergeRefusal.{MergeRefusal}
+use Rattle.merge_tables.specs.Parts.{entries_in, field}
+use Rattle.merge_tables.specs.Answers.{under, within}
+use Rattle.merge_tables.specs.Attributes.{ShortRules, short_rules}
+use Rattle.long_forms.specs.LongForms.{lengthened, long_forms, values_long}
+use Rattle.long_forms.proofs.Lengthening.{map_long, parts}
+use Rattle.long_forms.proofs.LongStays.{long_forms_stay, made_long}
 use Rattle.form_laws.specs.Forms.{FormsAreFree, with_attribute}
 
 abbrev Entries : Type 0

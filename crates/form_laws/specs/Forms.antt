@@ -2,9 +2,8 @@
 use Rattle.std.specs.Prelude.{◌≡◌, ℕ, List, [], ◌∷◌, Ok}
 use Rattle.tree_base.specs.Entries.{with_entry}
 use Rattle.tree_base.specs.declared.Tree.{Tree, out-Tree, Map, Null}
-use Rattle.merge_rules.specs.Alone.{entries_in}
-use Rattle.merge_rules.specs.LongForms.{long_forms}
-use Rattle.merge_rules.specs.Uniqueness.{field}
+use Rattle.merge_tables.specs.Parts.{entries_in, field}
+use Rattle.long_forms.specs.LongForms.{long_forms}
 
 -- a tree with an attribute at a path of keys; what is no mapping on the way becomes one
 abbrev pub with_attribute : List (List ℕ) → Tree → Tree → Tree

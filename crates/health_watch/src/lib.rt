@@ -6,4 +6,4 @@
 
 mod verdicts;
 
-pub use verdicts::judge;
+pub use verdicts::{judge, report_of};

@@ -1,7 +1,8 @@
 ghost use Rattle.std.specs.Prelude.{◌≡◌};
-ghost use Rattle.run_model.specs.Conditions.{judge, judge_completion, judge_health, judge_running};
+ghost use Rattle.std.specs.Option.{option_copied};
+ghost use Rattle.run_model.specs.Conditions.{judge, judge_completion, judge_health, judge_running, report_of};
 
-use engine_types::{Condition, ContainerState, Health, Report};
+use engine_types::{Condition, ContainerState, Health, Outcome, Reply, Report};
 use run_model::Verdict;
 
 /// What a report on a slot's container says of a condition: it is met, it has failed, or neither yet. Started is met by
@@ -59,5 +60,18 @@ fn judge_running(state: ContainerState) -> Verdict
         ContainerState::Running => Verdict::Met,
         ContainerState::Exited | ContainerState::Dead | ContainerState::Removing => Verdict::Failed,
         _ => Verdict::NotYet,
+    }
+}
+
+/// The report that a poll was answered with, if any. No memory.
+pub fn report_of(outcome: &Outcome) -> Option<&Report>
+    ensures { option_copied result ≡ report_of outcome.now }
+{
+    match outcome {
+        Outcome::Answered(reply) => match reply {
+            Reply::State(report) => Some(report),
+            _ => None,
+        },
+        _ => None,
     }
 }

@@ -77,7 +77,8 @@ fn speak_on<P: Pipe>(alloc: Global, pipe: &mut P, request: &Request, bytes: &[u8
 fn write_all<P: Pipe>(pipe: &mut P, bytes: &[u8]) -> usize
     ensures counted { P.faults pipe.old ≤ P.faults pipe.new }
     ensures within { result ≤ length bytes.now }
-    ensures told { ToldBy (after_write (take result bytes.now)) (P.talk pipe.old) (P.talk pipe.new) }
+    ensures told { ToldBy (after_write (take result bytes.now)) (P.talk pipe.old)
+        (P.talk pipe.new) }
     ensures failed { result < length bytes.now → Rose (P.faults pipe.old) (P.faults pipe.new) }
 {
     let mut at = 0;

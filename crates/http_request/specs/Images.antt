@@ -4,13 +4,15 @@ use Rattle.std.specs.Prelude.{ℕ, ◌+◌, not, ◌&&◌, ◌==◌, List, [], �
 use Rattle.std.specs.List.{list_any, prefix_len}
 use Rattle.std.specs.Option.{option_or}
 
--- / and : and @
+-- the code of /, behind which the parts of a name stand
 abbrev pub slash : ℕ
 slash = 47
 
+-- the code of :, behind which a tag stands
 abbrev pub colon : ℕ
 colon = 58
 
+-- the code of @, behind which a digest stands
 abbrev pub at_sign : ℕ
 at_sign = 64
 

@@ -11,7 +11,7 @@ use Rattle.loaded_files.specs.Reads.{Load, Ran, loaded_from}
 use Rattle.loaded_files.specs.declared.reads.Seen.{Seen}
 use Rattle.loaded_files.specs.declared.refusal.LoadRefusal.{LoadRefusal}
 use Rattle.loaded_files.specs.declared.refusal.LoadRefusal.TheVariants.{ReadFault}
-use Rattle.merge_rules.specs.Answers.{within}
+use Rattle.merge_tables.specs.Answers.{within}
 use Rattle.outside_files.specs.Files.{Contents}
 use Rattle.tree_base.specs.Entries.{value_at}
 use Rattle.tree_base.specs.declared.Tree.{Tree, Map, Null}

@@ -8,7 +8,7 @@ use Rattle.include_extends.specs.declared.model.Model.{Model}
 use Rattle.loaded_files.specs.Reads.{◌>>=◌, Load, after, give}
 use Rattle.loaded_files.specs.Refusing.{of_merge}
 use Rattle.loaded_files.specs.declared.refusal.LoadRefusal.{LoadRefusal}
-use Rattle.merge_rules.specs.Answers.{within}
+use Rattle.merge_tables.specs.Answers.{within}
 use Rattle.service_bases.specs.Extending.{services_extended}
 use Rattle.service_environments.specs.Environments.{with_environments}
 use Rattle.tree_base.specs.Entries.{value_at, with_entry}

@@ -9,7 +9,7 @@ ghost use Rattle.tree_base.specs.declared.Tree.{Tree, out-Tree};
 
 use crate::model::Model;
 use loaded_files::LoadRefusal;
-use merge_rules::{MergeRefusal, within};
+use merge_tables::{MergeRefusal, within};
 use outside_files::Files;
 use service_bases::services_extended;
 use service_environments::with_environments;

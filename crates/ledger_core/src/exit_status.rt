@@ -1,7 +1,6 @@
 ghost use Rattle.std.specs.Prelude.{◌≡◌, reverse, Some};
 ghost use Rattle.std.specs.List.{list_any};
-ghost use Rattle.std.specs.Option.{option_copied};
-ghost use Rattle.run_model.specs.Conditions.{is_failed_verdict, judge, report_of};
+ghost use Rattle.run_model.specs.Conditions.{is_failed_verdict, judge};
 ghost use Rattle.run_model.specs.Ending.{lost_status, outcome_status, seen_status, status_of};
 ghost use Rattle.run_model.specs.Journals.{ended_as, holding, is_well};
 ghost use Rattle.run_model.specs.Legal.{IsLegal};
@@ -13,10 +12,10 @@ ghost use Rattle.ledger_core.specs.Statuses.{end_status, entry_status, fails_goa
 
 use crate::held::{Held, held_after};
 use engine_types::{
-    Action, ActionKind, Condition, Declared, Entry, Need, Outcome, Plan, Reply, Report, RunLimits,
+    Action, ActionKind, Condition, Declared, Entry, Need, Outcome, Plan, Report, RunLimits,
     SeenEnd, SeenFault, WireEnd,
 };
-use health_watch::judge;
+use health_watch::{judge, report_of};
 use run_lookups::is_good;
 use run_model::Verdict;
 use tree_base::List;
@@ -143,18 +142,6 @@ pub(crate) fn ended_well(plan: &Plan, action: u32, outcome: &Outcome) -> bool
     match (plan.actions.get(action as usize), outcome) {
         (Some(action), Outcome::Answered(reply)) => is_good(action.kind, reply),
         _ => false,
-    }
-}
-
-fn report_of(outcome: &Outcome) -> Option<&Report>
-    ensures { option_copied result ≡ report_of outcome.now }
-{
-    match outcome {
-        Outcome::Answered(reply) => match reply {
-            Reply::State(report) => Some(report),
-            _ => None,
-        },
-        _ => None,
     }
 }
 

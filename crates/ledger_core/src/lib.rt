@@ -24,4 +24,5 @@ pub use laws::{answers_are_legal, good_ends_keep_ledgers};
 pub use ledger::Ledger;
 pub use permit::{Grant, Permit};
 pub use places::Places;
+pub use seen::first_seen;
 pub use started::Started;

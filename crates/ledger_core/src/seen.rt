@@ -5,7 +5,7 @@ ghost use Rattle.ledger_core.specs.Seeing.{seen_at, seen_of};
 use engine_types::{Entry, Seen, SeenEnd};
 
 /// What the observation saw that a journal begins with, where it ended well. No memory.
-pub(crate) fn first_seen(journal: &[Entry]) -> Option<&Seen>
+pub fn first_seen(journal: &[Entry]) -> Option<&Seen>
     ensures { option_copied result ≡ seen_at (slice_get journal.now 0) }
 {
     match journal.get(0) {

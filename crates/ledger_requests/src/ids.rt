@@ -1,6 +1,5 @@
-ghost use Rattle.std.specs.Prelude.{◌≡◌, ◌<◌, None, Some, find, get_or, length, option_and_then, option_map};
+ghost use Rattle.std.specs.Prelude.{◌≡◌, ◌<◌, None, Some, get_or, length, option_and_then};
 ghost use Rattle.std.specs.Option.{option_copied};
-ghost use Rattle.std.specs.Str.{bytes_eq};
 ghost use Rattle.run_model.specs.Journals.{standing};
 ghost use Rattle.run_model.specs.Plans.{create_of, kept};
 ghost use Rattle.run_model.specs.Requests.{made_id, network_id, slot_id};
@@ -8,8 +7,9 @@ ghost use Rattle.ledger_rows.specs.ActionRows.{state_at};
 ghost use Rattle.ledger_requests.specs.Sources.{AreSources, id_in, id_of, past_in, setup_in, told_by};
 
 use crate::sources::Sources;
-use engine_types::{Entry, Listed, Outcome, Reply, Seen};
+use engine_types::{Entry, Listed, Outcome, Reply};
 use ledger_rows::State;
+use run_requests::seen_network_id;
 use tree_base::Text;
 
 /// The id of a slot's container: that of the kept one, else what its create was told. No memory.
@@ -71,18 +71,6 @@ pub(crate) fn network_id<'a>(sources: &Sources<'a>, network: u32) -> Option<&'a 
             seen_network_id(sources.run.seen, &spec.name)
         }
     }
-}
-
-fn seen_network_id<'a>(seen: &'a Seen, name: &Text) -> Option<&'a Text>
-    ensures { option_copied result ≡
-        option_map (λ row. row.id) (find (λ row. bytes_eq row.name name.now) seen.now.networks) }
-{
-    let row = seen
-        .networks
-        .as_slice()
-        .iter()
-        .find(|row| row.name == *name)?;
-    Some(&row.id)
 }
 
 /// The place that stands at a number, if any.

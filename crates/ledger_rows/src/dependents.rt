@@ -46,7 +46,7 @@ pub fn turned(alloc: Global, needs: &[List<u32>]) -> Result<List<List<u32>>, Mem
 }
 
 /// So many empty rows.
-fn empty_rows(alloc: Global, count: usize) -> Result<Vec<List<u32>>, Memory>
+pub fn empty_rows(alloc: Global, count: usize) -> Result<Vec<List<u32>>, Memory>
     ensures { IfOk result (λ rows. rows.items ≡ replicate count []) }
 {
     let mut rows = Vec::new(alloc);

@@ -17,7 +17,7 @@ mod worker_row;
 
 pub use action_rows::{ActionRows, State};
 pub use blocking::lose;
-pub use dependents::{add_to_all, turned};
+pub use dependents::{add_to_all, empty_rows, turned};
 pub use entries::{claim, end_badly, end_well};
 pub use laws::{blocked_is_the_one_answer, quiet_entries_keep_rows, ready_is_next};
 pub use releasing::release;

@@ -35,8 +35,8 @@ use Rattle.loaded_files.specs.declared.reads.Seen.TheVariants.{There}
 use Rattle.loading_words.specs.declared.ProjectRefusal.{ProjectRefusal}
 use Rattle.loading_words.specs.declared.TreeRefusal.{TreeRefusal}
 use Rattle.merge_rules.proofs.Unchanged.{files_stand}
-use Rattle.merge_rules.specs.LongForms.{long_forms}
-use Rattle.merge_rules.specs.declared.refusal.MergeRefusal.{MergeRefusal}
+use Rattle.long_forms.specs.LongForms.{long_forms}
+use Rattle.merge_tables.specs.declared.refusal.MergeRefusal.{MergeRefusal}
 use Rattle.model_laws.proofs.SettledModels.{settled_models}
 use Rattle.normal_form.specs.ProjectNames.{base_name, is_name}
 use Rattle.normal_form.specs.Projects.{active_or_refused, checked, filled, name_by, name_given, name_in, name_or, project_among, project_name, project_of}

@@ -9,8 +9,8 @@ use Rattle.loaded_files.specs.FileTrees.{file_tree}
 use Rattle.loaded_files.specs.Paths.{Variables}
 use Rattle.loaded_files.specs.Reads.{after, give}
 use Rattle.loaded_files.specs.Refusing.{of_merge, of_subst, of_yaml}
-use Rattle.merge_rules.specs.LongForms.{long_forms}
-use Rattle.merge_rules.specs.declared.refusal.MergeRefusal.{MergeRefusal}
+use Rattle.long_forms.specs.LongForms.{long_forms}
+use Rattle.merge_tables.specs.declared.refusal.MergeRefusal.{MergeRefusal}
 use Rattle.tree_base.specs.Entries.{value_at}
 use Rattle.tree_base.specs.declared.tree.Tree.{Tree}
 use Rattle.yaml_lines.specs.declared.YamlRefusal.{YamlRefusal}

@@ -11,7 +11,7 @@ use Rattle.loaded_files.specs.declared.refusal.LoadRefusal.TheVariants.{BadShape
 use Rattle.loaded_files.proofs.Runs.{given_on, given_out, gives_on, gives_out, ran_on, ran_out}
 use Rattle.loaded_files.proofs.Steps.{given_last}
 use Rattle.interpolate.specs.Walking.{substituted_tree}
-use Rattle.merge_rules.specs.LongForms.{long_forms}
+use Rattle.long_forms.specs.LongForms.{long_forms}
 use Rattle.merge_rules.specs.Overlay.{over_files}
 use Rattle.outside_files.specs.Files.{Contents}
 use Rattle.tree_base.specs.Entries.{value_at}

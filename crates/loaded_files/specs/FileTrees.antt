@@ -8,7 +8,7 @@ use Rattle.loaded_files.specs.Refusing.{of_merge, of_subst, of_yaml}
 use Rattle.loaded_files.specs.declared.reads.Seen.{Seen}
 use Rattle.loaded_files.specs.declared.refusal.LoadRefusal.{LoadRefusal}
 use Rattle.loaded_files.specs.declared.refusal.LoadRefusal.TheVariants.{BadShape}
-use Rattle.merge_rules.specs.LongForms.{long_forms}
+use Rattle.long_forms.specs.LongForms.{long_forms}
 use Rattle.merge_rules.specs.Overlay.{over_files}
 use Rattle.tree_base.specs.Entries.{value_at}
 use Rattle.tree_base.specs.declared.Step.{Step}

@@ -9,8 +9,8 @@ use Rattle.interpolate.specs.declared.refusal.SubstTreeRefusal.{SubstTreeRefusal
 use Rattle.interpolate.specs.declared.refusal.SubstTreeRefusal.TheVariants as substs
 use Rattle.loaded_files.specs.declared.refusal.LoadRefusal.{LoadRefusal}
 use Rattle.loaded_files.specs.declared.refusal.LoadRefusal.TheVariants.{NoHome, Yaml, EnvFile, Subst, Merge, Memory}
-use Rattle.merge_rules.specs.declared.refusal.MergeRefusal.{MergeRefusal}
-use Rattle.merge_rules.specs.declared.refusal.MergeRefusal.TheVariants as merges
+use Rattle.merge_tables.specs.declared.refusal.MergeRefusal.{MergeRefusal}
+use Rattle.merge_tables.specs.declared.refusal.MergeRefusal.TheVariants as merges
 use Rattle.yaml_lines.specs.declared.YamlRefusal.{YamlRefusal}
 use Rattle.yaml_lines.specs.declared.refusal.YamlRefusal.TheVariants as yamls
 

@@ -4,14 +4,15 @@ ghost use Rattle.loaded_files.specs.Refusing.{of_merge, of_subst, of_yaml};
 ghost use Rattle.loaded_files.specs.Reads.{Gives, IsGiven};
 ghost use Rattle.loaded_files.specs.declared.refusal.LoadRefusal.{LoadRefusal};
 ghost use Rattle.interpolate.specs.Walking.{substituted_tree};
-ghost use Rattle.merge_rules.specs.LongForms.{long_forms};
+ghost use Rattle.long_forms.specs.LongForms.{long_forms};
 ghost use Rattle.outside_files.specs.Files.{Contents};
 ghost use Rattle.tree_base.specs.Entries.{value_at};
 ghost use Rattle.yaml_lines.specs.Answers as yaml_answers;
 
 use crate::refusal::LoadRefusal;
 use interpolate::{SubstTreeRefusal, subst_tree};
-use merge_rules::{MergeRefusal, long_forms};
+use long_forms::long_forms;
+use merge_tables::MergeRefusal;
 use std::alloc::Global;
 use tree_base::{Env, Text, Tree};
 use yaml_lines::{YamlRefusal, scan};

@@ -3,7 +3,7 @@ ghost use Rattle.loaded_files.specs.declared.refusal.LoadRefusal.TheVariants as 
 
 use dotenv::EnvRefusal;
 use interpolate::SubstTreeRefusal;
-use merge_rules::MergeRefusal;
+use merge_tables::MergeRefusal;
 use tree_base::{List, Memory, Path, Text};
 use yaml_lines::YamlRefusal;
 

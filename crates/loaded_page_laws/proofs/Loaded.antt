@@ -12,7 +12,7 @@ use Rattle.loaded_page_laws.proofs.Clean.{value_clean, value_own}
 use Rattle.loaded_page_laws.proofs.SettledPages.{page_settled}
 use Rattle.loaded_page_laws.proofs.TypedServices.{services_typed}
 use Rattle.loaded_page_laws.specs.Pages.{IsReadable, PagesAreLoaded, page_tree}
-use Rattle.merge_rules.specs.Answers.{within}
+use Rattle.merge_tables.specs.Answers.{within}
 use Rattle.page_laws.proofs.PageElements.{any, page_out}
 use Rattle.page_laws.proofs.PagesMean.{pages_mean}
 use Rattle.page_word_laws.proofs.PageWords.{pages_printable}

@@ -12,7 +12,7 @@ use Rattle.loaded_files.specs.Paths.{Variables, joined}
 use Rattle.loaded_files.specs.Reads.{file_limit, loaded_from}
 use Rattle.loaded_files.specs.declared.Loaded.{Loaded}
 use Rattle.merge_rules.specs.Alone.{no_twins}
-use Rattle.merge_rules.specs.Attributes.{overlay_rules}
+use Rattle.merge_tables.specs.Attributes.{overlay_rules}
 use Rattle.merge_rules.specs.Laws.{no_mark, own_keys}
 use Rattle.normal_form.specs.ProjectNames.{is_name}
 use Rattle.normal_form.specs.Projects as normal

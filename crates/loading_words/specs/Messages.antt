@@ -9,16 +9,12 @@ use Rattle.loaded_files.specs.declared.refusal.LoadRefusal.{LoadRefusal}
 use Rattle.loaded_files.specs.declared.refusal.ServiceAt.{ServiceAt}
 use Rattle.interpolate.specs.declared.refusal.SubstRefusal.{SubstRefusal}
 use Rattle.interpolate.specs.declared.refusal.SubstTreeRefusal.{SubstTreeRefusal}
-use Rattle.merge_rules.specs.declared.refusal.MergeRefusal.{MergeRefusal}
+use Rattle.merge_tables.specs.declared.refusal.MergeRefusal.{MergeRefusal}
 use Rattle.loading_words.specs.Paths.{path_words}
 use Rattle.loading_words.specs.declared.refusal.TreeRefusal.{TreeRefusal}
 use Rattle.loading_words.specs.declared.refusal.ProjectRefusal.{ProjectRefusal}
 use Rattle.tree_base.specs.declared.Step.{Step}
 use Rattle.yaml_lines.specs.Printed.{refusal_text}
-
--- what isn't built is named by its path
-abbrev pub unbuilt_words : List Step → List ℕ
-unbuilt_words path = path_words path ++ codes ": not built"
 
 -- a line that is refused: its number, and the name of the fault
 abbrev pub line_words : ℕ → List ℕ → List ℕ
@@ -119,7 +115,6 @@ project_words (ProjectRefusal.DependencyCycle services) = cycle_words services
 
 -- what a refusal of a tree says
 abbrev pub refusal_words : TreeRefusal → List ℕ
-refusal_words (TreeRefusal.NotBuilt path) = unbuilt_words path
 refusal_words (TreeRefusal.Name refusal) = project_words refusal
 refusal_words (TreeRefusal.Active refusal) = active_words refusal
 refusal_words (TreeRefusal.Project refusal) = project_words refusal

@@ -4,7 +4,7 @@ use Rattle.active_services.specs.declared.ActiveRefusal.{ActiveRefusal}
 use Rattle.dotenv.specs.declared.refusal.EnvRefusal.{EnvRefusal}
 use Rattle.loaded_files.specs.declared.refusal.LoadRefusal.{LoadRefusal}
 use Rattle.interpolate.specs.declared.refusal.SubstTreeRefusal.{SubstTreeRefusal}
-use Rattle.merge_rules.specs.declared.refusal.MergeRefusal.{MergeRefusal}
+use Rattle.merge_tables.specs.declared.refusal.MergeRefusal.{MergeRefusal}
 use Rattle.loading_words.specs.declared.refusal.TreeRefusal.{TreeRefusal}
 use Rattle.loading_words.specs.declared.refusal.ProjectRefusal.{ProjectRefusal}
 use Rattle.yaml_lines.specs.declared.refusal.YamlRefusal.{YamlRefusal}
@@ -67,7 +67,6 @@ project_status refusal = 2
 
 -- 2 for a project that isn't one or isn't built, 8 for a limit, 9 for memory
 abbrev pub refusal_status : TreeRefusal → ℕ
-refusal_status (TreeRefusal.NotBuilt path) = 2
 refusal_status (TreeRefusal.Name refusal) = project_status refusal
 refusal_status (TreeRefusal.Active refusal) = active_status refusal
 refusal_status (TreeRefusal.Project refusal) = project_status refusal

@@ -13,6 +13,6 @@ mod refusal;
 mod status;
 
 pub use active_services::ActiveRefusal;
-pub use message::{active_words, load_words, project_words, refusal_words, unbuilt_words};
+pub use message::{active_words, load_words, project_words, refusal_words};
 pub use refusal::{ProjectRefusal, TreeRefusal};
 pub use status::{active_status, load_status, project_status, refusal_status};

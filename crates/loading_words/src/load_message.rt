@@ -10,7 +10,7 @@ use crate::path::path_words;
 use dotenv::EnvRefusal;
 use interpolate::{SubstRefusal, SubstTreeRefusal};
 use loaded_files::Kind;
-use merge_rules::MergeRefusal;
+use merge_tables::MergeRefusal;
 use std::alloc::Global;
 use tree_base::{Memory, Path, Text};
 use yaml_lines::YamlRefusal;

@@ -1,5 +1,5 @@
 ghost use Rattle.std.specs.Prelude.{◌≡◌, ◌++◌, IfOk, codes};
-ghost use Rattle.loading_words.specs.Messages.{active_words, cycle_words, load_words, project_words, refusal_words, unbuilt_words};
+ghost use Rattle.loading_words.specs.Messages.{active_words, cycle_words, load_words, project_words, refusal_words};
 ghost use Rattle.active_services.specs.declared.ActiveRefusal.{ActiveRefusal};
 ghost use Rattle.loading_words.specs.Paths.{path_words};
 ghost use Rattle.loading_words.specs.declared.refusal.ProjectRefusal.{ProjectRefusal};
@@ -18,19 +18,11 @@ pub fn refusal_words(alloc: Global, refusal: &TreeRefusal) -> Result<Text, Memor
     ensures { IfOk result (λ words. words ≡ refusal_words refusal.now) }
 {
     match refusal {
-        TreeRefusal::NotBuilt { path } => unbuilt_words(alloc, path),
         TreeRefusal::Name(refusal) => project_words(alloc, refusal),
         TreeRefusal::Active(refusal) => active_words(alloc, refusal),
         TreeRefusal::Project(refusal) => project_words(alloc, refusal),
         TreeRefusal::Memory => Text::from_str(alloc, "memory"),
     }
-}
-
-/// What is said of what isn't built at a path. Memory where there is no memory for it.
-pub fn unbuilt_words(alloc: Global, path: &Path) -> Result<Text, Memory>
-    ensures { IfOk result (λ words. words ≡ unbuilt_words path.now) }
-{
-    behind_path(alloc, path, ": not built")
 }
 
 /// What is said of a file that isn't loaded. Memory where there is no memory for it.

@@ -5,8 +5,6 @@ use tree_base::{List, Path, Text};
 /// Why a tree gives no project. Each refusal has its exit status and its words.
 #[derive(Drop)]
 pub enum TreeRefusal {
-    /// What stands at a path of the tree isn't built yet.
-    NotBuilt { path: Path },
     /// The project has no name.
     Name(ProjectRefusal),
     /// The project has no active services.

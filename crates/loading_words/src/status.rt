@@ -6,7 +6,7 @@ use active_services::ActiveRefusal;
 use dotenv::EnvRefusal;
 use interpolate::SubstTreeRefusal;
 use loaded_files::LoadRefusal;
-use merge_rules::MergeRefusal;
+use merge_tables::MergeRefusal;
 use yaml_lines::YamlRefusal;
 
 /// The exit status of a refusal of a tree: 2 where it isn't built. No memory.
@@ -14,7 +14,6 @@ pub fn refusal_status(refusal: &TreeRefusal) -> u8
     ensures { result ≡ refusal_status refusal.now }
 {
     match refusal {
-        TreeRefusal::NotBuilt { .. } => 2,
         TreeRefusal::Name(refusal) => project_status(refusal),
         TreeRefusal::Active(refusal) => active_status(refusal),
         TreeRefusal::Project(refusal) => project_status(refusal),

@@ -1,3 +1,2 @@
 pub mod PipesInMemory
 pub mod WiresInMemory
-pub mod WireClocks

@@ -4,10 +4,8 @@
 //! making them.
 #![tactic(auto)]
 
-mod failing;
 mod memory_pipe;
 mod memory_wire;
-mod wire_clock;
 
 pub use memory_pipe::MemoryPipe;
 pub use memory_wire::MemoryWire;

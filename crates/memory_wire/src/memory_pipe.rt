@@ -3,8 +3,8 @@ ghost use Rattle.outside_files.specs.Counts.{one_more};
 ghost use Rattle.outside_files.specs.Sinks.{IsWriteOf, taken};
 ghost use Rattle.outside_api.specs.Pipes.{IsGotOf, ToldBy, after_read, after_write, silence};
 
-use crate::failing::Failing;
 use outside_api::{Pipe, PipeAnswer, SinkAnswer};
+use outside_files::Failing;
 use std::alloc::Global;
 use tree_base::{List, Memory};
 
@@ -117,7 +117,8 @@ impl Pipe for MemoryPipe {
     /// Takes the first bytes of a piece. The call fails exactly where its number is among those that are to. No memory.
     fn write(&mut self, piece: &[u8]) -> SinkAnswer
         ensures counted { failed_calls self.old ≤ failed_calls self.new }
-        ensures answer { IsWriteOf piece.now (failed_calls self.old) (failed_calls self.new) result }
+        ensures answer { IsWriteOf piece.now (failed_calls self.old)
+            (failed_calls self.new) result }
         ensures told { ToldBy (after_write (take (taken result) piece.now))
             (Some (talk_of self.old)) (Some (talk_of self.new)) }
         ensures exact { result ≡ write_of self.old piece.now }
@@ -142,7 +143,8 @@ impl Pipe for MemoryPipe {
     fn read(&mut self, room: &mut [u8]) -> PipeAnswer
         requires { 0 < length room.old }
         ensures counted { failed_calls self.old ≤ failed_calls self.new }
-        ensures answer { IsGotOf (length room.old) (failed_calls self.old) (failed_calls self.new) result }
+        ensures answer { IsGotOf (length room.old) (failed_calls self.old)
+            (failed_calls self.new) result }
         ensures told { ToldBy (after_read room.new result) (Some (talk_of self.old))
             (Some (talk_of self.new)) }
         ensures exact { result ≡ read_of self.old (length room.old) }

@@ -4,10 +4,9 @@ ghost use Rattle.memory_wire.specs.PipesInMemory.{failed_calls, talk_of};
 ghost use Rattle.outside_api.specs.Pipes.{silence};
 ghost use Rattle.outside_api.specs.Wires.{Dials};
 
-use crate::failing::Failing;
 use crate::memory_pipe::MemoryPipe;
-use crate::wire_clock::WireClock;
-use outside_api::{DialAnswer, Pipe, Wire};
+use outside_api::{DialAnswer, MemoryClock, Pipe, Wire};
+use outside_files::Failing;
 use std::alloc::Global;
 use tree_base::{List, ReservedList};
 use wires::EvenWire;
@@ -20,7 +19,7 @@ pub struct MemoryWire {
     closed: ReservedList<MemoryPipe>,
     dialled: u64,
     failing: Failing,
-    clock: WireClock,
+    clock: MemoryClock,
     ghost within: { length closed.items ≤ dialled },
     ghost reserved: { dialled ≤ length closed.items + closed.spare },
 }
@@ -42,7 +41,7 @@ impl MemoryWire {
             closed: ReservedList::new(alloc),
             dialled: 0,
             failing: Failing::new(fails),
-            clock: WireClock::new(),
+            clock: MemoryClock::new(),
         }
     }
 
@@ -57,7 +56,7 @@ impl MemoryWire {
 impl Wire for MemoryWire {
     type P = MemoryPipe;
 
-    ghost use Rattle.memory_wire.specs.WireClocks.{counts_of};
+    ghost use Rattle.outside_api.specs.ClockCounts.{counts_of};
     ghost use Rattle.memory_wire.specs.WiresInMemory.{DialsNext, closed_pipes, failing_dials, next_dial_fails, next_pipes};
     ghost use Rattle.memory_wire.specs.declared.memory_pipe.MemoryPipe.{MemoryPipe};
 
@@ -67,7 +66,7 @@ impl Wire for MemoryWire {
 
     ghost faults = { λ wire. wire.failing.failed };
 
-    ghost clock = { λ wire. counts_of wire.clock };
+    ghost clock = { λ wire. counts_of wire.clock.counts };
 
     /// Dials the next connection, which begins anew.
     fn dial(&mut self, _alloc: Global) -> DialAnswer<MemoryPipe>
@@ -79,7 +78,7 @@ impl Wire for MemoryWire {
             → IfSome (Some (talk_of pipe)) (λ talk. talk ≡ silence) × (failed_calls pipe ≡ 0) }
         ensures past { Some (map talk_of (closed_pipes self.new))
             ≡ Some (map talk_of (closed_pipes self.old)) }
-        ensures clock { counts_of self.new.clock ≡ counts_of self.old.clock }
+        ensures clock { counts_of self.new.clock.counts ≡ counts_of self.old.clock.counts }
         ensures next { DialsNext (next_dial_fails self.old) (next_pipes self.old)
             (next_pipes self.new) result }
         ensures fails { failing_dials self.new ≡ failing_dials self.old }

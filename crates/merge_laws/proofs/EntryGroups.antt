@@ -7,11 +7,11 @@ use Rattle.tree_base.specs.Entries.{value_at, with_entry}
 use Rattle.tree_base.specs.declared.tree.Tree.{Tree}
 use Rattle.attribute_paths.specs.Patterns.{below_key}
 use Rattle.attribute_paths.proofs.Trees.{OfAll}
-use Rattle.merge_rules.specs.declared.refusal.MergeRefusal.{MergeRefusal}
-use Rattle.merge_rules.specs.declared.rules.Standing.TheVariants.{Value}
-use Rattle.merge_rules.specs.Attributes.{JoiningRules}
+use Rattle.merge_tables.specs.declared.refusal.MergeRefusal.{MergeRefusal}
+use Rattle.merge_tables.specs.declared.rules.Standing.TheVariants.{Value}
+use Rattle.merge_tables.specs.Attributes.{JoiningRules}
 use Rattle.merge_rules.specs.Laws.{are_apart}
-use Rattle.merge_rules.specs.Uniqueness.{or_null}
+use Rattle.merge_tables.specs.Parts.{or_null}
 use Rattle.merge_laws.proofs.Entries.{Entries, other_value, own_value, same_key, swapped, turned_key, twice}
 use Rattle.merge_laws.proofs.Options.{◌>>?◌, OfGiven, ends, next_next, of_next, same_given, same_next, swaps}
 use Rattle.merge_laws.proofs.Over.{over, put, puts, tree_of}

@@ -9,10 +9,11 @@ use Rattle.tree_base.specs.declared.tree.Tree.TheOpen.{Tree-F}
 use Rattle.tree_base.specs.declared.tree.Tree.TheVariants.{Map, Null, Override, Reset, Scalar, Seq}
 use Rattle.attribute_paths.specs.Patterns.{below_key}
 use Rattle.attribute_paths.proofs.Trees.{of_every}
-use Rattle.merge_rules.specs.declared.rules.Standing.TheVariants.{Value}
-use Rattle.merge_rules.specs.Attributes.{JoiningRules}
+use Rattle.merge_tables.specs.declared.rules.Standing.TheVariants.{Value}
+use Rattle.merge_tables.specs.Attributes.{JoiningRules}
 use Rattle.merge_rules.specs.Overlay.{scalar_over}
-use Rattle.merge_rules.specs.Uniqueness.{or_null, protocol_in, text_in}
+use Rattle.merge_rules.specs.Uniqueness.{protocol_in}
+use Rattle.merge_tables.specs.Parts.{or_null, text_in}
 use Rattle.merge_laws.specs.Grouping.{is_text}
 use Rattle.merge_laws.proofs.Entries.{Entries, other_value, own_value, same_key, turned_key}
 use Rattle.merge_laws.proofs.Options.{◌>>?◌}

@@ -3,7 +3,7 @@ use Rattle.std.proofs.Common.{◌≡◌, ◌∙◌, Bool, true, false, List, [],
 use Rattle.std.proofs.lemmas.Bool.{and_parts}
 use Rattle.std.specs.List.{list_any}
 use Rattle.tree_base.specs.declared.tree.Tree.{Tree, out-Tree}
-use Rattle.merge_rules.specs.declared.rules.EntryKind.{EntryKind}
+use Rattle.merge_tables.specs.declared.rules.EntryKind.{EntryKind}
 use Rattle.merge_rules.specs.Sameness.{same, same_items}
 use Rattle.merge_rules.specs.Uniqueness.{are_one, key_in, same_keys}
 use Rattle.merge_rules.proofs.Sames.{same_self, same_told}

@@ -6,9 +6,10 @@ use Rattle.tree_base.specs.declared.tree.Tree.{Tree, out-Tree, the_lemmas}
 use Rattle.tree_base.specs.declared.tree.Tree.TheOpen.{Tree-F}
 use Rattle.tree_base.specs.declared.tree.Tree.TheVariants.{Map, Null, Override, Reset, Scalar, Seq}
 use Rattle.attribute_paths.proofs.Trees.{of_every}
-use Rattle.merge_rules.specs.declared.rules.EntryKind.{EntryKind}
-use Rattle.merge_rules.specs.declared.rules.EntryKind.TheVariants.{Config, Mount, Port, Secret}
-use Rattle.merge_rules.specs.Uniqueness.{alone, are_one, binding, field, key_by, placed, protocol_of, same_keys, seen, seen_at, text_at, text_in}
+use Rattle.merge_tables.specs.declared.rules.EntryKind.{EntryKind}
+use Rattle.merge_tables.specs.declared.rules.EntryKind.TheVariants.{Config, Mount, Port, Secret}
+use Rattle.merge_rules.specs.Uniqueness.{alone, are_one, binding, key_by, placed, protocol_of, same_keys, seen, seen_at, text_at}
+use Rattle.merge_tables.specs.Parts.{field, text_in}
 use Rattle.merge_laws.specs.Grouping.{by_texts, has_text}
 use Rattle.merge_laws.proofs.Entries.{Entries}
 use Rattle.merge_laws.proofs.Fields.{came, fields_meet, null_leaves, protocol_same, scalar_stays, text_same, text_stays, texts_stay}

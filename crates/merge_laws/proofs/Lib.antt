@@ -5,6 +5,7 @@ pub mod Fields
 pub mod Keys
 pub mod Known
 pub mod ListGroups
+mod Merged
 pub mod Options
 pub mod Over
 pub mod Plain

@@ -3,8 +3,8 @@ use Rattle.std.proofs.Common.{◌≡◌, ◌∙◌, Bool, true, false, not, ◌&
 use Rattle.std.specs.List.{list_any}
 use Rattle.tree_base.specs.declared.tree.Tree.{Tree, out-Tree}
 use Rattle.attribute_paths.proofs.Trees.{OfAll}
-use Rattle.merge_rules.specs.declared.rules.EntryKind.{EntryKind}
-use Rattle.merge_rules.specs.declared.rules.Joining.TheVariants.{Unique}
+use Rattle.merge_tables.specs.declared.rules.EntryKind.{EntryKind}
+use Rattle.merge_tables.specs.declared.rules.Joining.TheVariants.{Unique}
 use Rattle.merge_rules.specs.Uniqueness.{are_one}
 use Rattle.merge_laws.specs.Grouping.{are_several, by_texts}
 use Rattle.merge_laws.proofs.EntryGroups.{Groups, Keeps}

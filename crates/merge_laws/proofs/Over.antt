@@ -11,16 +11,17 @@ use Rattle.tree_base.specs.declared.tree.Tree.TheVariants.{Map, Null, Scalar, Se
 use Rattle.tree_base.specs.declared.Step.TheVariants.{Index, Key}
 use Rattle.attribute_paths.specs.Patterns.{below_key, here}
 use Rattle.attribute_paths.proofs.Trees.{OfAll, of_every}
-use Rattle.merge_rules.specs.declared.refusal.MergeRefusal.{MergeRefusal}
-use Rattle.merge_rules.specs.declared.rules.EntryKind.{EntryKind}
-use Rattle.merge_rules.specs.declared.rules.Joining.{Joining}
-use Rattle.merge_rules.specs.declared.rules.Joining.TheVariants.{Replaced, Unique}
-use Rattle.merge_rules.specs.declared.rules.Standing.{Standing}
-use Rattle.merge_rules.specs.declared.rules.Standing.TheVariants.{Item, Value}
-use Rattle.merge_rules.specs.Answers.{place, under}
-use Rattle.merge_rules.specs.Attributes.{JoiningRules}
+use Rattle.merge_tables.specs.declared.refusal.MergeRefusal.{MergeRefusal}
+use Rattle.merge_tables.specs.declared.rules.EntryKind.{EntryKind}
+use Rattle.merge_tables.specs.declared.rules.Joining.{Joining}
+use Rattle.merge_tables.specs.declared.rules.Joining.TheVariants.{Replaced, Unique}
+use Rattle.merge_tables.specs.declared.rules.Standing.{Standing}
+use Rattle.merge_tables.specs.declared.rules.Standing.TheVariants.{Item, Value}
+use Rattle.merge_tables.specs.Answers.{place, under}
+use Rattle.merge_tables.specs.Attributes.{JoiningRules}
 use Rattle.merge_rules.specs.Overlay.{Lay, entries_below, entries_laid, entries_over, entry_over, entry_placed, entry_taken, item_joined, items_below, items_joined, items_kept, items_laid, laid, layers, one_of, scalar_over, with_value}
-use Rattle.merge_rules.specs.Uniqueness.{are_one, or_null}
+use Rattle.merge_rules.specs.Uniqueness.{are_one}
+use Rattle.merge_tables.specs.Parts.{or_null}
 use Rattle.merge_laws.specs.Grouping.{given}
 use Rattle.merge_laws.proofs.Entries.{Entries}
 use Rattle.merge_laws.proofs.Options.{◌>>?◌, same_next}

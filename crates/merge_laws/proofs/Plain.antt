@@ -9,9 +9,9 @@ use Rattle.tree_base.specs.declared.tree.Tree.{Tree, the_lemmas}
 use Rattle.tree_base.specs.declared.tree.Tree.TheVariants.{Map, Null, Override, Reset, Scalar, Seq}
 use Rattle.attribute_paths.specs.Patterns.{below_key, here}
 use Rattle.attribute_paths.proofs.Trees.{OfAll, of_every}
-use Rattle.merge_rules.specs.Attributes.{JoiningRules}
+use Rattle.merge_tables.specs.Attributes.{JoiningRules}
 use Rattle.merge_rules.specs.Laws.{are_apart}
-use Rattle.merge_rules.specs.Uniqueness.{or_null}
+use Rattle.merge_tables.specs.Parts.{or_null}
 use Rattle.merge_laws.specs.Grouping.{Judged, are_known, is_plain, judged}
 use Rattle.merge_laws.proofs.Entries.{Entries, same_key}
 

@@ -11,13 +11,13 @@ use Rattle.tree_base.specs.declared.tree.Tree.TheVariants.{Map, Null, Scalar, Se
 use Rattle.tree_base.specs.declared.Step.TheVariants.{Key}
 use Rattle.attribute_paths.specs.Patterns.{below_key, here}
 use Rattle.attribute_paths.proofs.Trees.{of_every}
-use Rattle.merge_rules.specs.declared.refusal.MergeRefusal.{MergeRefusal}
-use Rattle.merge_rules.specs.declared.rules.Standing.TheVariants.{Value}
-use Rattle.merge_rules.specs.Answers.{under, within}
-use Rattle.merge_rules.specs.Attributes.{JoiningRules, overlay_rules}
+use Rattle.merge_tables.specs.declared.refusal.MergeRefusal.{MergeRefusal}
+use Rattle.merge_tables.specs.declared.rules.Standing.TheVariants.{Value}
+use Rattle.merge_tables.specs.Answers.{under, within}
+use Rattle.merge_tables.specs.Attributes.{JoiningRules, overlay_rules}
 use Rattle.merge_rules.specs.Laws.{are_apart}
 use Rattle.merge_rules.specs.Overlay.{entries_below, entries_over, items_below, items_joined, items_kept, laid, layers, over_files, scalar_over, with_value}
-use Rattle.merge_rules.specs.Uniqueness.{or_null}
+use Rattle.merge_tables.specs.Parts.{or_null}
 use Rattle.merge_laws.specs.Unspoken.{UnspokenStays, UnspokenStaysInFiles, entries_of, value_under}
 use Rattle.merge_laws.proofs.Clean.{AreClean, IsClean, bare, map_clean, override_marks, reset_marks}
 use Rattle.merge_laws.proofs.Entries.{Entries, other_value, own_value, same_key}

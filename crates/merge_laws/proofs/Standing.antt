@@ -10,15 +10,16 @@ use Rattle.tree_base.specs.declared.tree.Tree.{Tree, out-Tree, the_lemmas}
 use Rattle.tree_base.specs.declared.tree.Tree.TheVariants.{Map, Null, Scalar, Seq}
 use Rattle.attribute_paths.specs.Patterns.{below_key, here}
 use Rattle.attribute_paths.proofs.Trees.{OfAll, of_every}
-use Rattle.merge_rules.specs.declared.refusal.MergeRefusal.{MergeRefusal}
-use Rattle.merge_rules.specs.declared.rules.EntryKind.{EntryKind}
-use Rattle.merge_rules.specs.declared.rules.Joining.{Joining}
-use Rattle.merge_rules.specs.declared.rules.Joining.TheVariants.{Replaced, Unique}
-use Rattle.merge_rules.specs.declared.rules.Standing.{Standing}
-use Rattle.merge_rules.specs.declared.rules.Standing.TheVariants.{Item, Value}
-use Rattle.merge_rules.specs.Attributes.{JoiningRules}
+use Rattle.merge_tables.specs.declared.refusal.MergeRefusal.{MergeRefusal}
+use Rattle.merge_tables.specs.declared.rules.EntryKind.{EntryKind}
+use Rattle.merge_tables.specs.declared.rules.Joining.{Joining}
+use Rattle.merge_tables.specs.declared.rules.Joining.TheVariants.{Replaced, Unique}
+use Rattle.merge_tables.specs.declared.rules.Standing.{Standing}
+use Rattle.merge_tables.specs.declared.rules.Standing.TheVariants.{Item, Value}
+use Rattle.merge_tables.specs.Attributes.{JoiningRules}
 use Rattle.merge_rules.specs.Overlay.{entries_below, items_below, items_kept, laid}
-use Rattle.merge_rules.specs.Uniqueness.{are_one, or_null}
+use Rattle.merge_rules.specs.Uniqueness.{are_one}
+use Rattle.merge_tables.specs.Parts.{or_null}
 use Rattle.merge_laws.specs.Grouping.{are_known, are_several, by_texts, given}
 use Rattle.merge_laws.proofs.Entries.{Entries, put_new}
 use Rattle.merge_laws.proofs.Options.{◌>>?◌}

@@ -8,16 +8,16 @@ use Rattle.tree_base.specs.declared.tree.Tree.TheVariants.{Map, Null, Scalar, Se
 use Rattle.tree_base.specs.declared.tree.Tree.TheOpen.{Tree-F}
 use Rattle.attribute_paths.specs.Patterns.{below_key, here}
 use Rattle.attribute_paths.proofs.Trees.{OfAll, of_every}
-use Rattle.merge_rules.specs.declared.refusal.MergeRefusal.{MergeRefusal}
-use Rattle.merge_rules.specs.declared.refusal.MergeRefusal.TheVariants.{TooManyNodes, TooMuchText}
-use Rattle.merge_rules.specs.declared.rules.EntryKind.{EntryKind}
-use Rattle.merge_rules.specs.declared.rules.Joining.{Joining}
-use Rattle.merge_rules.specs.declared.rules.Joining.TheVariants.{Replaced, Unique}
-use Rattle.merge_rules.specs.declared.rules.Standing.TheVariants.{Value}
-use Rattle.merge_rules.specs.Answers.{within}
-use Rattle.merge_rules.specs.Attributes.{JoiningRules, overlay_rules}
+use Rattle.merge_tables.specs.declared.refusal.MergeRefusal.{MergeRefusal}
+use Rattle.merge_tables.specs.declared.refusal.MergeRefusal.TheVariants.{TooManyNodes, TooMuchText}
+use Rattle.merge_tables.specs.declared.rules.EntryKind.{EntryKind}
+use Rattle.merge_tables.specs.declared.rules.Joining.{Joining}
+use Rattle.merge_tables.specs.declared.rules.Joining.TheVariants.{Replaced, Unique}
+use Rattle.merge_tables.specs.declared.rules.Standing.TheVariants.{Value}
+use Rattle.merge_tables.specs.Answers.{within}
+use Rattle.merge_tables.specs.Attributes.{JoiningRules, overlay_rules}
 use Rattle.merge_rules.specs.Overlay.{items_kept, laid, over_files, scalar_over}
-use Rattle.merge_rules.specs.Uniqueness.{or_null}
+use Rattle.merge_tables.specs.Parts.{or_null}
 use Rattle.merge_laws.specs.Grouping.{PlainFilesGroup, PlainStays, PlainTreesGroup, are_known, given}
 use Rattle.merge_laws.proofs.Entries.{Entries}
 use Rattle.merge_laws.proofs.EntryGroups.{Groups, Keeps, entries_group, puts_keeps}

@@ -3,9 +3,9 @@ use Rattle.std.proofs.Common.{◌≡◌, ◌∙◌, ℕ, List, Option, None, Som
 use Rattle.tree_base.specs.declared.tree.Tree.{Tree, out-Tree, the_lemmas}
 use Rattle.tree_base.specs.declared.tree.Tree.TheVariants.{Map, Null, Scalar, Seq}
 use Rattle.attribute_paths.specs.Patterns.{here}
-use Rattle.merge_rules.specs.declared.refusal.MergeRefusal.{MergeRefusal}
-use Rattle.merge_rules.specs.declared.rules.Standing.TheVariants.{Value}
-use Rattle.merge_rules.specs.Attributes.{JoiningRules}
+use Rattle.merge_tables.specs.declared.refusal.MergeRefusal.{MergeRefusal}
+use Rattle.merge_tables.specs.declared.rules.Standing.TheVariants.{Value}
+use Rattle.merge_tables.specs.Attributes.{JoiningRules}
 use Rattle.merge_rules.specs.Overlay.{entries_below, items_below, items_kept, scalar_over}
 use Rattle.merge_laws.specs.Grouping.{given}
 use Rattle.merge_laws.proofs.Entries.{Entries}

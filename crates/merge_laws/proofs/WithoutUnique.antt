@@ -5,9 +5,9 @@ use Rattle.std.specs.Str.{bytes_eq}
 use Rattle.tree_base.specs.declared.tree.Tree.{Tree}
 use Rattle.attribute_paths.specs.Patterns.{Pattern, any_item, any_key, below_key, here, left_at_key, named, said_by}
 use Rattle.attribute_paths.proofs.Trees.{OfAll, of_every}
-use Rattle.merge_rules.specs.declared.rules.Joining.{Joining}
-use Rattle.merge_rules.specs.declared.rules.Joining.TheVariants.{Replaced, Unique}
-use Rattle.merge_rules.specs.Attributes.{JoiningRules}
+use Rattle.merge_tables.specs.declared.rules.Joining.{Joining}
+use Rattle.merge_tables.specs.declared.rules.Joining.TheVariants.{Replaced, Unique}
+use Rattle.merge_tables.specs.Attributes.{JoiningRules}
 use Rattle.merge_laws.specs.Grouping.{WithoutUniquePlain, are_known, has_no_unique, makes_unique}
 use Rattle.merge_laws.proofs.Clean.{AreClean, IsClean, map_clean, override_marks, reset_marks, seq_clean}
 use Rattle.merge_laws.proofs.Entries.{Entries}

@@ -1,3 +1,4 @@
 pub mod Grouping
+pub mod OneFile
 pub mod Twice
 pub mod Unspoken

@@ -2,7 +2,7 @@
 use Rattle.std.specs.Prelude.{◌≡◌, ℕ, List, [], ◌∷◌, true, codes, Ok}
 use Rattle.tree_base.specs.Answers.{◌>>=◌}
 use Rattle.tree_base.specs.declared.Tree.{Tree, Map, Scalar, Seq}
-use Rattle.merge_rules.specs.Attributes.{overlay_rules}
+use Rattle.merge_tables.specs.Attributes.{overlay_rules}
 use Rattle.merge_rules.specs.Overlay.{over_files}
 use Rattle.merge_laws.specs.Grouping.{is_plain}
 

@@ -7,8 +7,10 @@
 
 mod examples;
 mod grouping;
+mod one_file;
 mod unspoken;
 
 pub use examples::{grown_differs, ports_are_plain, twice_differs};
 pub use grouping::{plain_files_group, plain_stays, plain_trees_group, without_unique_plain};
+pub use one_file::one_file_is_its_long_form;
 pub use unspoken::{unspoken_stays, unspoken_stays_in_files};

@@ -10,44 +10,23 @@ use Rattle.tree_base.specs.declared.Step.TheVariants.{Key}
 use Rattle.tree_base.specs.declared.Tree.{Tree, Map}
 use Rattle.attribute_paths.specs.Patterns.{below_key}
 use Rattle.attribute_paths.proofs.Walks.{entries_are, entry_next, item_next, no_entry}
-use Rattle.merge_rules.specs.declared.rules.Joining.{Joining}
-use Rattle.merge_rules.specs.declared.rules.Standing.TheVariants.{Item, Value}
+use Rattle.merge_tables.specs.declared.rules.Joining.{Joining}
+use Rattle.merge_tables.specs.declared.rules.Standing.TheVariants.{Item, Value}
 use Rattle.merge_rules.specs.Alone.{JoinsNew, StandsAlone}
-use Rattle.merge_rules.specs.Answers.{under}
-use Rattle.merge_rules.specs.Attributes.{JoiningRules}
+use Rattle.merge_tables.specs.Answers.{under}
+use Rattle.merge_tables.specs.Attributes.{JoiningRules}
 use Rattle.merge_rules.specs.Overlay.{Lay, entries_over, entry_over, item_joined, items_joined, laid, layers, with_value}
-use Rattle.merge_rules.specs.Uniqueness.{or_null}
-use Rattle.merge_rules.proofs.Answering.{goes_on}
+use Rattle.merge_tables.specs.Parts.{or_null}
+use Rattle.merge_tables.proofs.Answering.{goes_on}
+use Rattle.merge_tables.proofs.Taking.{none_more, take_all, take_next}
 use Rattle.merge_rules.proofs.Unchanged.{map_alone, put_new}
 
 module _ {X : Type 0} where
-  -- one more of the first
-  pub take_next : (xs : List X) (i : ℕ) (x : X) → slice_get xs i ≡ Some x → take (i + 1) xs ≡ take i xs ++ x ∷ []
-  take_next xs i x e = rw add-one (next xs i x e)
-    where
-      next : (xs : List X) (i : ℕ) (x : X) → slice_get xs i ≡ Some x → take (suc i) xs ≡ take i xs ++ x ∷ []
-      next [] i x e = absurd cc
-      next (y ∷ xs) zero x e = let same : y ≡ x = cc in ap (λ (t : X). t ∷ []) same
-      next (y ∷ xs) (suc i) x e = ap (λ (l : List X). y ∷ l) (next xs i x e)
-
-  -- the first are all, where there are no more
-  pub take_all : (xs : List X) (i : ℕ) → length xs ≤ i → take i xs ≡ xs
-  take_all [] zero h = refl
-  take_all [] (suc i) h = refl
-  take_all (x ∷ xs) zero h = absurd (omega arith)
-  take_all (x ∷ xs) (suc i) h = ap (λ (l : List X). x ∷ l) (take_all xs i (omega arith))
-
   none_left : {Y : Type 0} (f : X → Y) (xs : List X) (i : ℕ) → length xs ≤ i → drop i (map f xs) ≡ []
   none_left f [] zero h = refl
   none_left f [] (suc i) h = refl
   none_left f (x ∷ xs) zero h = absurd (omega arith)
   none_left f (x ∷ xs) (suc i) h = none_left f xs i (omega arith)
-
-  pub none_more : (xs : List X) (i : ℕ) → length xs ≤ i → drop i xs ≡ []
-  none_more [] zero h = refl
-  none_more [] (suc i) h = refl
-  none_more (x ∷ xs) zero h = absurd (omega arith)
-  none_more (x ∷ xs) (suc i) h = none_more xs i (omega arith)
 
   all_at : (P : X → Type 0) (xs : List X) (i : ℕ) (x : X) → AllByRecursion P xs → slice_get xs i ≡ Some x → P x
   all_at P [] i x h e = absurd cc

@@ -10,16 +10,16 @@ use Rattle.tree_base.specs.declared.Tree.{Tree, Map, Null, Override, Reset, Scal
 use Rattle.tree_base.proofs.Pairs.{put_twice}
 use Rattle.attribute_paths.proofs.Walks.{entries_are, put_removed}
 use Rattle.attribute_paths.specs.Patterns.{below_key, here}
-use Rattle.merge_rules.specs.declared.refusal.MergeRefusal.{MergeRefusal}
-use Rattle.merge_rules.specs.declared.rules.Joining.{Joining}
-use Rattle.merge_rules.specs.declared.rules.Joining.TheVariants.{Replaced, Unique}
-use Rattle.merge_rules.specs.declared.rules.Standing.{Standing}
-use Rattle.merge_rules.specs.declared.rules.Standing.TheVariants.{Item, Value}
-use Rattle.merge_rules.specs.Answers.{Fails, under}
-use Rattle.merge_rules.specs.Attributes.{JoiningRules}
+use Rattle.merge_tables.specs.declared.refusal.MergeRefusal.{MergeRefusal}
+use Rattle.merge_tables.specs.declared.rules.Joining.{Joining}
+use Rattle.merge_tables.specs.declared.rules.Joining.TheVariants.{Replaced, Unique}
+use Rattle.merge_tables.specs.declared.rules.Standing.{Standing}
+use Rattle.merge_tables.specs.declared.rules.Standing.TheVariants.{Item, Value}
+use Rattle.merge_tables.specs.Answers.{Fails, under}
+use Rattle.merge_tables.specs.Attributes.{JoiningRules}
 use Rattle.merge_rules.specs.Overlay.{Lay, entries_below, entries_laid, entries_over, entry_over, entry_taken, item_joined, items_laid, kept_below, laid, layers, one_of, scalar_over, with_value}
-use Rattle.merge_rules.specs.Uniqueness.{or_null}
-use Rattle.merge_rules.proofs.Answering.{fails_on, goes_on}
+use Rattle.merge_tables.specs.Parts.{or_null}
+use Rattle.merge_tables.proofs.Answering.{fails_on, goes_on}
 
 -- a mapping laid over entries, by its keys and values
 pub map_goes : (lines : JoiningRules) (es : List (List ℕ × Tree)) (keys : List (List ℕ)) (values : List Tree) (base : Tree) (below : List (List ℕ × Tree)) → keys ≡ keys_of es → values ≡ values_of es

@@ -4,14 +4,14 @@ use Rattle.tree_base.specs.Answers.{◌>>=◌}
 use Rattle.tree_base.specs.Trees.{node_count, text_size}
 use Rattle.tree_base.specs.declared.tree.Tree.{Tree}
 use Rattle.tree_base.specs.declared.tree.Tree.TheVariants.{Null}
-use Rattle.merge_rules.specs.declared.refusal.MergeRefusal.{MergeRefusal}
-use Rattle.merge_rules.specs.declared.refusal.MergeRefusal.TheVariants.{TooManyNodes, TooMuchText}
-use Rattle.merge_rules.specs.declared.rules.Standing.TheVariants.{Value}
-use Rattle.merge_rules.specs.Answers.{within}
-use Rattle.merge_rules.specs.Attributes.{overlay_rules}
+use Rattle.merge_tables.specs.declared.refusal.MergeRefusal.{MergeRefusal}
+use Rattle.merge_tables.specs.declared.refusal.MergeRefusal.TheVariants.{TooManyNodes, TooMuchText}
+use Rattle.merge_tables.specs.declared.rules.Standing.TheVariants.{Value}
+use Rattle.merge_tables.specs.Answers.{within}
+use Rattle.merge_tables.specs.Attributes.{overlay_rules}
 use Rattle.merge_rules.specs.Laws.{NoMarkIsLeft, NullLeaves}
 use Rattle.merge_rules.specs.Overlay.{laid, over_files, overlaid}
-use Rattle.merge_rules.specs.Uniqueness.{or_null}
+use Rattle.merge_tables.specs.Parts.{or_null}
 use Rattle.merge_rules.proofs.Laying.{null_lays}
 use Rattle.merge_rules.proofs.Unmarked.{GivesClean, IsClean, all_clean, null_clean}
 

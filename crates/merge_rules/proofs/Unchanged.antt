@@ -13,19 +13,20 @@ use Rattle.tree_base.specs.declared.tree.Tree.TheVariants.{Map, Null, Override, 
 use Rattle.tree_base.specs.declared.Step.TheVariants.{Key}
 use Rattle.attribute_paths.proofs.Trees.{OfAll, of_every}
 use Rattle.attribute_paths.specs.Patterns.{Pattern, any_item, any_key, below_key, here, named}
-use Rattle.merge_rules.specs.declared.refusal.MergeRefusal.{MergeRefusal}
-use Rattle.merge_rules.specs.declared.rules.EntryKind.{EntryKind}
-use Rattle.merge_rules.specs.declared.rules.Joining.{Joining}
-use Rattle.merge_rules.specs.declared.rules.Joining.TheVariants.{Replaced, Unique}
-use Rattle.merge_rules.specs.declared.rules.Standing.{Standing}
-use Rattle.merge_rules.specs.declared.rules.Standing.TheVariants.{Item, Value}
-use Rattle.merge_rules.specs.Alone.{FilesStand, StandsAlone, entries_in, has_no_twins, items_in, led_to, no_twins, none_is_one}
-use Rattle.merge_rules.specs.Answers.{under, within}
-use Rattle.merge_rules.specs.Attributes.{JoiningRules, overlay_rules}
+use Rattle.merge_tables.specs.declared.refusal.MergeRefusal.{MergeRefusal}
+use Rattle.merge_tables.specs.declared.rules.EntryKind.{EntryKind}
+use Rattle.merge_tables.specs.declared.rules.Joining.{Joining}
+use Rattle.merge_tables.specs.declared.rules.Joining.TheVariants.{Replaced, Unique}
+use Rattle.merge_tables.specs.declared.rules.Standing.{Standing}
+use Rattle.merge_tables.specs.declared.rules.Standing.TheVariants.{Item, Value}
+use Rattle.merge_rules.specs.Alone.{FilesStand, StandsAlone, has_no_twins, led_to, no_twins, none_is_one}
+use Rattle.merge_tables.specs.Parts.{entries_in, items_in, or_null}
+use Rattle.merge_tables.specs.Answers.{under, within}
+use Rattle.merge_tables.specs.Attributes.{JoiningRules, overlay_rules}
 use Rattle.merge_rules.specs.Laws.{TreesStand, are_apart, no_mark, own_keys}
 use Rattle.merge_rules.specs.Overlay.{entries_over, entry_over, entry_placed, entry_taken, item_joined, items_joined, items_kept, laid, layers, one_of, over_files, with_value}
-use Rattle.merge_rules.specs.Uniqueness.{are_one, or_null}
-use Rattle.merge_rules.proofs.Answering.{goes_on}
+use Rattle.merge_rules.specs.Uniqueness.{are_one}
+use Rattle.merge_tables.proofs.Answering.{goes_on}
 use Rattle.merge_rules.proofs.Laying.{null_lays}
 use Rattle.merge_rules.proofs.Unmarked.{AreClean, IsClean, map_cleans, seq_cleans}
 

@@ -11,18 +11,19 @@ use Rattle.tree_base.specs.declared.tree.Tree.TheFolds.{fold_out-Tree, map-Tree}
 use Rattle.tree_base.specs.declared.tree.Tree.TheOpen.{Tree-F}
 use Rattle.tree_base.specs.declared.tree.Tree.TheVariants.{Map, Null, Scalar, Seq}
 use Rattle.tree_base.specs.declared.Step.TheVariants.{Index, Key}
-use Rattle.merge_rules.specs.declared.refusal.MergeRefusal.{MergeRefusal}
-use Rattle.merge_rules.specs.declared.rules.EntryKind.{EntryKind}
-use Rattle.merge_rules.specs.declared.rules.Joining.{Joining}
-use Rattle.merge_rules.specs.declared.rules.Joining.TheVariants.{Replaced, Unique}
-use Rattle.merge_rules.specs.declared.rules.Standing.{Standing}
-use Rattle.merge_rules.specs.declared.rules.Standing.TheVariants.{Item, Value}
-use Rattle.merge_rules.specs.Answers.{place, under}
-use Rattle.merge_rules.specs.Attributes.{JoiningRules}
+use Rattle.merge_tables.specs.declared.refusal.MergeRefusal.{MergeRefusal}
+use Rattle.merge_tables.specs.declared.rules.EntryKind.{EntryKind}
+use Rattle.merge_tables.specs.declared.rules.Joining.{Joining}
+use Rattle.merge_tables.specs.declared.rules.Joining.TheVariants.{Replaced, Unique}
+use Rattle.merge_tables.specs.declared.rules.Standing.{Standing}
+use Rattle.merge_tables.specs.declared.rules.Standing.TheVariants.{Item, Value}
+use Rattle.merge_tables.specs.Answers.{place, under}
+use Rattle.merge_tables.specs.Attributes.{JoiningRules}
 use Rattle.merge_rules.specs.Laws.{no_mark, no_mark_step}
 use Rattle.merge_rules.specs.Overlay.{entries_below, entries_over, entry_over, entry_placed, entry_taken, item_joined, items_below, items_joined, items_kept, kept_below, laid, layers, one_of, scalar_over, with_value}
 use Rattle.attribute_paths.specs.Patterns.{below_key, here}
-use Rattle.merge_rules.specs.Uniqueness.{or_null, place_of}
+use Rattle.merge_rules.specs.Uniqueness.{place_of}
+use Rattle.merge_tables.specs.Parts.{or_null}
 use Rattle.attribute_paths.proofs.Trees.{OfAll, of_every}
 use Rattle.merge_rules.proofs.Laying.{map_lays, null_lays, override_lays, reset_lays, scalar_lays, seq_lays}
 

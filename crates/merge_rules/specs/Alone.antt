@@ -5,27 +5,17 @@ use Rattle.std.specs.Str.{bytes_eq}
 use Rattle.tree_base.specs.declared.Tree.{Tree, out-Tree, Null}
 use Rattle.tree_base.specs.declared.Tree.TheOpen.{Tree-F}
 use Rattle.attribute_paths.specs.Patterns.{Pattern, any_item, any_key, named}
-use Rattle.merge_rules.specs.declared.rules.EntryKind.{EntryKind}
-use Rattle.merge_rules.specs.declared.rules.Joining.{Joining}
-use Rattle.merge_rules.specs.declared.rules.Joining.TheVariants.{Replaced, Unique}
-use Rattle.merge_rules.specs.declared.rules.Standing.{Standing}
-use Rattle.merge_rules.specs.declared.rules.Standing.TheVariants.{Item}
-use Rattle.merge_rules.specs.Answers.{within}
-use Rattle.merge_rules.specs.Attributes.{JoiningRules, overlay_rules}
+use Rattle.merge_tables.specs.declared.rules.EntryKind.{EntryKind}
+use Rattle.merge_tables.specs.declared.rules.Joining.{Joining}
+use Rattle.merge_tables.specs.declared.rules.Joining.TheVariants.{Replaced, Unique}
+use Rattle.merge_tables.specs.declared.rules.Standing.{Standing}
+use Rattle.merge_tables.specs.declared.rules.Standing.TheVariants.{Item}
+use Rattle.merge_tables.specs.Answers.{within}
+use Rattle.merge_tables.specs.Attributes.{JoiningRules, overlay_rules}
 use Rattle.merge_rules.specs.Laws.{no_mark, own_keys}
-use Rattle.merge_rules.specs.LongForms.{long_forms}
 use Rattle.merge_rules.specs.Overlay.{Lay, item_joined, laid, over_files}
 use Rattle.merge_rules.specs.Uniqueness.{are_one}
-
--- the entries of a mapping
-abbrev pub entries_in : Tree-F Tree → List (List ℕ × Tree)
-entries_in (Tree-F.Map entries) = entries
-entries_in other = []
-
--- the items of a sequence
-abbrev pub items_in : Tree-F Tree → List Tree
-items_in (Tree-F.Seq items) = items
-items_in other = []
+use Rattle.merge_tables.specs.Parts.{entries_in, items_in}
 
 -- the trees that a path leads to
 abbrev pub led_to : Pattern → Tree → List Tree
@@ -59,8 +49,3 @@ JoinsNew joining items item = (lay : Lay) → lay Item [] Null ≡ Ok (Some item
 -- a tree without marks in which no two entries are one, laid over nothing, is that tree, as far as it is within the limits
 abbrev pub FilesStand : Type 0
 FilesStand = (tree : Tree) → no_mark tree ≡ true → own_keys tree ≡ true → no_twins overlay_rules tree ≡ true → over_files Null tree ≡ within tree
-
--- so one file alone merges to its long form
-abbrev pub OneFileIsItsLongForm : Type 0
-OneFileIsItsLongForm =
-    (file long : Tree) → long_forms file ≡ Ok long → no_mark long ≡ true → own_keys long ≡ true → no_twins overlay_rules long ≡ true → over_files Null long ≡ Ok long

@@ -5,9 +5,8 @@ use Rattle.std.specs.Map.{keys_of, values_of}
 use Rattle.std.specs.Str.{bytes_eq}
 use Rattle.tree_base.specs.declared.Tree.{Tree, fold-Tree, Null}
 use Rattle.tree_base.specs.declared.Tree.TheOpen.{Tree-F}
-use Rattle.merge_rules.specs.declared.rules.Standing.TheVariants.{Value}
-use Rattle.merge_rules.specs.Answers.{within}
-use Rattle.merge_rules.specs.LongForms.{long_forms}
+use Rattle.merge_tables.specs.declared.rules.Standing.TheVariants.{Value}
+use Rattle.merge_tables.specs.Answers.{within}
 use Rattle.merge_rules.specs.Overlay.{laid, over_files, overlaid}
 
 -- whether no mark stands in a tree, by what says so of its parts
@@ -52,7 +51,3 @@ NullLeaves = (base : Tree) → over_files base Null ≡ within base
 -- no mark is left in a merged tree
 abbrev pub NoMarkIsLeft : Type 0
 NoMarkIsLeft = (base over tree : Tree) → overlaid base over ≡ Ok tree → no_mark tree ≡ true
-
--- what is in long forms stays as it is
-abbrev pub LongFormsStay : Type 0
-LongFormsStay = (tree long : Tree) → long_forms tree ≡ Ok long → long_forms long ≡ Ok long

@@ -1,10 +1,5 @@
 pub mod Alone
-pub mod Answers
-pub mod Attributes
-pub mod Fields
 pub mod Laws
-pub mod LongForms
 pub mod Overlay
 pub mod Sameness
-pub mod Spots
 pub mod Uniqueness

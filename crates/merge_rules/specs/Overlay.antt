@@ -5,18 +5,19 @@ use Rattle.tree_base.specs.Entries.{value_at, with_entry, without_entry}
 use Rattle.tree_base.specs.declared.Tree.{Tree, fold-Tree, out-Tree, Null, Scalar, Map, Seq}
 use Rattle.tree_base.specs.declared.Tree.TheOpen.{Tree-F}
 use Rattle.tree_base.specs.declared.Step.TheVariants.{Key, Index}
-use Rattle.merge_rules.specs.declared.refusal.MergeRefusal.{MergeRefusal}
-use Rattle.merge_rules.specs.declared.refusal.MergeRefusal.TheVariants.{KindMismatch}
-use Rattle.merge_rules.specs.declared.rules.EntryKind.{EntryKind}
-use Rattle.merge_rules.specs.declared.rules.Joining.{Joining}
-use Rattle.merge_rules.specs.declared.rules.Joining.TheVariants.{Replaced, Unique}
-use Rattle.merge_rules.specs.declared.rules.Standing.{Standing}
-use Rattle.merge_rules.specs.declared.rules.Standing.TheVariants.{Value, Item}
-use Rattle.merge_rules.specs.Answers.{under, place, within}
-use Rattle.merge_rules.specs.Attributes.{JoiningRules, overlay_rules}
-use Rattle.merge_rules.specs.Spots.{service_rules}
+use Rattle.merge_tables.specs.declared.refusal.MergeRefusal.{MergeRefusal}
+use Rattle.merge_tables.specs.declared.refusal.MergeRefusal.TheVariants.{KindMismatch}
+use Rattle.merge_tables.specs.declared.rules.EntryKind.{EntryKind}
+use Rattle.merge_tables.specs.declared.rules.Joining.{Joining}
+use Rattle.merge_tables.specs.declared.rules.Joining.TheVariants.{Replaced, Unique}
+use Rattle.merge_tables.specs.declared.rules.Standing.{Standing}
+use Rattle.merge_tables.specs.declared.rules.Standing.TheVariants.{Value, Item}
+use Rattle.merge_tables.specs.Answers.{under, place, within}
+use Rattle.merge_tables.specs.Attributes.{JoiningRules, overlay_rules}
+use Rattle.merge_tables.specs.Spots.{service_rules}
 use Rattle.attribute_paths.specs.Patterns.{below_key, here}
-use Rattle.merge_rules.specs.Uniqueness.{or_null, place_of}
+use Rattle.merge_rules.specs.Uniqueness.{place_of}
+use Rattle.merge_tables.specs.Parts.{or_null}
 
 -- what a tree makes of the one that it is laid over, by how it stands and by the rules that hold there: a tree, or none where that is taken away.
 -- What it is laid over is null where nothing stands there

@@ -6,21 +6,9 @@ use Rattle.tree_base.specs.Entries.{value_at}
 use Rattle.tree_base.specs.declared.Tree.{Tree, out-Tree, Null, Scalar}
 use Rattle.tree_base.specs.declared.Tree.TheOpen.{Tree-F}
 use Rattle.merge_rules.specs.Sameness.{same, same_items}
-use Rattle.merge_rules.specs.declared.rules.EntryKind.{EntryKind}
-use Rattle.merge_rules.specs.declared.rules.EntryKind.TheVariants.{Port, Mount, Secret, Config}
-
--- a tree that may not be there, where null is as good as none
-abbrev pub or_null : Option Tree → Tree
-or_null tree = unwrap_or tree Null
-
--- a field of an entry
-abbrev pub field : List (List ℕ × Tree) → List ℕ → Tree
-field entries name = or_null (value_at entries name)
-
--- the text of a tree that is a scalar
-abbrev pub text_in : Tree-F Tree → Option (List ℕ)
-text_in (Tree-F.Scalar text) = Some text
-text_in other = None
+use Rattle.merge_tables.specs.declared.rules.EntryKind.{EntryKind}
+use Rattle.merge_tables.specs.declared.rules.EntryKind.TheVariants.{Port, Mount, Secret, Config}
+use Rattle.merge_tables.specs.Parts.{field, text_in}
 
 -- the text of a field that is a scalar
 abbrev pub text_at : List (List ℕ × Tree) → List ℕ → Option (List ℕ)

@@ -4,11 +4,10 @@ ghost use Rattle.std.specs.Str.{bytes_eq};
 ghost use Rattle.tree_base.specs.declared.Tree.{Tree};
 ghost use Rattle.merge_rules.specs.Alone.{JoinsNew, StandsAlone};
 ghost use Rattle.merge_rules.specs.Overlay.{entries_over, items_joined, laid, layers};
-ghost use Rattle.merge_rules.specs.Spots.{rules_of};
+ghost use Rattle.merge_tables.specs.Spots.{rules_of};
 
 use crate::keys::place_of;
-use crate::rules::Joining;
-use crate::spot::{Spot, joining_at, spot_below};
+use merge_tables::{Joining, Spot, joining_at, spot_below};
 use tree_base::{Map, Text, Tree};
 
 /// Whether a tree, laid over nothing at a spot, is seen to be that tree: it has no mark, and no two entries of a list
@@ -30,7 +29,8 @@ pub fn stands(tree: &Tree, spot: Spot) -> bool
 /// Whether each value of a mapping stands.
 #[cycle(alone)]
 fn map_stands(entries: &Map, spot: Spot) -> bool
-    ensures { IsTrue result → entries_over (rules_of spot) (layers entries.now) [] ≡ Ok entries.now }
+    ensures { IsTrue result → entries_over (rules_of spot) (layers entries.now) []
+        ≡ Ok entries.now }
 {
     entries.len() == 0 || values_stand(entries.values(), entries.keys(), spot)
 }

@@ -3,9 +3,10 @@ ghost use Rattle.std.specs.Option.{option_copied, option_map};
 ghost use Rattle.std.specs.Str.{bytes_eq};
 ghost use Rattle.tree_base.specs.declared.Tree.{Tree};
 ghost use Rattle.merge_rules.specs.Sameness.{same, same_items};
-ghost use Rattle.merge_rules.specs.Uniqueness.{alone, are_one, binding, field, is_relative, key_by, place_of, placed, port_key, protocol_of, same_keys, seen, text_at};
+ghost use Rattle.merge_rules.specs.Uniqueness.{alone, are_one, binding, is_relative, key_by, place_of, placed, port_key, protocol_of, same_keys, seen, text_at};
+ghost use Rattle.merge_tables.specs.Parts.{field};
 
-use crate::rules::EntryKind;
+use merge_tables::EntryKind;
 use tree_base::{Map, Text, Tree};
 
 /// The place of the first of some items that is one with an item. No memory.

@@ -1,3 +1,4 @@
+ghost use Rattle.merge_rules.specs.Alone.{FilesStand};
 ghost use Rattle.merge_rules.specs.Laws.{NoMarkIsLeft, NullLeaves, TreesStand};
 
 /// The law that null, laid over a tree, leaves it. Nothing runs.
@@ -13,4 +14,10 @@ pub fn no_mark_is_left()
 /// The law that a tree without marks, laid over nothing by no rule, is that tree. Nothing runs.
 pub fn trees_stand()
     ensures { TreesStand }
+{}
+
+/// The law that a file without marks, in which no two entries are one, laid over nothing, is that file as far as it is within
+/// the limits. Nothing runs.
+pub fn files_stand()
+    ensures { FilesStand }
 {}

@@ -3,16 +3,17 @@ ghost use Rattle.std.specs.List.{zip};
 ghost use Rattle.tree_base.specs.Entries.{value_at, with_entry};
 ghost use Rattle.tree_base.specs.declared.Tree.{Tree, out-Tree};
 ghost use Rattle.tree_base.specs.declared.Step.TheVariants.{Key, Index};
-ghost use Rattle.merge_rules.specs.Answers.{Gives, UpGives, outer, place, under};
+ghost use Rattle.merge_tables.specs.Answers.{Gives, UpGives, outer, place, under};
 ghost use Rattle.merge_rules.specs.Overlay.{entries_below, entries_laid, entries_over, entry_over, entry_placed, entry_taken, item_joined, items_below, items_joined, items_kept, items_laid, kept_below, laid, layers, one_of, over_files, overlaid, scalar_over, service_over, with_value};
-ghost use Rattle.merge_rules.specs.Spots.{rules_of};
-ghost use Rattle.merge_rules.specs.Uniqueness.{or_null};
+ghost use Rattle.merge_tables.specs.Spots.{rules_of};
+ghost use Rattle.merge_tables.specs.Parts.{or_null};
 
 use crate::alone::stands;
 use crate::keys::place_of;
-use crate::refusal::{MergeRefusal, from_root, place, with_step, within};
-use crate::rules::{EntryKind, Joining, Standing};
-use crate::spot::{Spot, joining_at, spot_below};
+use merge_tables::{
+    EntryKind, Joining, MergeRefusal, Spot, Standing, from_root, joining_at, place, spot_below,
+    with_step, within,
+};
 use std::alloc::Global;
 use tree_base::{List, Map, Memory, Step, Text, TextMap, Tree};
 

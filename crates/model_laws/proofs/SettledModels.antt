@@ -12,8 +12,8 @@ use Rattle.loaded_files.specs.Reads.{◌>>=◌, Load, after, give, loaded_from}
 use Rattle.loaded_files.specs.Refusing.{of_merge}
 use Rattle.loaded_files.proofs.Names.{none_out, put_same}
 use Rattle.loaded_files.proofs.Runs.{loaded_on}
-use Rattle.merge_rules.specs.Answers.{within}
-use Rattle.merge_rules.specs.declared.refusal.MergeRefusal.{MergeRefusal}
+use Rattle.merge_tables.specs.Answers.{within}
+use Rattle.merge_tables.specs.declared.refusal.MergeRefusal.{MergeRefusal}
 use Rattle.service_bases.proofs.Standing as bases
 use Rattle.service_environments.specs.Environments.{with_environments}
 use Rattle.model_laws.proofs.Settings as environments

@@ -9,7 +9,7 @@ use Rattle.include_extends.specs.declared.request.Places.{Places}
 use Rattle.loaded_files.specs.Paths.{Variables}
 use Rattle.loaded_files.specs.Reads.{loaded_from}
 use Rattle.loaded_files.specs.declared.reads.Seen.{Seen}
-use Rattle.merge_rules.specs.Answers.{within}
+use Rattle.merge_tables.specs.Answers.{within}
 use Rattle.merge_rules.specs.Laws.{are_apart}
 use Rattle.outside_files.specs.Files.{Contents}
 use Rattle.service_environments.specs.Environments.{settings}

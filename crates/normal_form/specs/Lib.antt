@@ -1,4 +1,3 @@
 pub mod Laws
 pub mod ProjectNames
 pub mod Projects
-pub mod Runnable

@@ -130,8 +130,8 @@ fn is_listed(names: &[Text], name: &Text) -> bool
     names.iter().any(|other| *name == *other)
 }
 
-/// Whether the project is to be brought up.
-pub(crate) fn is_up(purpose: Purpose) -> bool
+/// Whether the project is to be brought up. No memory.
+pub fn is_up(purpose: Purpose) -> bool
     ensures { result ≡ is_up purpose }
 {
     match purpose {

@@ -17,4 +17,5 @@ mod networks;
 mod observing;
 mod outcomes;
 
+pub use judging::is_up;
 pub use observing::observe;

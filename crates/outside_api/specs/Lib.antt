@@ -1,4 +1,5 @@
 pub mod Clock
+pub mod ClockCounts
 pub mod Hands
 pub mod Accounts
 pub mod Laws

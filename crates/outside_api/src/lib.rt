@@ -6,14 +6,18 @@
 //! where it is told.
 #![tactic(auto)]
 
+mod clock_counts;
 mod hand;
 mod laws;
+mod memory_clock;
 mod pipe;
 mod plug;
 mod wire;
 
+pub use clock_counts::ClockCounts;
 pub use hand::Hand;
 pub use laws::caused_stays_told;
+pub use memory_clock::MemoryClock;
 pub use outside_files::{
     DiskFiles, FileAnswer, Files, MemoryFiles, MemorySink, OutSink, Sink, SinkAnswer, write_all,
 };

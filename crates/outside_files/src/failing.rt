@@ -1,4 +1,4 @@
-ghost use Rattle.std.specs.Prelude.{◌≡◌, ◌≤◌, if◌then◌else◌};
+ghost use Rattle.std.specs.Prelude.{◌≡◌, ◌≤◌, ◌<◌, ◌↔◌, IsTrue, if◌then◌else◌};
 ghost use Rattle.outside_files.specs.Counts.{Rose, one_more};
 ghost use Rattle.outside_files.specs.Failures.{next_fails};
 
@@ -43,6 +43,23 @@ impl Failing {
             self.failed = self.failed.saturating_add(1);
         }
         fails
+    }
+
+    /// Whether a call failed. No memory.
+    pub fn has_failed(&self) -> bool
+        ensures { IsTrue result ↔ (0 < self.now.failed) }
+    {
+        self.failed > 0
+    }
+
+    /// Forgets the calls that were made. No memory.
+    pub fn begin_anew(&mut self)
+        ensures fails { self.new.fails ≡ self.old.fails }
+        ensures calls { self.new.calls ≡ 0 }
+        ensures failed { self.new.failed ≡ 0 }
+    {
+        self.calls = 0;
+        self.failed = 0;
     }
 
     /// Counts a fault beside those that were asked for. No memory.

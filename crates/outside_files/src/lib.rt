@@ -16,6 +16,7 @@ mod sink;
 mod writing;
 
 pub use disk_files::DiskFiles;
+pub use failing::Failing;
 pub use files::{FileAnswer, Files};
 pub use memory_files::MemoryFiles;
 pub use memory_sink::MemorySink;

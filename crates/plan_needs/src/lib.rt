@@ -11,4 +11,4 @@ mod waiting;
 
 pub use laws::{turned_are_dependents, waits_are_defined};
 pub use wait::Wait;
-pub use waiting::all_waited_for;
+pub use waiting::{all_waited_for, slot_needs, start_at};

@@ -85,8 +85,8 @@ fn push_start(
     Ok(())
 }
 
-/// The start of a slot. No memory.
-fn start_at(starts: &[Option<u32>], slot: u32) -> Option<u32>
+/// The start of a slot, if any. No memory.
+pub fn start_at(starts: &[Option<u32>], slot: u32) -> Option<u32>
     ensures { result ≡ get_or starts.now slot None }
 {
     let at = slot as usize;
@@ -94,7 +94,7 @@ fn start_at(starts: &[Option<u32>], slot: u32) -> Option<u32>
 }
 
 /// What the slot of a start needs. No memory.
-fn slot_needs<'a>(declared: &'a Declared, kind: ActionKind) -> &'a [Need]
+pub fn slot_needs<'a>(declared: &'a Declared, kind: ActionKind) -> &'a [Need]
     ensures { result.now ≡ slot_needs declared.now (Some kind) }
 {
     match kind {

@@ -24,8 +24,8 @@ use Rattle.loaded_files.specs.declared.reads.Seen.{Seen}
 use Rattle.loaded_files.specs.declared.reads.Seen.TheVariants.{There}
 use Rattle.interpolate.specs.Walking.{substituted_tree}
 use Rattle.interpolate.specs.declared.refusal.SubstTreeRefusal.{SubstTreeRefusal}
-use Rattle.merge_rules.specs.LongForms.{long_forms}
-use Rattle.merge_rules.specs.declared.refusal.MergeRefusal.{MergeRefusal}
+use Rattle.long_forms.specs.LongForms.{long_forms}
+use Rattle.merge_tables.specs.declared.refusal.MergeRefusal.{MergeRefusal}
 use Rattle.project_laws.proofs.ReadBack.{project_back}
 use Rattle.project_laws.specs.PlainTrees.{tree_of_project}
 use Rattle.normal_form.specs.Projects.{filled, name_given}

@@ -10,17 +10,18 @@ use Rattle.std.specs.Str.{bytes_eq}
 use Rattle.attribute_paths.proofs.Trees.{OfAll}
 use Rattle.attribute_paths.specs.Patterns.{Pattern, any_key, below_key, here, named}
 use Rattle.file_paths.specs.Resolving.{Entries}
-use Rattle.merge_rules.proofs.Answering.{goes_on}
-use Rattle.merge_rules.proofs.Lengthening.{entries_whole, map_long, parts, values_go}
+use Rattle.merge_tables.proofs.Answering.{goes_on}
+use Rattle.long_forms.proofs.Lengthening.{entries_whole, map_long, parts, values_go}
 use Rattle.merge_rules.proofs.Unchanged.{files_stand}
-use Rattle.merge_rules.specs.Alone.{entries_in, led_to, no_twins}
-use Rattle.merge_rules.specs.Answers.{under, within}
-use Rattle.merge_rules.specs.Attributes.{JoiningRules, ShortRules, overlay_rules, short_rules}
+use Rattle.merge_rules.specs.Alone.{led_to, no_twins}
+use Rattle.merge_tables.specs.Parts.{entries_in}
+use Rattle.merge_tables.specs.Answers.{under, within}
+use Rattle.merge_tables.specs.Attributes.{JoiningRules, ShortRules, overlay_rules, short_rules}
 use Rattle.merge_rules.specs.Laws.{are_apart, no_mark, own_keys}
-use Rattle.merge_rules.specs.LongForms.{lengthened, long_forms, text_long, values_long}
+use Rattle.long_forms.specs.LongForms.{lengthened, long_forms, text_long, values_long}
 use Rattle.merge_rules.specs.Overlay.{over_files}
-use Rattle.merge_rules.specs.Spots.{service_forms, services_forms}
-use Rattle.merge_rules.specs.declared.rules.Joining.{Joining}
+use Rattle.merge_tables.specs.Spots.{service_forms, services_forms}
+use Rattle.merge_tables.specs.declared.rules.Joining.{Joining}
 use Rattle.project_laws.specs.PlainTrees.{entry_of, tree_of_project}
 use Rattle.project_laws.proofs.Placing.{attributes, elements}
 use Rattle.project_laws.proofs.Projects.{not_before_itself}

@@ -16,7 +16,8 @@ use tree_base::{Map, Tree};
 
 /// The top-level elements of a tree, each of which has its form, in the tree's order; null has none.
 pub(crate) fn elements_in(alloc: Global, tree: &Tree) -> Result<Vec<Entry>, AttributeRefusal>
-    ensures { Gives (result_map_both (λ list. map seen_entry list.items) (λ refusal. refusal) result)
+    ensures { Gives (result_map_both (λ list. map seen_entry list.items)
+        (λ refusal. refusal) result)
         (elements_in (out-Tree tree.now)) }
 {
     match tree {
@@ -27,7 +28,8 @@ pub(crate) fn elements_in(alloc: Global, tree: &Tree) -> Result<Vec<Entry>, Attr
 }
 
 fn asked_elements(alloc: Global, entries: &Map) -> Result<Vec<Entry>, AttributeRefusal>
-    ensures { Gives (result_map_both (λ list. map seen_entry list.items) (λ refusal. refusal) result)
+    ensures { Gives (result_map_both (λ list. map seen_entry list.items)
+        (λ refusal. refusal) result)
         (elements_in (Tree-F.Map entries.now)) }
 {
     ask_elements(alloc, entries)?;

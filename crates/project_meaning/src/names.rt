@@ -35,7 +35,8 @@ pub(crate) fn all_named(
     kind: Kind,
     services: &[Service],
 ) -> Result<Vec<Text>, Memory>
-    ensures value { IfOk result (λ names. names.items ≡ sorted (flat_map (named kind) services.now)) }
+    ensures value { IfOk result (λ names. names.items
+        ≡ sorted (flat_map (named kind) services.now)) }
     ensures order { IfOk result (λ names. AreInOrder names.items) }
 {
     let mut names = Vec::new(alloc);
@@ -49,7 +50,8 @@ fn put_all_named(
     services: &[Service],
     names: &mut Vec<Text>,
 ) -> Result<(), Memory>
-    ensures { OnOk result (names.new.items ≡ names.old.items ++ flat_map (named kind) services.now) }
+    ensures { OnOk result (names.new.items
+        ≡ names.old.items ++ flat_map (named kind) services.now) }
 {
     for service in services {
         put_named(alloc, kind, service, names)?;
@@ -94,7 +96,8 @@ fn put_named(
 }
 
 fn put_networks(alloc: Global, list: &[NetworkUse], names: &mut Vec<Text>) -> Result<(), Memory>
-    ensures { OnOk result (names.new.items ≡ names.old.items ++ map (λ joined. joined.key) list.now) }
+    ensures { OnOk result (names.new.items
+        ≡ names.old.items ++ map (λ joined. joined.key) list.now) }
 {
     for joined in list {
         put_key(alloc, &joined.key, names)?;
@@ -159,7 +162,8 @@ fn put_files_named(
 }
 
 fn put_files(alloc: Global, list: &[FileUse], names: &mut Vec<Text>) -> Result<(), Memory>
-    ensures { OnOk result (names.new.items ≡ names.old.items ++ map (λ file. file.source) list.now) }
+    ensures { OnOk result (names.new.items
+        ≡ names.old.items ++ map (λ file. file.source) list.now) }
 {
     for file in list {
         put_key(alloc, &file.source, names)?;

@@ -1,7 +1,6 @@
 ghost use Rattle.std.specs.Prelude.{◌≡◌, OnOk, IfOk, Some};
 ghost use Rattle.std.specs.Fmt.{signed_decimal};
 ghost use Rattle.std.specs.Option.{option_map};
-ghost use Rattle.short_forms.specs.MountLaws.{type_word};
 ghost use Rattle.project_print.specs.declared.node.Node.{Node};
 ghost use Rattle.project_pages.specs.AttributePages.{aliases_node, check_node, condition_word, file_use_node, label_node, logging_node, mount_node, pairs_node, port_node};
 ghost use Rattle.project_pages.specs.Puts.{any_of, limit_node, need_node, with_found};
@@ -17,7 +16,7 @@ use attribute_types::{
     Dependency, DependencyCondition, FileUse, HealthCheck, Logging, NetworkUse, Pairs, Ulimit,
 };
 use project_print::Node;
-use short_forms::{Mount, MountKind, Port};
+use short_forms::{Mount, Port};
 use std::alloc::Global;
 use tree_base::{Memory, Text, TextMap};
 
@@ -112,7 +111,7 @@ impl ToNode for Mount {
         put_flag(alloc, &mut entries, "read_only", self.read_only)?;
         put_text_if(alloc, &mut entries, "source", &self.source)?;
         put_text(alloc, &mut entries, "target", self.target.as_str())?;
-        put_text(alloc, &mut entries, "type", type_word(self.kind))?;
+        put_text(alloc, &mut entries, "type", self.kind.word())?;
         Ok(Node::Map(entries))
     }
 }
@@ -135,17 +134,6 @@ fn put_label(
             put_mapping(alloc, entries, key, options)
         }
         None => Ok(()),
-    }
-}
-
-/// The type of a mount.
-fn type_word(kind: MountKind) -> &'static str
-    ensures { result.now ≡ type_word kind }
-{
-    match kind {
-        MountKind::Bind => "bind",
-        MountKind::Volume => "volume",
-        MountKind::Tmpfs => "tmpfs",
     }
 }
 

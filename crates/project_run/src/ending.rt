@@ -12,8 +12,8 @@ ghost use Rattle.run_model.specs.Runs.{Task, run_fault, run_report, unseen};
 ghost use Rattle.run_requests.specs.Setups.{of_one_worker, setup_of as setup_in};
 
 use crate::ran::Ran;
-use crate::seen::first_seen;
 use engine_types::{Declared, Entry, Observed, Plan, RunFault, RunLimits, Seen};
+use ledger_core::first_seen;
 use run_report::{fault, report};
 use run_requests::Run;
 use std::alloc::Global;

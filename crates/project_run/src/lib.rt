@@ -15,7 +15,6 @@ mod opening;
 mod options;
 mod plan_aim;
 mod ran;
-mod seen;
 mod whole_run;
 
 pub use laws::runs_spare_kept;

@@ -2,11 +2,11 @@ ghost use Rattle.std.specs.Prelude.{◌≡◌, option_map};
 ghost use Rattle.ledger_run.specs.Tellings.{telling};
 ghost use Rattle.outside_api.specs.Clock.{new_clock};
 ghost use Rattle.run_model.specs.Logs.{deadline_after};
-ghost use Rattle.run_model.specs.Observation.{is_up};
 ghost use Rattle.project_run.specs.Options.{aim_of, bounded, clock_begun, limits_by};
 
 use crate::plan_aim::Aim;
 use engine_types::{Purpose, RunLimits};
+use observe_project::is_up;
 use outside_api::Hand;
 
 /// What the options of a run bound: whether it waits for goals, after how many seconds it is late, and how many seconds a stop
@@ -64,13 +64,4 @@ fn deadline_after(first: u64, seconds: u32) -> u64
     ensures { result ≡ deadline_after first seconds }
 {
     first.saturating_add(1000 * u64::from(seconds))
-}
-
-fn is_up(purpose: Purpose) -> bool
-    ensures { result ≡ is_up purpose }
-{
-    match purpose {
-        Purpose::Up => true,
-        Purpose::Down => false,
-    }
 }

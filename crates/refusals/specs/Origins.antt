@@ -15,7 +15,6 @@ use Rattle.refusals.specs.declared.refusal.Unbuilt.{Unbuilt}
 abbrev pub IsOfAsking : Refusal → Type 0
 IsOfAsking (Refusal.Words refusal) = Unit {0}
 IsOfAsking (Refusal.NotBuilt Unbuilt.Words) = Unit {0}
-IsOfAsking (Refusal.NotBuilt (Unbuilt.Attribute path)) = Unit {0}
 IsOfAsking (Refusal.Load refusal) = Unit {0}
 IsOfAsking (Refusal.Name refusal) = Unit {0}
 IsOfAsking (Refusal.Active refusal) = Unit {0}
@@ -88,7 +87,6 @@ load_refusal refusal = Refusal.Load refusal
 
 -- what a call is refused with whose tree gives no project
 abbrev pub project_refusal : TreeRefusal → Refusal
-project_refusal (TreeRefusal.NotBuilt path) = Refusal.NotBuilt (Unbuilt.Attribute path)
 project_refusal (TreeRefusal.Name refusal) = Refusal.Name refusal
 project_refusal (TreeRefusal.Active refusal) = Refusal.Active refusal
 project_refusal (TreeRefusal.Project refusal) = Refusal.Project refusal

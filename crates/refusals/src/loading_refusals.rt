@@ -5,7 +5,7 @@ ghost use Rattle.refusals.specs.Lines.{refusal_words};
 ghost use Rattle.refusals.specs.Origins.{IsOfAsking, load_refusal, project_refusal};
 ghost use Rattle.refusals.specs.Statuses.{refusal_status};
 
-use crate::refusal::{Refusal, Unbuilt};
+use crate::refusal::Refusal;
 use loaded_files::LoadRefusal;
 use loading_words::TreeRefusal;
 
@@ -39,7 +39,6 @@ impl From<TreeRefusal> for Refusal {
         ensures kind { IsOfAsking result }
     {
         match refusal {
-            TreeRefusal::NotBuilt { path } => Refusal::NotBuilt(Unbuilt::Attribute { path }),
             TreeRefusal::Name(refusal) => Refusal::Name(refusal),
             TreeRefusal::Active(refusal) => Refusal::Active(refusal),
             TreeRefusal::Project(refusal) => Refusal::Project(refusal),

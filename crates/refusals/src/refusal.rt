@@ -5,7 +5,7 @@ use engine_types::{Condition, LateWhy, Outcome, Report, Request, SeenFault};
 use file_digests::DigestRefusal;
 use loaded_files::LoadRefusal;
 use loading_words::ProjectRefusal;
-use tree_base::{Path, Text};
+use tree_base::Text;
 
 /// Why a call ended otherwise than well. Each has its exit status and the line that it prints.
 #[derive(Drop)]
@@ -54,8 +54,6 @@ pub enum Refusal {
 pub enum Unbuilt {
     /// The words of the command line.
     Words,
-    /// What stands at a path of the project's tree.
-    Attribute { path: Path },
     /// A run of what the project declares.
     Run,
 }

@@ -1,8 +1,6 @@
 ghost use Rattle.std.specs.Prelude.{◌≡◌, IfOk, None, Some, length, option_map, reverse};
-ghost use Rattle.std.specs.Option.{option_copied};
 ghost use Rattle.engine_types.specs.declared.RunFault.{RunFault};
 ghost use Rattle.engine_types.specs.declared.SeenEnd.{SeenEnd};
-ghost use Rattle.run_model.specs.Conditions.{report_of};
 ghost use Rattle.run_model.specs.Ending.{ended_fault, exchange_fault, fault_of, first_fault, seen_fault, slot_name};
 ghost use Rattle.run_model.specs.Journals.{Watch, Work, holding};
 ghost use Rattle.run_model.specs.Requests.{request_out};
@@ -16,9 +14,8 @@ use crate::held::{Held, earlier, held_after};
 use crate::lines::slot_name;
 use crate::rows::Rows;
 use crate::standings::ended_well;
-use engine_types::{
-    Condition, Entry, Outcome, Reply, Report, Request, RunFault, SeenEnd, SeenFault,
-};
+use engine_types::{Condition, Entry, Outcome, Report, Request, RunFault, SeenEnd, SeenFault};
+use health_watch::report_of;
 use run_requests::Run;
 use std::alloc::Global;
 use tree_base::{Memory, Text, TryCopy};
@@ -174,19 +171,6 @@ fn watch_fault(
             let fault = exchange_fault(alloc, run, past, worker, outcome)?;
             Ok(Some(fault))
         }
-    }
-}
-
-/// The report of an outcome.
-fn report_of(outcome: &Outcome) -> Option<&Report>
-    ensures { option_copied result ≡ report_of outcome.now }
-{
-    match outcome {
-        Outcome::Answered(reply) => match reply {
-            Reply::State(report) => Some(report),
-            _ => None,
-        },
-        _ => None,
     }
 }
 

@@ -52,7 +52,8 @@ pub(crate) fn network_id<'a, T: ToldIds>(
     }
 }
 
-fn seen_network_id<'a>(seen: &'a Seen, name: &Text) -> Option<&'a Text>
+/// The id of the first network of a name that was seen. No memory.
+pub fn seen_network_id<'a>(seen: &'a Seen, name: &Text) -> Option<&'a Text>
     ensures { option_copied result ≡
         option_map (λ row. row.id) (find (λ row. bytes_eq row.name name.now) seen.now.networks) }
 {

@@ -12,6 +12,7 @@ mod run;
 mod seconds;
 mod told;
 
+pub use ids::seen_network_id;
 pub use requests::request_of;
 pub use run::Run;
 pub use told::ToldIds;

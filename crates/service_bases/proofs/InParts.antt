@@ -3,7 +3,7 @@ use Rattle.std.proofs.Common.{◌≡◌, ◌∙◌, List, [], ◌∷◌, ◌++�
 use Rattle.file_paths.specs.Resolving.{Entries}
 use Rattle.loaded_files.specs.Refusing.{of_merge}
 use Rattle.loaded_files.specs.declared.refusal.LoadRefusal.{LoadRefusal}
-use Rattle.merge_rules.specs.declared.refusal.MergeRefusal.{MergeRefusal}
+use Rattle.merge_tables.specs.declared.refusal.MergeRefusal.{MergeRefusal}
 use Rattle.service_bases.specs.Chains.{laid_up, layer_over, layers_over}
 use Rattle.service_bases.specs.Laws.{StandsAlone}
 use Rattle.service_bases.specs.declared.chain.Layer.{Layer}

@@ -3,13 +3,13 @@ use Rattle.std.proofs.Common.{◌≡◌, ◌∙◌, ℕ, List, [], ◌∷◌, Op
 use Rattle.std.specs.Prelude.{codes}
 use Rattle.attribute_paths.specs.Patterns.{below_key}
 use Rattle.file_paths.specs.Resolving.{Entries}
-use Rattle.merge_rules.specs.declared.refusal.MergeRefusal.{MergeRefusal}
-use Rattle.merge_rules.specs.declared.rules.Standing.TheVariants.{Value}
-use Rattle.merge_rules.specs.Answers.{under, within}
-use Rattle.merge_rules.specs.Attributes.{JoiningRules, overlay_rules}
+use Rattle.merge_tables.specs.declared.refusal.MergeRefusal.{MergeRefusal}
+use Rattle.merge_tables.specs.declared.rules.Standing.TheVariants.{Value}
+use Rattle.merge_tables.specs.Answers.{under, within}
+use Rattle.merge_tables.specs.Attributes.{JoiningRules, overlay_rules}
 use Rattle.merge_rules.specs.Overlay.{entries_over, laid, layers, over_files, service_over, with_value}
-use Rattle.merge_rules.specs.Spots.{service_rules, services_rules}
-use Rattle.merge_rules.specs.Uniqueness.{or_null}
+use Rattle.merge_tables.specs.Spots.{service_rules, services_rules}
+use Rattle.merge_tables.specs.Parts.{or_null}
 use Rattle.merge_rules.proofs.MergedTrees.{within_same}
 use Rattle.merge_rules.proofs.Unchanged.{files_stand}
 use Rattle.service_bases.specs.Laws.{StandsAlone, file_of}

@@ -2,8 +2,8 @@
 use Rattle.std.specs.Prelude.{◌≡◌, ℕ, true, List, [], ◌∷◌, ◌++◌, Ok, codes}
 use Rattle.file_paths.specs.Resolving.{Entries}
 use Rattle.merge_rules.specs.Alone.{no_twins}
-use Rattle.merge_rules.specs.Answers.{within}
-use Rattle.merge_rules.specs.Attributes.{overlay_rules}
+use Rattle.merge_tables.specs.Answers.{within}
+use Rattle.merge_tables.specs.Attributes.{overlay_rules}
 use Rattle.merge_rules.specs.Laws.{no_mark, own_keys}
 use Rattle.service_bases.specs.Chains.{laid_up, layers_over}
 use Rattle.service_bases.specs.declared.chain.Layer.{Layer}

@@ -5,7 +5,8 @@ ghost use Rattle.service_bases.specs.Chains.{laid_up, layer_over, layers_over};
 
 use crate::chain::Layer;
 use loaded_files::LoadRefusal;
-use merge_rules::{MergeRefusal, service_onto};
+use merge_rules::service_onto;
+use merge_tables::MergeRefusal;
 use std::alloc::Global;
 use tree_base::{List, Map, TextMap};
 

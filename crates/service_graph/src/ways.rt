@@ -68,7 +68,8 @@ fn leading_back(
     reached: &[Reached],
     first: usize,
 ) -> Option<usize>
-    ensures value { option_map (λ at. get_or (ways_of reached.now) at []) result ≡ find (leads_back links.now start) (drop first (ways_of reached.now)) }
+    ensures value { option_map (λ at. get_or (ways_of reached.now) at []) result
+        ≡ find (leads_back links.now start) (drop first (ways_of reached.now)) }
     ensures within { IfSome result (λ at. at < length reached.now) }
 {
     for at in first..reached.len() {
@@ -104,7 +105,8 @@ fn reach(
 ) -> Result<(), Memory>
     requires within { AreWithin links.now }
     requires long { length seen.old ≡ length links.now }
-    ensures { OnOk result (Reaches seen.old reached.old.items (further links.now (drop first (ways_of reached.old.items))) seen.new reached.new.items) }
+    ensures { OnOk result (Reaches seen.old reached.old.items
+        (further links.now (drop first (ways_of reached.old.items))) seen.new reached.new.items) }
 {
     for from in first..reached.len() {
         let next = next_of(links, reached[from].place);
@@ -122,7 +124,9 @@ fn reach_each(
 ) -> Result<(), Memory>
     requires within { (to : ℕ) → Contains next.now to → to < length seen.old }
     requires from { from < length reached.old.items }
-    ensures { OnOk result (Reaches seen.old reached.old.items (map (λ to. get_or (ways_of reached.old.items) from [] ++ to ∷ []) next.now) seen.new reached.new.items) }
+    ensures { OnOk result (Reaches seen.old reached.old.items
+        (map (λ to. get_or (ways_of reached.old.items) from []
+        ++ to ∷ []) next.now) seen.new reached.new.items) }
 {
     for place in next {
         reach_one(*place, from, seen, reached)?;
@@ -139,7 +143,9 @@ fn reach_one(
 ) -> Result<(), Memory>
     requires within { place < length seen.old }
     requires from { from < length reached.old.items }
-    ensures { OnOk result (Reaches seen.old reached.old.items ((get_or (ways_of reached.old.items) from [] ++ place ∷ []) ∷ []) seen.new reached.new.items) }
+    ensures { OnOk result (Reaches seen.old reached.old.items
+        ((get_or (ways_of reached.old.items) from []
+        ++ place ∷ []) ∷ []) seen.new reached.new.items) }
 {
     if !seen[place] {
         seen[place] = true;

@@ -3,6 +3,7 @@ ghost use Rattle.std.specs.List.{list_all};
 ghost use Rattle.std.specs.Option.{option_copied};
 ghost use Rattle.short_forms.specs.Answers.{Gives, answer_of};
 ghost use Rattle.short_forms.specs.Cuts.{parts_at};
+ghost use Rattle.short_forms.specs.MountLaws.{type_word};
 ghost use Rattle.short_forms.specs.Mounts.{is_name_byte, is_path, is_volume_name, kind_of, mode_behind, mode_of, mount_at, mount_from, mount_in, mount_of, plain};
 
 use crate::cuts::cut_text;
@@ -19,6 +20,19 @@ pub enum MountKind {
     Volume,
     /// Memory.
     Tmpfs,
+}
+
+impl MountKind {
+    /// The type of a mount, as it is written (Compose Specification, "volumes", long syntax).
+    pub fn word(self) -> &'static str
+        ensures { result.now ≡ type_word self }
+    {
+        match self {
+            MountKind::Bind => "bind",
+            MountKind::Volume => "volume",
+            MountKind::Tmpfs => "tmpfs",
+        }
+    }
 }
 
 /// A mount of a service (Compose Specification, "volumes").

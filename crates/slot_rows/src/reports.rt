@@ -1,11 +1,9 @@
 ghost use Rattle.std.specs.Prelude.{◌≡◌};
-ghost use Rattle.std.specs.Option.{option_copied};
-ghost use Rattle.run_model.specs.Conditions.{report_of};
 ghost use Rattle.slot_rows.specs.Reports.{VerdictsFollowReports, reported, verdict_after};
 
 use crate::slot_row::SlotRow;
-use engine_types::{Condition, Outcome, Reply, Report};
-use health_watch::judge;
+use engine_types::{Condition, Outcome};
+use health_watch::{judge, report_of};
 use run_model::Verdict;
 
 /// A slot's row after the end of its poll: what the report says of each condition, and that no poll is out. A poll that ended
@@ -37,18 +35,6 @@ fn verdict_after(condition: Condition, outcome: &Outcome, verdict: Verdict) -> V
         (Verdict::Failed, _) => Verdict::Failed,
         (_, Verdict::NotYet) => verdict,
         _ => news,
-    }
-}
-
-fn report_of(outcome: &Outcome) -> Option<&Report>
-    ensures { option_copied result ≡ report_of outcome.now }
-{
-    match outcome {
-        Outcome::Answered(reply) => match reply {
-            Reply::State(report) => Some(report),
-            _ => None,
-        },
-        _ => None,
     }
 }
 

@@ -1,3 +1,2 @@
-pub mod ClocksOfSockets
 pub mod PipesOfSockets
 pub mod WiresOfSockets

@@ -5,7 +5,6 @@
 //! its readings, its pauses and how often it was asked to stop, which it is where a file is found at a path.
 #![tactic(auto)]
 
-mod clock_counts;
 mod socket_pipe;
 mod socket_wire;
 

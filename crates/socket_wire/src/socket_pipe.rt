@@ -54,7 +54,8 @@ impl Pipe for SocketPipe {
     /// empty. No memory.
     fn write(&mut self, piece: &[u8]) -> SinkAnswer
         ensures counted { failed_calls self.old ≤ failed_calls self.new }
-        ensures answer { IsWriteOf piece.now (failed_calls self.old) (failed_calls self.new) result }
+        ensures answer { IsWriteOf piece.now (failed_calls self.old)
+            (failed_calls self.new) result }
         ensures told { ToldBy (after_write (take (taken result) piece.now)) no_talk no_talk }
         ensures exact { failed_calls self.new
             ≡ faults_after_write piece.now result (failed_calls self.old) }

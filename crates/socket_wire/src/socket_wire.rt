@@ -4,12 +4,11 @@ ghost use Rattle.outside_files.specs.Counts.{Rose, one_more};
 ghost use Rattle.outside_api.specs.Clock.{new_clock, after_now, after_pause, after_asked};
 ghost use Rattle.outside_api.specs.Pipes.{silence};
 ghost use Rattle.outside_api.specs.Wires.{Dials, GrewByTalk, RoseBy};
-ghost use Rattle.socket_wire.specs.ClocksOfSockets.{counts_of};
+ghost use Rattle.outside_api.specs.ClockCounts.{counts_of};
 ghost use Rattle.socket_wire.specs.PipesOfSockets.{failed_calls, no_talk};
 
-use crate::clock_counts::ClockCounts;
 use crate::socket_pipe::SocketPipe;
-use outside_api::{DialAnswer, Pipe, Wire};
+use outside_api::{ClockCounts, DialAnswer, Pipe, Wire};
 use std::alloc::Global;
 use std::os::unix::net::UnixStream;
 use std::rt::{Clock, Files};
@@ -124,7 +123,8 @@ impl<'r> Wire for SocketWire<'r> {
     fn close(&mut self, pipe: SocketPipe)
         ensures told { GrewByTalk no_past no_talk no_past }
         ensures counted { failed_dials self.old ≤ failed_dials self.new }
-        ensures faulty { RoseBy (failed_calls pipe) (failed_dials self.old) (failed_dials self.new) }
+        ensures faulty { RoseBy (failed_calls pipe) (failed_dials self.old)
+            (failed_dials self.new) }
         ensures dialled { opened self.new ≡ opened self.old }
         ensures clock { counts_of self.new.clock ≡ counts_of self.old.clock }
         ensures exact { failed_dials self.new
@@ -141,7 +141,7 @@ impl<'r> Wire for SocketWire<'r> {
     fn now(&mut self) -> u64 {
         let time = match self.rt.monotonic() {
             Ok(time) => milliseconds_of(time),
-            Err(_) => self.clock.last(),
+            Err(_) => self.clock.last,
         };
         self.clock.read(time);
         time

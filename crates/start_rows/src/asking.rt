@@ -1,11 +1,12 @@
-ghost use Rattle.std.specs.Prelude.{◌≡◌, ◌+◌, ◌<◌, ◌==◌, ◌∷◌, ◌++◌, ℕ, [], if◌then◌else◌, get_or, length, replicate, set, IfOk, OnOk};
+ghost use Rattle.std.specs.Prelude.{◌≡◌, ◌+◌, ◌<◌, ◌==◌, ◌∷◌, ◌++◌, ℕ, [], if◌then◌else◌, get_or, length, set, IfOk, OnOk};
 ghost use Rattle.ledger_rows.specs.Counts.{counted};
 ghost use Rattle.run_model.specs.Plans.{kind_of, slot_needs};
 ghost use Rattle.start_rows.specs.Asks.{asked_by, with_ask};
 
 use crate::ask::{Ask, asks};
-use crate::needs::slot_needs;
 use engine_types::{Action, Condition, Declared, Need};
+use ledger_rows::empty_rows;
+use plan_needs::slot_needs;
 use std::alloc::Global;
 use tree_base::{List, Memory};
 
@@ -74,15 +75,4 @@ fn put_last(rows: &mut [List<u32>], at: u32, action: u32) -> Result<(), Memory>
     let row = &mut rows[at as usize];
     row.push(action)?;
     Ok(())
-}
-
-/// So many empty rows.
-fn empty_rows(alloc: Global, count: usize) -> Result<Vec<List<u32>>, Memory>
-    ensures { IfOk result (λ rows. rows.items ≡ replicate count []) }
-{
-    let mut rows = Vec::new(alloc);
-    for _ in 0..count {
-        rows.push(List::new(alloc))?;
-    }
-    Ok(rows)
 }

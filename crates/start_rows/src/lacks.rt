@@ -3,8 +3,9 @@ ghost use Rattle.ledger_rows.specs.Counts.{counted};
 ghost use Rattle.run_model.specs.Plans.{kind_of, needs_of, slot_needs};
 ghost use Rattle.start_rows.specs.Firsts.{first_lack, keeps_first};
 
-use crate::needs::{slot_needs, small, start_at};
+use crate::needs::small;
 use engine_types::{Action, Condition, Declared, Need};
+use plan_needs::{slot_needs, start_at};
 use std::alloc::Global;
 use tree_base::Memory;
 

@@ -24,6 +24,7 @@ pub use memory::Memory;
 pub use place::{Place, Var};
 pub use reserved_list::ReservedList;
 pub use shared::Shared;
+pub use size::keys_left;
 pub use text::Text;
 pub use text_map::{Env, TextMap};
 pub use tree::{Map, Path, Step, Tree};

@@ -78,7 +78,8 @@ impl<T> ReservedList<T> {
 
     /// Takes the last item out, which leaves its room. No memory.
     pub fn pop(&mut self) -> Option<T>
-        ensures items { MatchOption result ((self.old.items ≡ []) × (self.new.items ≡ [])) (λ last. self.old.items ≡ self.new.items ++ last ∷ []) }
+        ensures items { MatchOption result ((self.old.items ≡ []) × (self.new.items ≡ []))
+            (λ last. self.old.items ≡ self.new.items ++ last ∷ []) }
         ensures spare { OnSome result (self.new.spare ≡ self.old.spare + 1) }
     {
         self.items.pop()

@@ -31,7 +31,8 @@ impl Tree {
 
     #[cycle(nodes)]
     fn all_nodes_left(trees: &[Tree], budget: u64) -> Option<u64>
-        ensures { SomeIff result (sum_by node_count trees.now ≤ budget) (budget - sum_by node_count trees.now) }
+        ensures { SomeIff result (sum_by node_count trees.now ≤ budget)
+            (budget - sum_by node_count trees.now) }
     {
         let mut left = budget;
         for tree in trees {
@@ -69,7 +70,8 @@ impl Tree {
 
     #[cycle(text)]
     fn all_text_left(trees: &[Tree], budget: u64) -> Option<u64>
-        ensures { SomeIff result (sum_by text_size trees.now ≤ budget) (budget - sum_by text_size trees.now) }
+        ensures { SomeIff result (sum_by text_size trees.now ≤ budget)
+            (budget - sum_by text_size trees.now) }
     {
         let mut left = budget;
         for tree in trees {
@@ -111,7 +113,8 @@ impl Tree {
 
     #[cycle(room)]
     fn all_room_left(trees: &[Tree], nodes: u64, bytes: u64) -> Option<(u64, u64)>
-        ensures { SomeIff result ((sum_by node_count trees.now ≤ nodes) × (sum_by text_size trees.now ≤ bytes))
+        ensures { SomeIff result ((sum_by node_count trees.now ≤ nodes)
+            × (sum_by text_size trees.now ≤ bytes))
             (nodes - sum_by node_count trees.now, bytes - sum_by text_size trees.now) }
     {
         let mut left = nodes;
@@ -151,8 +154,8 @@ impl Tree {
     }
 }
 
-/// What is left of a budget after the bytes of the keys.
-fn keys_left(keys: &[Text], budget: u64) -> Option<u64>
+/// What is left of a budget after the bytes of keys; None where they have more. No memory.
+pub fn keys_left(keys: &[Text], budget: u64) -> Option<u64>
     ensures { SomeIff result (sum_by length keys.now ≤ budget) (budget - sum_by length keys.now) }
 {
     let mut left = budget;

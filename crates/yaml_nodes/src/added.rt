@@ -9,7 +9,7 @@ ghost use Rattle.yaml_nodes.specs.Mappings.{new_pairs, with_new, added};
 use crate::progress::Progress;
 use crate::spot::Spot;
 use std::alloc::Global;
-use tree_base::{Map, Memory, Shared, Text, Tree};
+use tree_base::{Map, Memory, Shared, Text, Tree, keys_left};
 use yaml_lines::{Row, YamlRefusal};
 
 /// Puts the pairs of mappings behind one, each key that isn't there yet, earlier mappings first: copies of their keys,
@@ -61,17 +61,6 @@ fn nodes_left(trees: &[Tree], budget: u64) -> Option<u64>
     let mut left = budget;
     for tree in trees {
         left -= tree.nodes_within(left)?;
-    }
-    Some(left)
-}
-
-/// What is left of a budget after the bytes of keys; None where they have more.
-fn keys_left(keys: &[Text], budget: u64) -> Option<u64>
-    ensures { SomeIff result (sum_by length keys.now ≤ budget) (budget - sum_by length keys.now) }
-{
-    let mut left = budget;
-    for key in keys {
-        left = left.checked_sub(key.len() as u64)?;
     }
     Some(left)
 }

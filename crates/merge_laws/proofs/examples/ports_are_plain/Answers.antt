@@ -1,6 +1,6 @@
 use Rattle.std.proofs.Common.{rules}
 use Rattle.tree_base.specs.declared.tree.Tree.{the_lemmas}
-use Rattle.merge_rules.specs.Attributes.{overlay_rules}
+use Rattle.merge_tables.specs.Attributes.{overlay_rules}
 use Rattle.merge_laws.proofs.examples.ports_are_plain.Goals as goal
 
 pub returns : goal.returns

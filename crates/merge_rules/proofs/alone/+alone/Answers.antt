@@ -1,11 +1,11 @@
 use Rattle.std.proofs.Common.{[], ◌≡◌, ◌∙◌, ap, sym, subst, refl, Ok, Some, List, ℕ, length, slice_get, arith}
 use Rattle.std.proofs.lemmas.Option.{slice_get_read}
 use Rattle.attribute_paths.specs.Patterns.{below_key}
-use Rattle.merge_rules.specs.Attributes.{JoiningRules}
+use Rattle.merge_tables.specs.Attributes.{JoiningRules}
 use Rattle.tree_base.specs.declared.Tree.{Tree}
 use Rattle.merge_rules.specs.Alone.{StandsAlone}
 use Rattle.merge_rules.specs.Overlay.{entries_over, layers}
-use Rattle.merge_rules.specs.Spots.{rules_of}
+use Rattle.merge_tables.specs.Spots.{rules_of}
 use Rattle.merge_rules.proofs.AloneSteps.{entries_stay, item_stays, map_stays, value_stays, values_stay}
 use Rattle.merge_rules.proofs.alone.+alone.Goals as goal
 

@@ -1,7 +1,7 @@
 use Rattle.std.proofs.Common.{◌≡◌, [], map, drop, take}
 use Rattle.std.specs.List.{zip}
 use Rattle.merge_rules.specs.Overlay.{entries_over, items_joined, laid}
-use Rattle.merge_rules.specs.Spots.{rules_of}
+use Rattle.merge_tables.specs.Spots.{rules_of}
 use Rattle.merge_rules.proofs.alone.+alone.Given as goal
 
 -- the items that are left, laid behind those that were asked, make what all make

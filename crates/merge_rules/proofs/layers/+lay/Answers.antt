@@ -4,13 +4,13 @@ use Rattle.std.proofs.lemmas.Result.{err_from_is_err_and}
 use Rattle.std.proofs.lemmas.Option.{slice_get_read}
 use Rattle.tree_base.specs.declared.Tree.{Tree, Map, Null}
 use Rattle.tree_base.specs.declared.Step.TheVariants.{Index}
-use Rattle.merge_rules.specs.declared.rules.Standing.TheVariants.{Item}
-use Rattle.merge_rules.specs.Answers.{place, turned, under}
+use Rattle.merge_tables.specs.declared.rules.Standing.TheVariants.{Item}
+use Rattle.merge_tables.specs.Answers.{place, turned, under}
 use Rattle.merge_rules.specs.Overlay.{Lay, entries_laid, entries_over, entry_over, item_joined, items_joined, laid, layers}
 use Rattle.attribute_paths.specs.Patterns.{below_key}
-use Rattle.merge_rules.specs.Spots.{rules_of}
-use Rattle.merge_rules.specs.Uniqueness.{or_null}
-use Rattle.merge_rules.proofs.Answering.{fails_on, goes_on, same_fails}
+use Rattle.merge_tables.specs.Spots.{rules_of}
+use Rattle.merge_tables.specs.Parts.{or_null}
+use Rattle.merge_tables.proofs.Answering.{fails_on, goes_on, same_fails}
 use Rattle.attribute_paths.proofs.Walks.{entry_next, item_next, no_entry, set_twice}
 use Rattle.merge_rules.proofs.Laying.{entry_goes, item_fails, map_goes, map_lays}
 use Rattle.merge_rules.proofs.layers.+lay.Goals as goal

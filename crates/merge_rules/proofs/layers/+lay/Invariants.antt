@@ -1,7 +1,7 @@
 use Rattle.std.proofs.Common.{◌≡◌, map, drop}
 use Rattle.std.specs.List.{zip}
 use Rattle.merge_rules.specs.Overlay.{entries_over, items_joined, laid}
-use Rattle.merge_rules.specs.Spots.{rules_of}
+use Rattle.merge_tables.specs.Spots.{rules_of}
 use Rattle.merge_rules.proofs.layers.+lay.Given as goal
 
 -- the entries that are left make of what is there what all make of the base

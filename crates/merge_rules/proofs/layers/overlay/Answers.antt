@@ -1,10 +1,10 @@
 use Rattle.std.proofs.Common.{Option, []}
 use Rattle.tree_base.specs.declared.Tree.{Tree, Null}
-use Rattle.merge_rules.specs.declared.rules.Standing.TheVariants.{Value}
-use Rattle.merge_rules.specs.Answers.{turned}
+use Rattle.merge_tables.specs.declared.rules.Standing.TheVariants.{Value}
+use Rattle.merge_tables.specs.Answers.{turned}
 use Rattle.merge_rules.specs.Overlay.{laid, over_files, overlaid}
-use Rattle.merge_rules.specs.Uniqueness.{or_null}
-use Rattle.merge_rules.proofs.Answering.{fails_on, goes_on}
+use Rattle.merge_tables.specs.Parts.{or_null}
+use Rattle.merge_tables.proofs.Answering.{fails_on, goes_on}
 use Rattle.merge_rules.proofs.layers.overlay.Goals as goal
 
 pub returns-in-Ok : goal.returns-in-Ok

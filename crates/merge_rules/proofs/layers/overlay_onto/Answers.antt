@@ -1,11 +1,11 @@
 use Rattle.std.proofs.Common.{◌∙◌, Option, ap, sym}
 use Rattle.tree_base.specs.declared.Tree.{Tree}
-use Rattle.merge_rules.specs.declared.rules.Standing.TheVariants.{Value}
-use Rattle.merge_rules.specs.Answers.{turned, within}
-use Rattle.merge_rules.specs.Attributes.{overlay_rules}
+use Rattle.merge_tables.specs.declared.rules.Standing.TheVariants.{Value}
+use Rattle.merge_tables.specs.Answers.{turned, within}
+use Rattle.merge_tables.specs.Attributes.{overlay_rules}
 use Rattle.merge_rules.specs.Overlay.{laid, over_files}
-use Rattle.merge_rules.specs.Uniqueness.{or_null}
-use Rattle.merge_rules.proofs.Answering.{fails_on, gives_same, goes_on}
+use Rattle.merge_tables.specs.Parts.{or_null}
+use Rattle.merge_tables.proofs.Answering.{fails_on, gives_same, goes_on}
 use Rattle.merge_rules.proofs.layers.overlay_onto.Goals as goal
 
 pub returns-in-Ok : goal.returns-in-Ok

@@ -1,11 +1,11 @@
 use Rattle.std.proofs.Common.{◌∙◌, List, ℕ, Result, ap, codes, sym}
 use Rattle.tree_base.specs.declared.Tree.{Tree}
 use Rattle.tree_base.specs.declared.Step.TheVariants.{Key}
-use Rattle.merge_rules.specs.declared.refusal.MergeRefusal.{MergeRefusal}
-use Rattle.merge_rules.specs.Answers.{outer, turned, under}
+use Rattle.merge_tables.specs.declared.refusal.MergeRefusal.{MergeRefusal}
+use Rattle.merge_tables.specs.Answers.{outer, turned, under}
 use Rattle.merge_rules.specs.Overlay.{Lay, entries_over, laid, service_over}
-use Rattle.merge_rules.specs.Spots.{service_rules}
-use Rattle.merge_rules.proofs.Answering.{same_fails, under_fails}
+use Rattle.merge_tables.specs.Spots.{service_rules}
+use Rattle.merge_tables.proofs.Answering.{same_fails, under_fails}
 use Rattle.attribute_paths.proofs.Walks.{entries_are}
 use Rattle.merge_rules.proofs.layers.service_onto.Goals as goal
 

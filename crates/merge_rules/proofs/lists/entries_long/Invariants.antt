@@ -1,7 +1,0 @@
-use Rattle.std.proofs.Common.{◌≡◌, [], drop}
-use Rattle.merge_rules.specs.LongForms.{entries_from, made_by}
-use Rattle.merge_rules.proofs.lists.entries_long.Given as goal
-
--- the items that are left make of what is done what all make
-abbrev pub invariant-loop-at : goal.invariant-loop-at
-invariant-loop-at l = entries_from (made_by l.form) l.at l.done (drop l.at l.items) ≡ entries_from (made_by l.form) 0 [] l.items

@@ -1,0 +1,4 @@
+pub mod Answers
+pub mod Attributes
+pub mod Parts
+pub mod Spots
