@@ -1,6 +1,5 @@
 ghost use Rattle.std.specs.Prelude.{◌≡◌, ◌<◌, ◌≤◌, ◌^◌};
 ghost use Rattle.outside_api.specs.Clock.{new_clock, after_now, after_pause, after_asked};
-ghost use Rattle.outside_api.specs.ClockCounts.{counts_of};
 
 /// How often a clock was read, with its first and last reading, the milliseconds that were paused, and how often it was
 /// asked whether to stop, and that was answered yes.
@@ -16,6 +15,8 @@ pub struct ClockCounts {
 }
 
 impl ClockCounts {
+    ghost use Rattle.outside_api.specs.ClockCounts.{counts_of};
+
     /// The counts of a clock that was never used. No memory.
     pub fn new() -> ClockCounts
         ensures { counts_of result ≡ new_clock }
