@@ -7,12 +7,14 @@ use Rattle.engine_types.specs.declared.Exchange.{Exchange}
 use Rattle.engine_types.specs.declared.Reply.{Reply}
 use Rattle.engine_types.specs.declared.Request.{Request}
 use Rattle.engine_types.specs.declared.Slot.{Slot}
+use Rattle.run_model.specs.EngineRules.{Among}
 use Rattle.run_model.specs.Journals.{Setup}
 use Rattle.run_model.specs.Labels.{is_of_slot}
 use Rattle.run_model.specs.Legal.{IsLegal}
 use Rattle.run_model.specs.Observation.{is_asked, is_up, observed}
 use Rattle.run_model.specs.Plans.{Aim}
 use Rattle.run_model.specs.Rolling.{run_actions}
+use Rattle.run_model.specs.Told.{answered}
 use Rattle.run_model.specs.Worlds.{FitsSeen, Move, Took, World, entries_of, seen_effects}
 
 -- a run, whole or cut: what it is of, and its moves, newest first. What the Engine and the requests that are left do before the
@@ -37,12 +39,12 @@ IsCutJournal aim setup moves = Stands (entries_of moves)
     Stands [] = IsCutSeeing aim setup moves
     Stands past = IsLegal aim setup past
 
--- the moves agree with these ids of images: each good reply to a look at an image tells its one id
-abbrev pub TellsImages : (List ℕ → List ℕ) → List Move → Type 0
+-- the journal agrees with these ids of images: each look at an image that its observation was answered tells the image's one id
+abbrev pub TellsImages : (List ℕ → List ℕ) → List Entry → Type 0
 TellsImages images [] = Unit {0}
-TellsImages images (Took source (Request.Image name) (Reply.ImageId id) ∷ moves) =
-    (id ≡ images name) × TellsImages images moves
-TellsImages images (_ ∷ moves) = TellsImages images moves
+TellsImages images (Entry.Seen observation ∷ past) = (name id : List ℕ)
+    → Among observation.exchanges (answered (Request.Image name) (Reply.ImageId id)) → id ≡ images name
+TellsImages images (_ ∷ past) = TellsImages images past
 
 -- a run of `up` over the declared set, whole or cut, from one Engine to another
 pub record IsRan (declared : Declared) (images : List ℕ → List ℕ) (first : Engine) (ran : Ran)
@@ -52,7 +54,7 @@ pub record IsRan (declared : Declared) (images : List ℕ → List ℕ) (first :
   pub plan : ran.setup.actions
       ≡ run_actions (record { declared = ran.setup.declared; seen = ran.setup.seen; aim = ran.aim })
   pub journal : IsCutJournal ran.aim ran.setup ran.moves
-  pub told : TellsImages images ran.moves
+  pub told : TellsImages images (entries_of ran.moves)
   pub world : World ran.setup first ran.moves last
 
 -- runs one after another, the latest first: each begins where the one before stopped
