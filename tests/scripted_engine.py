@@ -40,8 +40,8 @@ def json_lines(value):
 
 
 def as_asked(value, wanted):
-    """A value with `<any>` wherever the wanted one leaves a text open."""
-    if wanted == ANY and isinstance(value, str):
+    """A value with `<any>` wherever the wanted one leaves what stands there open."""
+    if wanted == ANY:
         return ANY
     if isinstance(value, dict) and isinstance(wanted, dict):
         return {name: as_asked(it, wanted.get(name)) for name, it in value.items()}
