@@ -1,8 +1,9 @@
 """Reads case files: the part of YAML that they are written in.
 
 A file is read as any reader of YAML 1.2 would read it, but that every scalar is a text. There are block mappings and block sequences,
-scalars on one line (plain, in single quotes, in double quotes), literal texts (`|`, `|-`, `|+`), flow sequences and flow mappings on one
-line, and comments. Anything else is refused by its line: folded texts, scalars of several lines, anchors, tags, tabs before a line's text.
+scalars on one line (plain, in single quotes, in double quotes), literal texts (`|`, `|-`, `|+`), flow sequences and flow mappings,
+anchors and aliases, and comments. Anything else is refused by its line: folded texts, scalars of several lines, tags, merge
+keys, tabs before a line's text.
 """
 import re
 
@@ -18,8 +19,8 @@ class Fault(Exception):
 class Line:
     """The rest of one line that is being read, from left to right."""
 
-    def __init__(self, text, number):
-        self.text, self.at, self.number = text, 0, number
+    def __init__(self, text, number, named):
+        self.text, self.at, self.number, self.named = text, 0, number, named
 
     def fault(self, why):
         return Fault(f"line {self.number}: {why}")
@@ -78,9 +79,30 @@ class Line:
         self.at = found.end()
         return found[0].strip()
 
+    def name(self):
+        """The name behind `&` or `*`."""
+        found = re.compile(r".([^\s,\[\]{}]+)").match(self.text, self.at)
+        if not found:
+            raise self.fault("an anchor or alias without a name")
+        self.at = found.end()
+        self.skip_spaces()
+        return found[1]
+
+    def alias(self):
+        name = self.name()
+        if name not in self.named:
+            raise self.fault(f"no value above has the name {name}")
+        return self.named[name]
+
     def flow(self):
         """A value inside of brackets."""
         self.skip_spaces()
+        if self.next() == "*":
+            return self.alias()
+        if self.next() == "&":
+            name = self.name()
+            self.named[name] = self.flow()
+            return self.named[name]
         if self.next() == "[":
             return self.flow_items("]", lambda items: items.append(self.flow()), [])
         if self.next() == "{":
@@ -118,7 +140,7 @@ class Line:
     def value(self):
         """A scalar or a flow value up to the line's end."""
         self.skip_spaces()
-        if self.next() in ("'", '"', "[", "{"):
+        if self.next() in ("'", '"', "[", "{", "*"):
             value = self.flow()
         else:
             value = self.plain(r"(?:[^ :]| (?!#)|:(?! |$))*")
@@ -129,6 +151,8 @@ class Line:
     def key(self):
         """The key that the line begins with, behind its colon; None where it begins with none."""
         begin = self.at
+        if re.match(r"[&*!|>%@`\[\]{},#]|[-?:]( |$)|$", self.rest()):
+            return None
         if self.next() in ("'", '"'):
             key = self.single_quoted() if self.next() == "'" else self.double_quoted()
         else:
@@ -143,11 +167,19 @@ class Line:
         return key
 
 
+def is_open(text):
+    """Whether a flow value has brackets that aren't closed yet."""
+    if text[:1] not in ("[", "{"):
+        return False
+    outside = re.sub(r"'[^']*'|\"(?:[^\"\\]|\\.)*\"", "", text)
+    return len(re.findall(r"[\[{]", outside)) > len(re.findall(r"[\]}]", outside))
+
+
 class Reader:
     """The lines of a file, of which those before `at` are read."""
 
     def __init__(self, text):
-        self.lines, self.at = text.split("\n"), 0
+        self.lines, self.at, self.named = text.split("\n"), 0, {}
 
     def fault(self, why):
         return Fault(f"line {self.at + 1}: {why}")
@@ -172,32 +204,58 @@ class Reader:
         line = self.lines[self.at][depth:]
         if line == "-" or line.startswith("- "):
             return self.sequence(depth)
-        if Line(line, self.at + 1).key() is not None:
+        if self.line(line).key() is not None:
             return self.mapping(depth)
-        value = Line(line, self.at + 1).value()
+        value = self.value_line(line)
         self.at += 1
+        return value.value()
+
+    def line(self, text):
+        return Line(text, self.at + 1, self.named)
+
+    def value_line(self, text):
+        """A line that begins with a value, with those behind it on which a flow value goes on."""
+        line = self.line(text)
+        while is_open(line.text) and self.at + 1 < len(self.lines):
+            self.at += 1
+            line.text += " " + self.lines[self.at].strip(" ")
+        return line
+
+    def anchored(self, rest):
+        """The name of an anchor that a value begins with, if it does, and what stands behind it."""
+        if not rest.startswith("&"):
+            return None, rest
+        line = self.line(rest)
+        return line.name(), line.rest()
+
+    def keep(self, name, value):
+        if name:
+            self.named[name] = value
         return value
 
     def sequence(self, depth):
         items = []
         while self.depth() == depth and re.match(r"-( |$)", self.lines[self.at][depth:]):
-            rest = self.lines[self.at][depth + 1 :].lstrip(" ")
-            if rest.startswith("|"):
-                items.append(self.literal(rest, depth))
-            elif not rest or rest.startswith("#"):
-                self.at += 1
-                items.append(self.below(depth))
-            else:
-                # The item as if it stood on a line of its own.
-                inside = len(self.lines[self.at]) - len(rest)
-                self.lines[self.at] = " " * inside + rest
-                items.append(self.block(inside))
+            name, rest = self.anchored(self.lines[self.at][depth + 1 :].lstrip(" "))
+            items.append(self.keep(name, self.item(rest, depth)))
         return items
+
+    def item(self, rest, depth):
+        """What stands behind a dash."""
+        if rest.startswith("|"):
+            return self.literal(rest, depth)
+        if not rest or rest.startswith("#"):
+            self.at += 1
+            return self.below(depth)
+        # As if it stood on a line of its own.
+        inside = len(self.lines[self.at]) - len(rest)
+        self.lines[self.at] = " " * inside + rest
+        return self.block(inside)
 
     def mapping(self, depth):
         entries = {}
         while self.depth() == depth:
-            line = Line(self.lines[self.at][depth:], self.at + 1)
+            line = self.line(self.lines[self.at][depth:])
             key = None if re.match(r"-( |$)", line.text) else line.key()
             if key is None:
                 raise self.fault("`KEY: VALUE` is wanted")
@@ -209,14 +267,16 @@ class Reader:
         return entries
 
     def entry(self, line, depth):
-        rest = line.rest().strip(" ")
+        """What stands behind a key."""
+        name, rest = self.anchored(line.rest().strip(" "))
         if rest.startswith("|"):
-            return self.literal(rest, depth)
+            return self.keep(name, self.literal(rest, depth))
+        value = self.value_line(rest)
         self.at += 1
-        if line.ends():
-            is_sequence = self.depth() == depth and re.match(r"-( |$)", self.lines[self.at][depth:])
-            return self.sequence(depth) if is_sequence else self.below(depth)
-        return line.value()
+        if not value.ends():
+            return self.keep(name, value.value())
+        is_sequence = self.depth() == depth and re.match(r"-( |$)", self.lines[self.at][depth:])
+        return self.keep(name, self.sequence(depth) if is_sequence else self.below(depth))
 
     def below(self, depth):
         """What stands deeper than this, or else the empty text."""
@@ -263,3 +323,20 @@ def read(text):
     if reader.depth() >= 0:
         raise reader.fault("this line isn't part of what stands before it")
     return value
+
+
+def built(text):
+    """The bytes of a text: a scalar, or parts that are joined."""
+    if isinstance(text, str):
+        return text.encode()
+    if isinstance(text, list):
+        return b"".join(map(built, text))
+    if isinstance(text, dict) and set(text) == {"times", "of"}:
+        return built(text["of"]) * int(text["times"])
+    if isinstance(text, dict) and set(text) == {"times", "counting"}:
+        return b"".join(built(text["counting"]).replace(b"#", b"%d" % at) for at in range(int(text["times"])))
+    if isinstance(text, dict) and set(text) == {"times", "deeper"}:
+        return b"".join(b" " * at + built(text["deeper"]) for at in range(int(text["times"])))
+    if isinstance(text, dict) and set(text) == {"bytes"}:
+        return bytes.fromhex(text["bytes"])
+    raise Fault("a text is a scalar, or parts: TEXT, {times: N, of: TEXT}, the same with `counting` or `deeper`, {bytes: HEX}")

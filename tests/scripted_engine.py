@@ -5,6 +5,8 @@ import threading
 import time
 from urllib.parse import parse_qsl
 
+from case_files import built
+
 VERSION = "/v1.43"
 REASONS = {200: "OK", 201: "Created", 204: "No Content", 304: "Not Modified", 400: "Bad Request", 403: "Forbidden"}
 REASONS.update({404: "Not Found", 409: "Conflict", 500: "Internal Server Error"})
@@ -21,12 +23,31 @@ class Request:
         self.query = dict(parse_qsl(query, keep_blank_values=True))
 
 
-def json_lines(text):
-    """A body's value, a line a member, with the members of objects in order of their names; the text itself where it is no JSON."""
+ANY = "<any>"
+
+
+def value_of(text):
+    """A body's value, or the text itself where it is no JSON."""
     try:
-        return json.dumps(json.loads(text), indent=2, sort_keys=True).split("\n")
+        return json.loads(text)
     except ValueError:
-        return text.split("\n")
+        return text
+
+
+def json_lines(value):
+    """A value, a line a member, with the members of objects in order of their names."""
+    return json.dumps(value, indent=2, sort_keys=True, ensure_ascii=False).split("\n")
+
+
+def as_asked(value, wanted):
+    """A value with `<any>` wherever the wanted one leaves what stands there open."""
+    if wanted == ANY:
+        return ANY
+    if isinstance(value, dict) and isinstance(wanted, dict):
+        return {name: as_asked(it, wanted.get(name)) for name, it in value.items()}
+    if isinstance(value, list) and isinstance(wanted, list):
+        return [as_asked(it, other) for it, other in zip(value, wanted)] + value[len(wanted) :]
+    return value
 
 
 def wanted_lines(exchange):
@@ -35,7 +56,7 @@ def wanted_lines(exchange):
     if "query" in exchange:
         lines += [f"  query {name}={value}" for name, value in sorted(exchange["query"].items())]
     if "sent" in exchange:
-        lines += ["  sent " + line for line in json_lines(exchange["sent"])]
+        lines += ["  sent " + line for line in json_lines(value_of(exchange["sent"]))]
     if "head" in exchange:
         lines += ["  head " + line for line in exchange["head"].rstrip("\n").split("\n")]
     return lines
@@ -47,7 +68,7 @@ def came_lines(request, exchange):
     if "query" in exchange:
         lines += [f"  query {name}={value}" for name, value in sorted(request.query.items())]
     if "sent" in exchange:
-        lines += ["  sent " + line for line in json_lines(request.body)]
+        lines += ["  sent " + line for line in json_lines(as_asked(value_of(request.body), value_of(exchange["sent"])))]
     if "head" in exchange:
         lines += ["  head " + line for line in request.head.split("\r\n")]
     return lines
@@ -56,9 +77,9 @@ def came_lines(request, exchange):
 def response_of(exchange):
     """The bytes of a response, as the script has it."""
     if "raw" in exchange:
-        return exchange["raw"].encode()
+        return built(exchange["raw"])
     status = int(exchange.get("status", "200"))
-    body = exchange.get("body", "").encode()
+    body = built(exchange.get("body", ""))
     lines = [f"HTTP/1.1 {status} {REASONS.get(status, 'Status')}", "Content-Type: application/json"]
     if "chunks" in exchange:
         pieces = [piece.encode() for piece in exchange["chunks"]]
