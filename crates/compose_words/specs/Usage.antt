@@ -25,7 +25,7 @@ shown_options =
     ∷ shown (codes "PATH") (codes "resolve relative paths against this directory")
     ∷ shown (codes "NAME") (codes "enable the services of this profile")
     ∷ shown (codes "PATH") (codes "take variables from this file")
-    ∷ shown (codes "N") (codes "use N workers, 1 to 16, or -1 for 16; 4 by default")
+    ∷ shown (codes "N") (codes "use N workers, 1 to 16, or -1 for 16; so far one is used")
     ∷ shown (codes "PATH") (codes "reach the Engine at this socket")
     ∷ shown (codes "") (codes "use an Engine in memory, which is empty at first")
     ∷ shown (codes "PATH") (codes "stop once there is a file at this path")
@@ -119,8 +119,8 @@ usage_end =
     codes "\n"
     ++ codes "compose --help and compose --version print this text and the version.\n"
     ++ codes "\n"
-    ++ codes "Built so far: config, also with --quiet; up and down with --memory, also with --remove-orphans.\n"
-    ++ codes "Other words of this page are read, and then refused by the line `not built: words`.\n"
+    ++ codes "Built so far: config, up and down, with all their options. The other commands are read, and then\n"
+    ++ codes "refused by the line `not built: words`.\n"
     ++ codes "\n"
     ++ codes "Exit statuses:\n"
     ++ codes "  0  done\n"

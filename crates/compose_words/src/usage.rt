@@ -22,8 +22,8 @@ Options, before or behind the command; a value is the next word, or stands behin
 const TAIL: &str = "
 compose --help and compose --version print this text and the version.
 
-Built so far: config, also with --quiet; up and down with --memory, also with --remove-orphans.
-Other words of this page are read, and then refused by the line `not built: words`.
+Built so far: config, up and down, with all their options. The other commands are read, and then
+refused by the line `not built: words`.
 
 Exit statuses:
   0  done
