@@ -7,7 +7,7 @@ ghost use Rattle.plan_core.specs.Order.{HasNoCycle};
 ghost use Rattle.project_run.specs.Options.{RollsNone, aim_of, limits_by};
 ghost use Rattle.project_run.specs.Timing.{IsTimed};
 ghost use Rattle.project_run.specs.Whole.{IfBegun, IsCaused, IsFault, IsReport, Leaves, SparesKept, run_steps, task_of};
-ghost use Rattle.project_run.specs.Worlds.{EndsExact, EndsGone, GoesThrough};
+ghost use Rattle.project_run.specs.Worlds.{EndsExact, EndsGone, GoesThrough, MakesOnce, SparesAgreeing};
 ghost use Rattle.run_model.specs.EngineRules.{TellsSteps};
 ghost use Rattle.run_model.specs.Logs.{GrowsBy};
 ghost use Rattle.run_model.specs.Observation.{is_up};
@@ -76,6 +76,12 @@ pub fn run_project<H: Hand>(
     ensures exact { result.fault ≡ None → is_up aim.purpose ≡ true → HasOwnSpecs declared
         → EndsExact
         (task_of declared (aim_of aim) (limits_by options (H.clock hand.new))) result.journal }
+    ensures once { IfBegun result.journal (is_up aim.purpose ≡ true → HasOwnSpecs declared
+        → MakesOnce
+        (task_of declared (aim_of aim) (limits_by options (H.clock hand.new))) result.journal) }
+    ensures agreeing { IfBegun result.journal (is_up aim.purpose ≡ true → HasOwnSpecs declared
+        → SparesAgreeing
+        (task_of declared (aim_of aim) (limits_by options (H.clock hand.new))) result.journal) }
     ensures gone { result.fault ≡ None → is_up aim.purpose ≡ false → EndsGone
         (task_of declared (aim_of aim) (limits_by options (H.clock hand.new))) result.journal }
     ensures cause { IsCaused
