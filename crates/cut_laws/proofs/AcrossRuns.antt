@@ -9,12 +9,11 @@ use Rattle.engine_types.specs.declared.Observed.{Observed}
 use Rattle.engine_types.specs.declared.Seen.{Seen}
 use Rattle.engine_types.specs.declared.Slot.{Slot}
 use Rattle.run_model.specs.Cuts.{IsCutJournal, IsCutSeeing, IsRan, Ran, Runs, TellsImages, creates, creates_over}
-use Rattle.run_model.specs.EngineRules.{Among}
 use Rattle.run_model.specs.Journals.{Setup, seen_in}
 use Rattle.run_model.specs.Legal.{IsLegal, IsObserved}
 use Rattle.run_model.specs.Plans.{HasPlan, IsWhole, seen_image, slot_at}
 use Rattle.run_model.specs.Runs.{run_setup}
-use Rattle.run_model.specs.Worlds.{Move, World, entries_of, seen_effects}
+use Rattle.run_model.specs.Worlds.{Move, entries_of}
 use Rattle.run_model.proofs.DistinctLists.{at_place, from_place}
 use Rattle.run_model.proofs.RollLaws.{has_plan}
 use Rattle.world_laws.specs.OwnSpecs.{HasOwnSpecs}
@@ -24,7 +23,7 @@ use Rattle.cut_laws.specs.Once.{IsAlone, IsOnce, IsPending, MadeOnceAcrossRuns, 
 use Rattle.cut_laws.proofs.Agreeing.{HasAlone}
 use Rattle.cut_laws.proofs.Begun.{begun_once}
 use Rattle.cut_laws.proofs.Images.{sees_images, tells_latest_first}
-use Rattle.cut_laws.proofs.Looking.{AllLook, cut_looks, effects_look, looks_alone, looks_before, never_empty, observed_looks, reverse_looks, unbegun}
+use Rattle.cut_laws.proofs.Looking.{AllLook, cut_effects_look, looks_alone, looks_before, never_empty, observed_looks, unbegun}
 use Rattle.cut_laws.proofs.Quiet.{IsQuiet, quiet}
 
 -- between runs: none was made yet, or one was, and it alone agrees
@@ -70,9 +69,7 @@ module _ (declared : Declared) (whole : IsWhole declared) (own : HasOwnSpecs dec
       setup = ran.setup
 
       cut : IsCutSeeing ran.aim setup ran.moves → entries_of ran.moves ≡ [] → AllLook ran.moves
-      cut seeing none = looks_before setup first ran.moves last is.world none
-          (effects_look (reverse seeing.exchanges) (seen_effects ran.moves)
-          (reverse_looks seeing.exchanges (cut_looks setup.declared ran.aim.purpose seeing.exchanges seeing.asked)) seeing.effects)
+      cut seeing none = looks_before setup first ran.moves last is.world none (cut_effects_look ran.aim setup ran.moves seeing)
 
       begun : IsLegal ran.aim setup (entries_of ran.moves) → (seen : Seen) → seen_in (entries_of ran.moves) ≡ Some seen → Stands ran n last
       begun legal seen e = subst (λ (d : Declared). IsOnce d s slot (images slot.image) (creates d slot ran.moves + n) setup ran.moves last) is.declares
@@ -87,9 +84,6 @@ module _ (declared : Declared) (whole : IsWhole declared) (own : HasOwnSpecs dec
 
           saw : seen_in (entries_of ran.moves) ≡ Some setup.seen
           saw = begun_seen ran.aim setup (entries_of ran.moves) legal (rw e refl)
-
-          way : IsUnderWay ran.aim setup first ran.moves last
-          way = record { plan = plan; legal = legal; saw = saw; world = is.world }
 
           run : IsRunning ran.aim setup first ran.moves last
           run = record {

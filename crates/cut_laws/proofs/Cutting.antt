@@ -16,7 +16,7 @@ use Rattle.run_model.specs.Plans.{Aim}
 use Rattle.run_model.specs.Requests.{OfAction, OfPoll, OfSeen, Source, asked}
 use Rattle.run_model.specs.Worlds.{Changed, Did, Effect, Fits, FitsLast, FitsSeen, Move, Took, World, entries_of, seen_effects}
 use Rattle.cut_laws.specs.Once.{CutsAnywhere}
-use Rattle.cut_laws.proofs.Asking.{each_is_asked}
+use Rattle.cut_laws.proofs.ObservationLaws.{each_is_asked}
 use Rattle.cut_laws.proofs.Looking.{is_on}
 
 -- the first exchanges of an observation are such, too
