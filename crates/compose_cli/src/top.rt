@@ -183,6 +183,9 @@ pub fn serial_main<F: Files, P: Plug, O: Sink, G: Sink>(
     ensures kept { IfBegun result.journal (ForTask words.now env.now cwd.now (F.told files.old)
         (first_reading (λ h. P.Hand.clock h) result.hands) (λ task.
         is_up task.aim.purpose ≡ true → SparesKept task result.journal)) }
+
+    // Whatever runs of `up` came before, each whole or cut off anywhere: over all of them and this one each container is made
+    // at most once, and this one spares the containers that agree.
     ensures once { IfBegun result.journal (ForTask words.now env.now cwd.now (F.told files.old)
         (first_reading (λ h. P.Hand.clock h) result.hands) (λ task.
         is_up task.aim.purpose ≡ true → MakesOnce task result.journal)) }

@@ -37,8 +37,9 @@ use tree_base::{List, Memory, ReservedList, Text};
 /// looks whether it is asked to stop, reads its clock and pauses as the journal says. An Engine that the hand tells
 /// went through the run, and changed by itself in the hand's pauses alone. Where a run of `up` went well and each slot's
 /// spec is made for it, the Engine holds exactly what is declared, and where one of `down` went well, all that is declared
-/// is gone, whatever the Engine held before. Where there is no memory to say the fault or the report, the fault is Memory in
-/// its place, and the report is empty.
+/// is gone, whatever the Engine held before. Over a run of `up` and any runs before it, each whole or cut off anywhere, each
+/// container is made at most once, and a run spares the containers that agree. Where there is no memory to say the fault or
+/// the report, the fault is Memory in its place, and the report is empty.
 pub fn run_project<H: Hand>(
     alloc: Global,
     hand: &mut H,
