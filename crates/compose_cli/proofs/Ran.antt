@@ -33,7 +33,10 @@ use Rattle.run_model.specs.EngineRules.{Among}
 use Rattle.run_model.specs.Ending.{fault_status}
 use Rattle.run_model.specs.Logs.{GrowsBy}
 use Rattle.run_model.specs.Observation.{is_up}
-use Rattle.run_model.specs.Plans.{Aim}
+use Rattle.run_model.specs.Plans.{Aim, IsWhole}
+use Rattle.cut_laws.proofs.AcrossRuns.{made_once_after_runs}
+use Rattle.cut_laws.proofs.Sparing.{run_spares_agreeing}
+use Rattle.world_laws.specs.OwnSpecs.{HasOwnSpecs}
 use Rattle.run_model.specs.Runs.{IsLeftByAll, IsRun, IsWorldOfRun, RunOptions, Task, limits_of, run_exchanges, run_fault, run_report}
 use Rattle.run_model.specs.Worlds.{Move}
 use Rattle.typed_project.specs.declared.project.Project.{Project}
@@ -209,12 +212,12 @@ went_well fault old new refusal found r h e = unrefused fault old new refusal r 
 -- what a call leaves, by what its run left
 pub runs_task : {H : Type 0} (log : H → List Exchange) (heard : H → Option (List Heard)) (faults : H → ℕ) (clock : H → Clock) (task : Task) (journal : List Entry) (hands : List H) (status : ℕ) (report : List ℕ)
     (fault : Option RunFault) (refusal found : Option Refusal) (hand after : H) (written_old written_new : Option (List ℕ)) (old new : ℕ)
-    → task.limits.workers ≡ 1 → IfBegun journal (IsRun task journal) → IfBegun journal (IsLeftByAll task journal) → IfBegun journal (GrowsBy (run_exchanges task journal 0) (log hand) (log after)) → IfBegun journal (IsFault (run_fault task journal) fault) → IfBegun journal (IsTimed task journal 0 (clock hand) (clock after))
+    → task.limits.workers ≡ 1 → IsWhole task.declared → HasOwnSpecs task.declared → IfBegun journal (IsRun task journal) → IfBegun journal (IsLeftByAll task journal) → IfBegun journal (GrowsBy (run_exchanges task journal 0) (log hand) (log after)) → IfBegun journal (IsFault (run_fault task journal) fault) → IfBegun journal (IsTimed task journal 0 (clock hand) (clock after))
     → IsReport (run_report task journal) fault report → IsCaused task journal 0 (account (log hand) (heard hand) (faults hand)) (account (log after) (heard after) (faults after))
     → (is_up task.aim.purpose ≡ true → SparesKept task journal) → (fault ≡ None → is_up task.aim.purpose ≡ true → EndsExact task journal)
     → (fault ≡ None → is_up task.aim.purpose ≡ false → EndsGone task journal) → log hand ≡ [] → clock hand ≡ new_clock → HeardNothing (heard hand) → faults hand ≡ 0 → hands ≡ after ∷ [] → IsRefusalOf fault old new refusal → Says report written_old written_new old new → IsSaidIfAny refusal found
     → IfBegun journal (RunsTask log heard faults clock task (record { status = status; journal = journal; hands = hands; refusal = found }) written_old written_new old new)
-runs_task log heard faults clock task journal hands status report fault refusal found hand after written_old written_new old new worker is left grows told times reports causes spares ends lacks unused unread unheard faultless one refused says is_said =
+runs_task log heard faults clock task journal hands status report fault refusal found hand after written_old written_new old new worker whole own is left grows told times reports causes spares ends lacks unused unread unheard faultless one refused says is_said =
     if_begun_of journal is left grows told times (λ run all_left grown is_fault is_timed. record {
       run = run;
       left = all_left;
@@ -232,6 +235,8 @@ runs_task log heard faults clock task journal hands status report fault refusal 
       refused = refused_by old new (run_fault task journal) fault refusal found is_fault refused is_said;
       reported = reports_by old new (run_report task journal) report fault refusal found written_old written_new reports says refused is_said;
       spares = spares;
+      once = λ up images first mid last earlier moves before world told_ids slot m. made_once_after_runs task journal images first mid last earlier moves up whole own before run world told_ids slot m;
+      agreeing = λ up first last moves world. run_spares_agreeing task journal first last moves up whole own run world;
       exact = λ e. ends (went_well fault old new refusal found refused is_said e);
       gone = λ e. lacks (went_well fault old new refusal found refused is_said e);
     })

@@ -14,7 +14,7 @@ ghost use Rattle.outside_files.specs.Sinks.{GrewBy};
 ghost use Rattle.project_run.specs.Options.{aim_of, options_of};
 ghost use Rattle.project_run.specs.Timing.{IsTimed};
 ghost use Rattle.project_run.specs.Whole.{IfBegun, SparesKept};
-ghost use Rattle.project_run.specs.Worlds.{EndsExact, EndsGone};
+ghost use Rattle.project_run.specs.Worlds.{EndsExact, EndsGone, MakesOnce, SparesAgreeing};
 ghost use Rattle.refusals.specs.Origins.{IsOfLoading, is_of_words};
 ghost use Rattle.refusals.specs.Statuses.{status_of};
 ghost use Rattle.refusals.specs.declared.Part.{Part};
@@ -183,6 +183,15 @@ pub fn serial_main<F: Files, P: Plug, O: Sink, G: Sink>(
     ensures kept { IfBegun result.journal (ForTask words.now env.now cwd.now (F.told files.old)
         (first_reading (λ h. P.Hand.clock h) result.hands) (λ task.
         is_up task.aim.purpose ≡ true → SparesKept task result.journal)) }
+
+    // Whatever runs of `up` came before, each whole or cut off anywhere: over all of them and this one each container is made
+    // at most once, and this one spares the containers that agree.
+    ensures once { IfBegun result.journal (ForTask words.now env.now cwd.now (F.told files.old)
+        (first_reading (λ h. P.Hand.clock h) result.hands) (λ task.
+        is_up task.aim.purpose ≡ true → MakesOnce task result.journal)) }
+    ensures agreeing { IfBegun result.journal (ForTask words.now env.now cwd.now (F.told files.old)
+        (first_reading (λ h. P.Hand.clock h) result.hands) (λ task.
+        is_up task.aim.purpose ≡ true → SparesAgreeing task result.journal)) }
 
     // The Engine went through the run: the one that the hand tells, and one in every world of the run, whatever it
     // held before.

@@ -10,13 +10,15 @@ use Rattle.ledger_run.proofs.Stepping.{exchanges_are}
 use Rattle.run_model.specs.EngineRules.{Made, Paused, Step, TellsSteps}
 use Rattle.run_model.specs.Observation.{is_up}
 use Rattle.run_model.specs.Plans.{Aim, IsWhole}
-use Rattle.run_model.specs.Runs.{IsRun, run_fault, run_setup}
+use Rattle.run_model.specs.Runs.{IsRun, Task, run_fault, run_setup}
 use Rattle.world_laws.proofs.ExactWorlds.{exact_in_each_world}
 use Rattle.world_laws.proofs.GoneWorlds.{gone_in_each_world}
 use Rattle.world_laws.proofs.ToldRuns.{told_runs_have_worlds}
 use Rattle.world_laws.specs.OwnSpecs.{HasOwnSpecs}
 use Rattle.project_run.specs.Whole.{IfBegun, IsFault, run_steps, task_of}
-use Rattle.project_run.specs.Worlds.{EndsExact, EndsGone, GoesThrough}
+use Rattle.cut_laws.proofs.AcrossRuns.{made_once_after_runs}
+use Rattle.cut_laws.proofs.Sparing.{run_spares_agreeing}
+use Rattle.project_run.specs.Worlds.{EndsExact, EndsGone, GoesThrough, MakesOnce, SparesAgreeing}
 
 -- a hand that tells no Engine goes on so
 none_told : (steps : List Step) (now : Option Engine) → TellsSteps steps None now → now ≡ None
@@ -49,3 +51,10 @@ module _ (declared : Declared) (aim : Aim) (limits : RunLimits) (journal : List 
 pub if_any : (journal : List Entry) {A : Type 0} → A → IfBegun journal A
 if_any [] a = tt
 if_any (entry ∷ rest) a = a
+
+pub makes_once : (task : Task) (journal : List Entry) → is_up task.aim.purpose ≡ true → IsWhole task.declared → HasOwnSpecs task.declared → IsRun task journal → MakesOnce task journal
+makes_once task journal up whole own run images first mid last earlier moves before world told slot m =
+    made_once_after_runs task journal images first mid last earlier moves up whole own before run world told slot m
+
+pub spares_agreeing : (task : Task) (journal : List Entry) → is_up task.aim.purpose ≡ true → IsWhole task.declared → HasOwnSpecs task.declared → IsRun task journal → SparesAgreeing task journal
+spares_agreeing task journal up whole own run first last moves world = run_spares_agreeing task journal first last moves up whole own run world

@@ -1,9 +1,13 @@
 -- What a run of a project leaves in the Engine.
-use Rattle.std.specs.Prelude.{◌≡◌, List, Option, Some, None, IsSomeAnd}
+use Rattle.std.specs.Prelude.{◌≡◌, ℕ, ◌+◌, ◌≤◌, List, Option, Some, None, IsSomeAnd}
 use Rattle.engine_types.specs.declared.Engine.{Engine}
 use Rattle.engine_types.specs.declared.Entry.{Entry}
+use Rattle.engine_types.specs.declared.Slot.{Slot}
+use Rattle.cut_laws.specs.Spared.{SparesAlong}
+use Rattle.run_model.specs.Cuts.{Ran, Runs, TellsImages, creates, creates_over}
+use Rattle.run_model.specs.EngineRules.{Among}
 use Rattle.run_model.specs.Exact.{IsExact, IsGone}
-use Rattle.run_model.specs.Runs.{IsWorldOfRun, Task}
+use Rattle.run_model.specs.Runs.{IsWorldOfRun, Task, run_setup}
 use Rattle.run_model.specs.Worlds.{Move}
 
 -- the Engine that a hand told at first went through the run, to the one that it tells now; a hand that told none tells none
@@ -23,3 +27,18 @@ abbrev pub EndsGone : Task → List Entry → Type 0
 EndsGone task journal =
     (first last : Engine) (moves : List Move) → IsWorldOfRun task journal first moves last
     → IsGone task.declared last task.aim.orphans task.aim.volumes
+
+-- whatever runs of `up` came before, each whole or cut off anywhere: over all of them and this one at most one container is made
+-- for a slot, in every world, where all runs were told one id of each image
+abbrev pub MakesOnce : Task → List Entry → Type 0
+MakesOnce task journal =
+    (images : List ℕ → List ℕ) (first mid last : Engine) (earlier : List Ran) (moves : List Move)
+    → Runs task.declared images first earlier mid → IsWorldOfRun task journal mid moves last
+    → TellsImages images journal → (slot : Slot) → Among task.declared.slots slot
+    → creates task.declared slot moves + creates_over task.declared slot earlier ≤ 1
+
+-- in every world of the run each effect spares the containers that agree with a slot
+abbrev pub SparesAgreeing : Task → List Entry → Type 0
+SparesAgreeing task journal = (first last : Engine) (moves : List Move)
+    → (world : IsWorldOfRun task journal first moves last)
+    → SparesAlong (run_setup task journal) first moves last world.world

@@ -7,7 +7,7 @@ ghost use Rattle.plan_core.specs.Order.{HasNoCycle};
 ghost use Rattle.project_run.specs.Options.{RollsNone, aim_of, limits_by};
 ghost use Rattle.project_run.specs.Timing.{IsTimed};
 ghost use Rattle.project_run.specs.Whole.{IfBegun, IsCaused, IsFault, IsReport, Leaves, SparesKept, run_steps, task_of};
-ghost use Rattle.project_run.specs.Worlds.{EndsExact, EndsGone, GoesThrough};
+ghost use Rattle.project_run.specs.Worlds.{EndsExact, EndsGone, GoesThrough, MakesOnce, SparesAgreeing};
 ghost use Rattle.run_model.specs.EngineRules.{TellsSteps};
 ghost use Rattle.run_model.specs.Logs.{GrowsBy};
 ghost use Rattle.run_model.specs.Observation.{is_up};
@@ -37,8 +37,9 @@ use tree_base::{List, Memory, ReservedList, Text};
 /// looks whether it is asked to stop, reads its clock and pauses as the journal says. An Engine that the hand tells
 /// went through the run, and changed by itself in the hand's pauses alone. Where a run of `up` went well and each slot's
 /// spec is made for it, the Engine holds exactly what is declared, and where one of `down` went well, all that is declared
-/// is gone, whatever the Engine held before. Where there is no memory to say the fault or the report, the fault is Memory in
-/// its place, and the report is empty.
+/// is gone, whatever the Engine held before. Over a run of `up` and any runs before it, each whole or cut off anywhere, each
+/// container is made at most once, and a run spares the containers that agree. Where there is no memory to say the fault or
+/// the report, the fault is Memory in its place, and the report is empty.
 pub fn run_project<H: Hand>(
     alloc: Global,
     hand: &mut H,
@@ -76,6 +77,12 @@ pub fn run_project<H: Hand>(
     ensures exact { result.fault ≡ None → is_up aim.purpose ≡ true → HasOwnSpecs declared
         → EndsExact
         (task_of declared (aim_of aim) (limits_by options (H.clock hand.new))) result.journal }
+    ensures once { IfBegun result.journal (is_up aim.purpose ≡ true → HasOwnSpecs declared
+        → MakesOnce
+        (task_of declared (aim_of aim) (limits_by options (H.clock hand.new))) result.journal) }
+    ensures agreeing { IfBegun result.journal (is_up aim.purpose ≡ true → HasOwnSpecs declared
+        → SparesAgreeing
+        (task_of declared (aim_of aim) (limits_by options (H.clock hand.new))) result.journal) }
     ensures gone { result.fault ≡ None → is_up aim.purpose ≡ false → EndsGone
         (task_of declared (aim_of aim) (limits_by options (H.clock hand.new))) result.journal }
     ensures cause { IsCaused

@@ -1,6 +1,5 @@
 -- The laws.
 pub mod ClaimLaws
-pub mod ObservationLaws
 pub mod Rolled
 pub mod RunOrders
 pub mod SparingRuns
@@ -11,3 +10,4 @@ pub mod OneDown
 pub mod TwoNetworks
 pub mod LostCreate
 pub mod TwoWorlds
+pub mod Moments

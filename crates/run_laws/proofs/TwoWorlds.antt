@@ -1,5 +1,5 @@
 -- A world of the run whose create is lost, and of the next one.
-use Rattle.std.proofs.Common.{◌≡◌, ◌⊎◌, ℕ, List, [], ◌∷◌, Option, Some, None, Bool, true, false, not, ◌&&◌, ◌||◌, refl, sym, subst, inl, inr, drop}
+use Rattle.std.proofs.Common.{◌≡◌, ◌⊎◌, ℕ, List, [], ◌∷◌, Option, Some, None, Bool, true, false, not, ◌&&◌, ◌||◌, refl, sym, ap, subst, inl, inr, drop}
 use Rattle.std.proofs.lemmas.Slice.Eq.{bytes_eq-Decides}
 use Rattle.std.specs.Fmt.{digits}
 use Rattle.std.specs.List.{IsDistinct, list_any}
@@ -8,17 +8,22 @@ use Rattle.std.specs.Prelude.{codes, if◌then◌else◌}
 use Rattle.std.specs.Str.{bytes_eq}
 use Rattle.engine_types.specs.declared.ContainerRow.{ContainerRow}
 use Rattle.engine_types.specs.declared.ContainerState.{ContainerState}
+use Rattle.engine_types.specs.declared.Exchange.{Exchange}
 use Rattle.engine_types.specs.declared.Listed.{Listed}
 use Rattle.engine_types.specs.declared.NetRow.{NetRow}
 use Rattle.engine_types.specs.declared.NetworkSpec.{NetworkSpec}
+use Rattle.engine_types.specs.declared.Outcome.{Outcome}
+use Rattle.engine_types.specs.declared.Reply.{Reply}
+use Rattle.engine_types.specs.declared.Request.{Request}
 use Rattle.engine_types.specs.declared.Slot.{Slot}
 use Rattle.run_model.specs.Cuts.{IsRan, Runs}
 use Rattle.run_model.specs.EngineRules.{Among, Connects, Creates, ListsContainers, ListsNetworks, Shows, Updates, can_start, container_at, is_of_project, network_at, network_has_name, started_row}
 use Rattle.run_model.specs.Exact.{IsExact, IsExactNetwork, IsExactSlot}
 use Rattle.run_model.specs.Labels.{is_of_slot, is_orphan}
 use Rattle.run_laws.specs.OneService.{to_up}
-use Rattle.run_laws.specs.TwoNetworks.{both, listed, network_row, shop, web}
+use Rattle.run_laws.specs.TwoNetworks.{both, listed, network_row, seen_as, shop, web}
 use Rattle.run_laws.specs.TwoWorlds.{after, bare, between, both_runs, engine_with, first_moves, joined, made, one, second_moves, two}
+use Rattle.run_model.specs.Told.{answered}
 use Rattle.run_model.specs.Worlds.{World}
 use Rattle.run_laws.proofs.LostCreate.{first, first_legal, legal, second}
 
@@ -77,7 +82,7 @@ first_11 = (engine_with [] two, first_10, (tt, refl))
 first_12 : World first bare (drop 2 first_moves) (engine_with [] two)
 first_12 = (engine_with [] two, first_11, (tt, refl))
 
-first_13 : World first bare (drop 1 first_moves) (engine_with [] two)
+pub first_13 : World first bare (drop 1 first_moves) (engine_with [] two)
 first_13 = (engine_with [] two, first_12, (tt, refl))
 
 first_14 : World first bare first_moves (between)
@@ -201,14 +206,27 @@ second_11 : World second between second_moves (after)
 unfolding digits
 second_11 = (after, second_10, (tt, refl))
 
+-- an observation that tells of an image tells its one id
+pub tells_sha : (containers : List Listed) (networks : List NetRow) (name id : List ℕ) → Among (seen_as containers networks).exchanges (answered (Request.Image name) (Reply.ImageId id))
+    → id ≡ codes "sha"
+tells_sha containers networks name id (inl e) =
+    let bad : Request.Image name ≡ Request.ListContainers (codes "shop") = ap (λ (x : Exchange). x.request) e in absurd (cc bad)
+tells_sha containers networks name id (inr (inl e)) =
+    let bad : Request.Image name ≡ Request.ListNetworks = ap (λ (x : Exchange). x.request) e in absurd (cc bad)
+tells_sha containers networks name id (inr (inr (inl e))) =
+    let outcome : Outcome.Answered (Reply.ImageId id) ≡ Outcome.Answered (Reply.ImageId (codes "sha")) = ap (λ (x : Exchange). x.outcome) e in
+    let reply : Reply.ImageId id ≡ Reply.ImageId (codes "sha") = cc outcome in
+    cc reply
+tells_sha containers networks name id (inr (inr (inr m))) = absurd m
+
 pub runs : Runs shop (λ image. codes "sha") bare both_runs after
 runs = (between, (bare, refl, first_ran), second_ran)
   where
     first_ran : IsRan shop (λ image. codes "sha") bare (record { aim = to_up; setup = first; moves = first_moves }) between
-    first_ran = record { declares = refl; up = refl; plan = refl; journal = first_legal; told = (refl, tt); world = first_14 }
+    first_ran = record { declares = refl; up = refl; plan = refl; journal = first_legal; told = tells_sha [] []; world = first_14 }
 
     second_ran : IsRan shop (λ image. codes "sha") between (record { aim = to_up; setup = second; moves = second_moves }) after
-    second_ran = record { declares = refl; up = refl; plan = refl; journal = legal; told = (refl, tt); world = second_11 }
+    second_ran = record { declares = refl; up = refl; plan = refl; journal = legal; told = tells_sha _ both; world = second_11 }
 
 exact_web : IsExactSlot shop after web
 unfolding digits

@@ -1,5 +1,5 @@
 -- What an Engine did while a run lost its create and the next one found the container.
-use Rattle.std.specs.Prelude.{List, [], ◌∷◌, codes}
+use Rattle.std.specs.Prelude.{List, [], ◌∷◌, codes, drop}
 use Rattle.engine_types.specs.declared.ContainerRow.{ContainerRow}
 use Rattle.engine_types.specs.declared.ContainerState.{ContainerState}
 use Rattle.engine_types.specs.declared.Engine.{Engine}
@@ -86,6 +86,14 @@ second_moves =
     ∷ Took (OfSeen 1) Request.ListNetworks (Reply.Networks both)
     ∷ Took (OfSeen 0) (Request.ListContainers (codes "shop"))
     (Reply.Containers (listed ContainerState.Created (codes "shop_a" ∷ []) ∷ [])) ∷ []
+
+-- the first run's moves before its create takes effect
+abbrev pub waiting_moves : List Move
+waiting_moves = drop 1 first_moves
+
+-- the Engine as it then is, with both networks
+abbrev pub waiting : Engine
+waiting = engine_with [] two
 
 -- the two runs, the latest first
 abbrev pub both_runs : List Ran

@@ -4,8 +4,8 @@
 //! `laws` and `orders` have the laws: of plans, of legal journals, of observations, and that a run's actions can be carried
 //! out in some order, also where a rolling update makes some of them wait for others; `sparing` that runs, wherever they
 //! were cut off, spare the containers that their slots keep. `worked` has the definitions of `run_model` worked out on
-//! whole journals, and `worlds` applies the laws of `world_laws` to some of these, so that their premises are seen to be
-//! met.
+//! whole journals, and `worlds` applies the laws of `world_laws` and `cut_laws` to some of these, so that their
+//! premises are seen to be met.
 #![tactic(auto)]
 
 mod laws;
@@ -29,6 +29,6 @@ pub use worked::{
     second_run_and_down, two_workers_take_turns, workers_find_other_work,
 };
 pub use worlds::{
-    one_service_is_gone, one_service_is_held_exactly, paused_run_has_a_world,
-    two_networks_are_held_exactly,
+    lost_create_stands_once, one_service_is_gone, one_service_is_held_exactly,
+    paused_run_has_a_world, two_networks_are_held_exactly,
 };

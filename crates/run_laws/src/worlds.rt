@@ -1,12 +1,15 @@
-ghost use Rattle.std.specs.Prelude.{◌≡◌, List, None, Some};
+ghost use Rattle.std.specs.Prelude.{◌≡◌, List, None, Some, codes};
+ghost use Rattle.engine_types.specs.declared.ActionKind.TheVariants.{CreateSlot};
 ghost use Rattle.engine_types.specs.declared.Engine.{Engine};
+ghost use Rattle.cut_laws.specs.Once.{IsOnce, IsPending};
+ghost use Rattle.run_model.specs.Cuts.{Runs};
 ghost use Rattle.run_model.specs.EngineRules.{TellsSteps, exchanges_in};
 ghost use Rattle.run_model.specs.Exact.{IsExact, IsGone};
 ghost use Rattle.run_laws.specs.OneService.{comes_up, shop, upping};
 ghost use Rattle.run_laws.specs.OneWorld.{fresh, moves, up};
 ghost use Rattle.run_laws.specs.OtherRuns.{downing, goes_down};
 ghost use Rattle.run_model.specs.Plans.{IsWhole};
-ghost use Rattle.run_model.specs.Runs.{IsRun, IsWorldOfRun, run_exchanges, run_fault};
+ghost use Rattle.run_model.specs.Runs.{IsRun, IsWorldOfRun, run_exchanges, run_fault, run_setup};
 ghost use Rattle.run_laws.specs.TwoNetworks as two;
 ghost use Rattle.run_laws.specs.TwoWorlds as worlds;
 ghost use Rattle.run_model.specs.Worlds.{Move};
@@ -45,6 +48,20 @@ pub fn two_networks_are_held_exactly()
     lost_create_is_found();
     lost_create_is_made_once();
 }
+
+/// A create that is lost is pending while none was made; it takes effect after its run, and the next run finds its
+/// container: so the laws on runs that were cut off have their premises met, and one is all that they allow.
+pub fn lost_create_stands_once()
+    ensures whole { IsWhole two.shop }
+    ensures own { HasOwnSpecs two.shop }
+    ensures runs { Runs two.shop (λ image. codes "sha") worlds.bare worlds.both_runs worlds.after }
+    ensures pending { IsPending (run_setup (upping two.shop) two.loses_create)
+        worlds.waiting_moves 2 (CreateSlot 0) }
+    ensures waits { IsOnce two.shop 0 two.web (codes "sha") 0
+        (run_setup (upping two.shop) two.loses_create) worlds.waiting_moves worlds.waiting }
+    ensures stands { IsOnce two.shop 0 two.web (codes "sha") 1
+        (run_setup (upping two.shop) two.connects) worlds.second_moves worlds.after }
+{}
 
 /// The run that takes one service down, whose container runs, has all that the law on `down` asks for, and so all that
 /// is declared is gone.

@@ -18,7 +18,7 @@ returns-clause-ran g c =
     (runs_task (λ h. g.H.Hand.log h) (λ h. g.H.Hand.heard h) (λ h. g.H.Hand.faults h) (λ h. g.H.Hand.clock h) (task_of c.args.declared (aim_of c.args.aim) (limits_by c.args.options (g.H.Hand.clock c.run_project-journal.new.hand))) c.run_project-journal.result.journal c.from_vec.result c.status_of.result
     c.run_project-journal.result.report c.run_project-journal.result.fault c.write_report.result c.say_if_any-refusal.result c.args.hand c.run_project-journal.new.hand
     (g.O.Sink.written c.args.out.now) (g.O.Sink.written c.write_report.new.out) (g.O.Sink.faults c.args.out.now) (g.O.Sink.faults c.write_report.new.out)
-    refl c.run_project-journal.ensures.run c.run_project-journal.ensures.left c.run_project-journal.ensures.log c.run_project-journal.ensures.fault c.run_project-journal.ensures.timed c.run_project-journal.ensures.report c.run_project-journal.ensures.cause
+    refl c.requires.whole c.requires.own c.run_project-journal.ensures.run c.run_project-journal.ensures.left c.run_project-journal.ensures.log c.run_project-journal.ensures.fault c.run_project-journal.ensures.timed c.run_project-journal.ensures.report c.run_project-journal.ensures.cause
     c.run_project-journal.ensures.kept (λ well up. c.run_project-journal.ensures.exact well up c.requires.own) c.run_project-journal.ensures.gone
     c.requires.unused c.requires.unread c.requires.unheard c.requires.faultless (c.from_vec.ensures ∙ grown ∙ ap (λ (hands : List _). hands ++ c.run_project-journal.new.hand ∷ []) c.requires.empty)
     c.write_report.ensures.refused c.write_report.ensures.written c.say_if_any-refusal.ensures.refusal)

@@ -1,5 +1,5 @@
 use Rattle.std.proofs.Common.{refl}
-use Rattle.project_run.proofs.Exact.{ends_exact, ends_gone, goes_through, if_any}
+use Rattle.project_run.proofs.Exact.{ends_exact, ends_gone, goes_through, if_any, makes_once, spares_agreeing}
 use Rattle.project_run.proofs.Sparing.{runs_spare_kept}
 use Rattle.project_run.proofs.Leaving.{nothing_caused}
 use Rattle.project_run.specs.Options.{aim_of, limits_by}
@@ -20,6 +20,14 @@ returns-in-Ok-clause-world g c = if_any c.run.result.journal
 pub returns-in-Ok-clause-exact : goal.returns-in-Ok-clause-exact
 returns-in-Ok-clause-exact g c =
     ends_exact c.args.declared (aim_of c.args.aim) (limits_by c.args.options (g.H.Hand.clock c.run.new.hand)) c.run.result.journal refl c.requires.whole c.run.ensures.leaves.run c.run.result.fault c.run.ensures.fault
+
+pub returns-in-Ok-clause-once : goal.returns-in-Ok-clause-once
+returns-in-Ok-clause-once g c = if_any c.run.result.journal (λ up own.
+    makes_once (task_of c.args.declared (aim_of c.args.aim) (limits_by c.args.options (g.H.Hand.clock c.run.new.hand))) c.run.result.journal up c.requires.whole own c.run.ensures.leaves.run)
+
+pub returns-in-Ok-clause-agreeing : goal.returns-in-Ok-clause-agreeing
+returns-in-Ok-clause-agreeing g c = if_any c.run.result.journal (λ up own.
+    spares_agreeing (task_of c.args.declared (aim_of c.args.aim) (limits_by c.args.options (g.H.Hand.clock c.run.new.hand))) c.run.result.journal up c.requires.whole own c.run.ensures.leaves.run)
 
 pub returns-in-Ok-clause-gone : goal.returns-in-Ok-clause-gone
 returns-in-Ok-clause-gone g c =
