@@ -1,6 +1,9 @@
-//! Laws of runs one after another, each of which may have been cut off anywhere.
+//! Laws of runs of `up` one after another, each of which may have been cut off anywhere: over all of them at most one
+//! container is made for each slot, and the containers that agree with a slot are spared. They hold for any number of
+//! workers.
 //!
-//! The functions in `laws` have empty bodies: their contracts are the laws.
+//! The functions in `laws` have empty bodies: their contracts are the laws. Runs that meet their premises are worked out in
+//! `run_laws`.
 #![tactic(auto)]
 
 mod laws;
