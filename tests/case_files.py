@@ -333,8 +333,9 @@ def built(text):
         return b"".join(map(built, text))
     if isinstance(text, dict) and set(text) == {"times", "of"}:
         return built(text["of"]) * int(text["times"])
-    if isinstance(text, dict) and set(text) == {"times", "counting"}:
-        return b"".join(built(text["counting"]).replace(b"#", b"%d" % at) for at in range(int(text["times"])))
+    if isinstance(text, dict) and set(text) | {"from"} == {"times", "from", "counting"}:
+        first, times = int(text.get("from", "0")), int(text["times"])
+        return b"".join(built(text["counting"]).replace(b"#", b"%d" % at) for at in range(first, first + times))
     if isinstance(text, dict) and set(text) == {"times", "deeper"}:
         return b"".join(b" " * at + built(text["deeper"]) for at in range(int(text["times"])))
     if isinstance(text, dict) and set(text) == {"bytes"}:
