@@ -83,7 +83,7 @@ def response_of(exchange):
     """The bytes of a response, as the script has it."""
     if "raw" in exchange:
         return built(exchange["raw"])
-    status = int(exchange.get("status", "200"))
+    status = int(exchange.get("status") or "200")
     body = built(exchange.get("body", ""))
     lines = [f"HTTP/1.1 {status} {REASONS.get(status, 'Status')}", "Content-Type: application/json"]
     if "chunks" in exchange:
@@ -129,9 +129,9 @@ class ScriptedEngine:
         self.came += lines
         if not exchange or lines != wanted_lines(exchange) or "close" in exchange:
             return
-        time.sleep(int(exchange.get("pause", "0")) / 1000)
+        time.sleep(int(exchange.get("pause") or "0") / 1000)
         response = response_of(exchange)
-        connection.sendall(response[: int(exchange["cut"])] if "cut" in exchange else response)
+        connection.sendall(response[: int(exchange["cut"])] if exchange.get("cut") else response)
 
     def close(self):
         self.listener.shutdown(socket.SHUT_RDWR)
