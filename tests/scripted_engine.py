@@ -34,6 +34,11 @@ def value_of(text):
         return text
 
 
+def wanted_value(exchange):
+    """The value of the body that is wanted of a request."""
+    return value_of(built(exchange["sent"]).decode())
+
+
 def json_lines(value):
     """A value, a line a member, with the members of objects in order of their names."""
     return json.dumps(value, indent=2, sort_keys=True, ensure_ascii=False).split("\n")
@@ -56,7 +61,7 @@ def wanted_lines(exchange):
     if "query" in exchange:
         lines += [f"  query {name}={value}" for name, value in sorted(exchange["query"].items())]
     if "sent" in exchange:
-        lines += ["  sent " + line for line in json_lines(value_of(exchange["sent"]))]
+        lines += ["  sent " + line for line in json_lines(wanted_value(exchange))]
     if "head" in exchange:
         lines += ["  head " + line for line in exchange["head"].rstrip("\n").split("\n")]
     return lines
@@ -68,7 +73,7 @@ def came_lines(request, exchange):
     if "query" in exchange:
         lines += [f"  query {name}={value}" for name, value in sorted(request.query.items())]
     if "sent" in exchange:
-        lines += ["  sent " + line for line in json_lines(as_asked(value_of(request.body), value_of(exchange["sent"])))]
+        lines += ["  sent " + line for line in json_lines(as_asked(value_of(request.body), wanted_value(exchange)))]
     if "head" in exchange:
         lines += ["  head " + line for line in request.head.split("\r\n")]
     return lines
@@ -78,7 +83,7 @@ def response_of(exchange):
     """The bytes of a response, as the script has it."""
     if "raw" in exchange:
         return built(exchange["raw"])
-    status = int(exchange.get("status", "200"))
+    status = int(exchange.get("status") or "200")
     body = built(exchange.get("body", ""))
     lines = [f"HTTP/1.1 {status} {REASONS.get(status, 'Status')}", "Content-Type: application/json"]
     if "chunks" in exchange:
@@ -124,9 +129,9 @@ class ScriptedEngine:
         self.came += lines
         if not exchange or lines != wanted_lines(exchange) or "close" in exchange:
             return
-        time.sleep(int(exchange.get("pause", "0")) / 1000)
+        time.sleep(int(exchange.get("pause") or "0") / 1000)
         response = response_of(exchange)
-        connection.sendall(response[: int(exchange["cut"])] if "cut" in exchange else response)
+        connection.sendall(response[: int(exchange["cut"])] if exchange.get("cut") else response)
 
     def close(self):
         self.listener.shutdown(socket.SHUT_RDWR)
