@@ -1,0 +1,5 @@
+pub mod Telling
+pub mod Adding
+pub mod Granting
+pub mod Counting
+pub mod Told
