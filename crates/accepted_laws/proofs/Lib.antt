@@ -1,6 +1,0 @@
-pub mod Entering
-pub mod Looks
-pub mod LongServices
-pub mod Declaring
-pub mod LongTrees
-pub mod ShapedTrees

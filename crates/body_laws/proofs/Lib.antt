@@ -1,3 +1,0 @@
-mod Lookups
-mod Same
-mod Tells

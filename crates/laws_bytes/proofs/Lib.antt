@@ -1,0 +1,4 @@
+mod Lookups
+mod Same
+mod Tells
+mod Staying

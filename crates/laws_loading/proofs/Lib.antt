@@ -1,0 +1,9 @@
+pub mod Settings
+pub mod SettledModels
+pub mod SettledTrees
+pub mod Loads
+pub mod OneFile
+pub mod OneModel
+pub mod Braces
+pub mod Levels
+pub mod TailValues

@@ -1,0 +1,4 @@
+pub mod Settled
+pub mod FilesInForms
+pub mod Loads
+pub mod Defaults

@@ -1,0 +1,12 @@
+pub mod MeaningLaws
+pub mod PagesOfProjects
+pub mod JsonNodeLaws
+pub mod Words
+pub mod Held
+pub mod WordLaws
+pub mod ProjectLaws
+pub mod PlainNodes
+pub mod PlainTrees
+pub mod Projects
+pub mod Pages
+pub mod JsonPageLaws

@@ -1,0 +1,4 @@
+pub mod GrantLaws
+pub mod Begun
+pub mod Preparing
+pub mod BeginLaws

@@ -1,0 +1,10 @@
+pub mod BlockLaws
+pub mod BlankLines
+pub mod PageLaws
+pub mod Readable
+pub mod NodeLaws
+pub mod PrintedLaws
+pub mod Printed
+pub mod Flows
+pub mod FlowLaws
+pub mod JsonLaws

@@ -1,4 +1,0 @@
-pub mod SettledTrees
-pub mod Loads
-pub mod OneFile
-pub mod OneModel

@@ -1,2 +1,0 @@
-pub mod FilesInForms
-pub mod Loads

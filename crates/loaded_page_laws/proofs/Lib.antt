@@ -1,4 +1,0 @@
-pub mod Clean
-pub mod Loaded
-pub mod SettledPages
-pub mod TypedServices

@@ -1,9 +1,0 @@
-use Rattle.std.proofs.Common.{rules}
-use Rattle.tree_base.specs.declared.tree.Tree.{the_lemmas}
-use Rattle.merge_tables.specs.Attributes.{overlay_rules}
-use Rattle.merge_rules.specs.Overlay.{over_files}
-use Rattle.merge_laws.proofs.examples.twice_differs.Goals as goal
-
-pub returns : goal.returns
-unfolding over_files overlay_rules
-returns c = (search (rules, the_lemmas), search (rules, the_lemmas))

@@ -1,4 +1,0 @@
-pub mod Laws
-pub mod PlainNodes
-pub mod PlainTrees
-pub mod Projects

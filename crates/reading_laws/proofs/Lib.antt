@@ -1,3 +1,0 @@
-pub mod Braces
-pub mod Levels
-pub mod TailValues

@@ -1,3 +1,0 @@
-pub mod Aims
-pub mod Prepared
-pub mod Begun

@@ -1,3 +1,0 @@
-pub mod Begun
-pub mod Preparing
-pub mod Laws
