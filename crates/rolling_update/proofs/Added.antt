@@ -1,8 +1,7 @@
 -- What is looked up is what a rolling update adds.
-use Rattle.std.proofs.Common.{◌≡◌, ◌⊎◌, ◌↔◌, ℕ, ◌+◌, Bool, true, false, ◌==◌, ◌&&◌, List, [], ◌∷◌, ◌++◌, map, Option, Some, None, Result, Ok, Err, IfOk, Vec, Global, slice_get, unwrap_or, refl, sym, ap, ◌∙◌, subst, inl, inr, arith}
+use Rattle.std.proofs.Common.{◌≡◌, ℕ, Bool, true, false, ◌==◌, ◌&&◌, List, [], Option, Some, None, Result, Ok, Err, IfOk, Vec, Global, slice_get, unwrap_or, refl, sym, ap, ◌∙◌, subst}
 use Rattle.std.specs.Prelude.{filter, flat_map}
-use Rattle.std.specs.List.{list_any}
-use Rattle.std.specs.Option.{option_map, option_map_or}
+use Rattle.std.specs.Option.{option_map_or}
 use Rattle.std.proofs.lemmas.Bool.{and_from, and_parts, eq-eqb, eqb-true, false_from_ne_true}
 use Rattle.std.proofs.lemmas.List.Elements.{filter_agree}
 use Rattle.engine_types.specs.declared.Action.{Action}
@@ -21,7 +20,7 @@ use Rattle.run_model.proofs.PlanLaws.{some_from}
 use Rattle.plan_core.specs.Keeping.{is_slots_at}
 use Rattle.plan_core.proofs.Loops.{filter-none, slice_get-map}
 use Rattle.world_laws.proofs.ActionRequests.{map_from}
-use Rattle.rolling_update.specs.Needs.{AreAdded, AreWaited, Given, Scene, basis_of, is_added_at, is_rolled_at, kinds_in, owns, rolling, starts_at, starts_before, starts_of, stops_at, stops_its, stops_of, waits_at}
+use Rattle.rolling_update.specs.Needs.{AreAdded, AreWaited, Given, Scene, basis_of, is_added_at, is_rolled_at, kinds_in, owns, starts_at, starts_before, starts_of, stops_at, stops_its, stops_of, waits_at}
 use Rattle.rolling_update.proofs.Found.{same_tests}
 
 module _ (given : Given) where
@@ -115,8 +114,7 @@ module _ (given : Given) where
             ∙ ap (λ (o : Option Listed). option_map_or (λ (r : Listed). is_of_slot scene.declared.project slot.0 r.labels) o false) row.1 ∙ both.0 in
             let waits : waits_at scene s.0 t ≡ true = ap (λ (o : Option Slot). option_map_or (λ (x : Slot). option_map_or (waits_for basis x) (slot_at scene.declared t) false) o false) s.1
             ∙ ap (λ (o : Option Slot). option_map_or (waits_for basis slot.0) o false) other.1 ∙ both.1 in
-            let needed : is_added_at basis kinds (StopKept s.0) b ≡ true = added_is (StopKept s.0) b ∙ ap (λ (o : Option ActionKind). option_map_or (is_added basis (StopKept s.0)) o false) k ∙ waits in
-            (
+            let needed : is_added_at basis kinds (StopKept s.0) b ≡ true = added_is (StopKept s.0) b ∙ ap (λ (o : Option ActionKind). option_map_or (is_added basis (StopKept s.0)) o false) k ∙ waits in (
               ap (λ (o : Option Listed). option_map_or (λ (r : Listed). is_live r.state) o false) row.1 ∙ parts.0,
               among_flat_map (starts_before given) (filter (owns scene c) (places scene.declared.slots)) s.0 b
                   (among_filter (owns scene c) (places scene.declared.slots) s.0 ours (among_places scene.declared.slots s.0 slot.0 s.1)) ((before_added s.0 b).1 needed),

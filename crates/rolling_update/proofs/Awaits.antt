@@ -1,7 +1,7 @@
 -- Of the rolled slots of all services, in order, a slot waits for the one that stands as many before as are replaced at a time, where
 -- that is of its service.
-use Rattle.std.proofs.Common.{◌≡◌, ◌⊎◌, ◌↔◌, ℕ, zero, suc, ◌+◌, ◌-◌, ◌<◌, ◌≤◌, Bool, true, false, cond, ◌==◌, ◌&&◌, ◌||◌, List, [], ◌∷◌, ◌++◌, length, map, take, Option, Some, None, slice_get, refl, sym, ap, ◌∙◌, subst, inl, inr, arith, nat_lt}
-use Rattle.std.specs.Prelude.{filter, find, option_and_then}
+use Rattle.std.proofs.Common.{◌≡◌, ◌⊎◌, ◌↔◌, ℕ, zero, suc, ◌+◌, ◌-◌, ◌<◌, ◌≤◌, Bool, true, false, cond, ◌==◌, ◌&&◌, ◌||◌, List, [], ◌∷◌, ◌++◌, length, take, Option, Some, None, slice_get, refl, sym, ap, ◌∙◌, subst, inl, inr, arith, nat_lt}
+use Rattle.std.specs.Prelude.{filter, find}
 use Rattle.std.specs.Option.{option_map_or}
 use Rattle.std.specs.Str.{bytes_eq}
 use Rattle.std.proofs.lemmas.Bool.{and_from, and_parts, both_ways, cases_lt, cases_order, eq-eqb, eqb-true, false_from_ne_true, ltb-true, or_cases}
@@ -18,14 +18,14 @@ use Rattle.run_model.specs.EngineRules.{Among}
 use Rattle.run_model.specs.Numbers.{numbers_from}
 use Rattle.run_model.specs.Plans.{Basis, IsWhole, is_slot_before, slot_at}
 use Rattle.run_model.specs.Rolling.{is_rolled, roll_of, rolled_before, waits_for}
-use Rattle.run_model.proofs.DistinctLists.{Distinct, distinct_filter, distinct_numbers, from_filter, from_numbers, from_place, same_place}
+use Rattle.run_model.proofs.DistinctLists.{distinct_filter, distinct_numbers, from_filter, from_numbers, from_place, same_place}
 use Rattle.run_model.proofs.PlanLaws.{some_from}
 use Rattle.std.proofs.lemmas.List.{length_push}
 use Rattle.plan_core.proofs.Loops.{numbers_passed}
-use Rattle.world_laws.proofs.ActionRequests.{map_from, then_from}
+use Rattle.world_laws.proofs.ActionRequests.{then_from}
 use Rattle.rolling_update.specs.Needs.{AreWaited, Scene, is_rolled_at, rolling, waits_at}
 use Rattle.rolling_update.proofs.Rows.{Before, before_of}
-use Rattle.rolling_update.proofs.Slots.{less_number, not_before, slot_apart}
+use Rattle.rolling_update.proofs.Slots.{not_before, slot_apart}
 
 -- the rank of a number that passes is its place among those that pass
 at_rank : (p : ℕ → Bool) (i n k : ℕ) → k < n → p (i + k) ≡ true → slice_get (filter p (numbers_from i n)) (length (filter p (numbers_from i k))) ≡ Some (i + k)
@@ -350,8 +350,8 @@ waited_more scene waited after row next n o is w put more same says = record {
   row_is = more ∙ ap (λ (ns : List ℕ). ns ++ cond is (n ∷ []) []) w.row_is ∙ sym (numbers_passed (is_rolled_at scene) is n (sym same));
   size = let e = ap length put in let l = length_push waited o in let s = w.size in omega (arith, e, l, s);
   each = λ s t. (
-      λ e. down s t (cases_order s n) (sym (ap (λ (ws : List (Option ℕ)). slice_get ws s) put) ∙ e),
-      λ h. ap (λ (ws : List (Option ℕ)). slice_get ws s) put ∙ up s t (cases_order s n) h,
+    λ e. down s t (cases_order s n) (sym (ap (λ (ws : List (Option ℕ)). slice_get ws s) put) ∙ e),
+    λ h. ap (λ (ws : List (Option ℕ)). slice_get ws s) put ∙ up s t (cases_order s n) h,
   );
 }
   where

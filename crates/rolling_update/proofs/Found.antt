@@ -1,10 +1,10 @@
 -- What is looked up under a text is what is looked for among all.
-use Rattle.std.proofs.Common.{◌≡◌, ℕ, zero, suc, ◌+◌, ◌<◌, ◌≤◌, Bool, true, false, cond, not, ◌&&◌, ◌||◌, List, [], ◌∷◌, ◌++◌, length, map, take, Option, Some, None, Result, Ok, Err, IfOk, get_or, slice_get, refl, sym, ap, ◌∙◌, subst, inl, inr, arith}
+use Rattle.std.proofs.Common.{◌≡◌, ℕ, suc, ◌+◌, ◌<◌, ◌≤◌, Bool, true, false, cond, not, ◌&&◌, ◌||◌, List, [], ◌∷◌, length, map, Option, Some, None, Result, Ok, Err, IfOk, get_or, slice_get, refl, sym, ap, ◌∙◌, subst, arith}
 use Rattle.std.specs.Prelude.{filter, find, option_and_then}
 use Rattle.std.specs.List.{list_any}
 use Rattle.std.specs.Option.{option_map, option_map_or}
 use Rattle.std.specs.Str.{bytes_eq}
-use Rattle.std.proofs.lemmas.Bool.{and_from, and_parts, eq-eqb, eqb-true, false_from_ne_true}
+use Rattle.std.proofs.lemmas.Bool.{and_parts, eq-eqb, eqb-true, false_from_ne_true}
 use Rattle.std.proofs.lemmas.Slice.Eq.{bytes_eq-Decides}
 use Rattle.engine_types.specs.declared.Action.{Action}
 use Rattle.engine_types.specs.declared.ActionKind.{ActionKind}
@@ -13,12 +13,10 @@ use Rattle.engine_types.specs.declared.Declared.{Declared}
 use Rattle.engine_types.specs.declared.DeclaredService.{DeclaredService}
 use Rattle.engine_types.specs.declared.Listed.{Listed}
 use Rattle.engine_types.specs.declared.Slot.{Slot}
-use Rattle.tree_base.specs.declared.place.Var.{Var}
-use Rattle.run_model.specs.EngineRules.{Among, is_of_project}
+use Rattle.run_model.specs.EngineRules.{is_of_project}
 use Rattle.run_model.specs.Labels.{is_of_slot, names_slot}
-use Rattle.run_model.specs.Numbers.{numbers_from, places}
-use Rattle.run_model.specs.Observation.{is_up}
-use Rattle.run_model.specs.Plans.{Basis, is_start_of, is_unstarted, kind_of, planned, slot_at, up_basis}
+use Rattle.run_model.specs.Numbers.{places}
+use Rattle.run_model.specs.Plans.{Basis, is_start_of, is_unstarted, kind_of, slot_at, up_basis}
 use Rattle.run_model.specs.Rolling.{has_name_of_another, has_seen, is_crossed, is_same_slot, roll_of}
 use Rattle.run_model.proofs.DistinctLists.{among_places}
 use Rattle.run_model.proofs.KeptLaws.{any_from_list, any_of_list}
@@ -28,7 +26,6 @@ use Rattle.plan_core.specs.Index.{is_under, numbers_under, places_under}
 use Rattle.plan_core.specs.Keeping.{containers_under, is_slots_at, texts_under}
 use Rattle.plan_core.proofs.SlotRows.{any_rows, any_under, filtered, under_one}
 use Rattle.plan_core.proofs.SlotTexts.{named_text, under_mapped}
-use Rattle.plan_core.proofs.Splits.{by_cases}
 use Rattle.world_laws.proofs.ActionRequests.{map_from}
 use Rattle.rolling_update.specs.Needs.{Given, IsUpPlan, Scene, is_other_at, is_seen_at, owns, rolling, starts_at, starts_of, step_text, step_text_of, stops_at, stops_its, stops_of, stray_services, strays}
 

@@ -1,5 +1,5 @@
 -- Needs that rise, and hold what the plan and a rolling update say, are those of a run.
-use Rattle.std.proofs.Common.{◌≡◌, ◌⊎◌, ◌↔◌, ℕ, zero, suc, ◌+◌, ◌<◌, ◌≤◌, Bool, true, false, cond, ◌||◌, List, [], ◌∷◌, length, map, Option, Some, None, slice_get, refl, sym, ap, ◌∙◌, ◌++◌, subst, inl, inr, arith, eqb, get_or}
+use Rattle.std.proofs.Common.{◌≡◌, ◌⊎◌, ◌↔◌, ℕ, ◌+◌, ◌<◌, ◌≤◌, Bool, true, false, ◌||◌, List, [], ◌∷◌, length, map, Option, Some, None, slice_get, refl, sym, ap, ◌∙◌, ◌++◌, subst, inl, inr, arith, eqb, get_or}
 use Rattle.std.specs.List.{list_any}
 use Rattle.std.specs.Prelude.{filter, is_some}
 use Rattle.std.specs.Option.{option_map, option_map_or}

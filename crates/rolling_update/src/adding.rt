@@ -20,12 +20,7 @@ use tree_base::{List, Memory};
 /// The plan of `up` with the needs that a rolling update adds: where a service replaces only so many of its slots at a time, the
 /// stop of a live container of a rolled slot needs the start of the slot that stands as many rolled slots before, and the start
 /// of a rolled slot needs the stop of every container of it. The actions are the same, and so is the plan where no service rolls.
-pub fn roll(
-    alloc: Global,
-    declared: &Declared,
-    seen: &Seen,
-    plan: Plan,
-) -> Result<Plan, Memory>
+pub fn roll(alloc: Global, declared: &Declared, seen: &Seen, plan: Plan) -> Result<Plan, Memory>
     requires whole { IsWhole declared.now }
     requires planned { IsUpPlan declared.now seen.now plan.actions }
     ensures rolled { (orphans : Bool)
@@ -74,11 +69,7 @@ fn rolled_actions(
 }
 
 /// The actions of a table with the needs that are added.
-fn all_rolled(
-    alloc: Global,
-    table: &Table<'_>,
-    actions: &[Action],
-) -> Result<List<Action>, Memory>
+fn all_rolled(alloc: Global, table: &Table<'_>, actions: &[Action]) -> Result<List<Action>, Memory>
     requires same { actions.now ≡ table.now.actions }
     requires needs { HasNeeds table.now }
     ensures { IfOk result (λ all. all ≡ map (awaiting table.now) actions.now) }
@@ -86,7 +77,10 @@ fn all_rolled(
     let mut all = List::new(alloc);
     for action in actions {
         let needs = needs_of(alloc, table, action)?;
-        all.push(Action { kind: action.kind, needs })?;
+        all.push(Action {
+            kind: action.kind,
+            needs,
+        })?;
     }
     Ok(all)
 }

@@ -42,11 +42,7 @@ impl<'a> Model for Table<'a> {
 }
 
 impl<'a> Table<'a> {
-    pub(crate) fn new(
-        finder: Finder<'a>,
-        rolled: Vec<bool>,
-        waited: Vec<Option<u64>>,
-    ) -> Table<'a>
+    pub(crate) fn new(finder: Finder<'a>, rolled: Vec<bool>, waited: Vec<Option<u64>>) -> Table<'a>
         requires rolled { rolled.items
             ≡ map (is_rolled (rolling finder.scene)) finder.scene.declared.slots }
         requires waited { AreWaited finder.scene waited.items }

@@ -102,12 +102,7 @@ fn step_texts(
     Ok(texts)
 }
 
-fn step_text(
-    alloc: Global,
-    slots: &[Text],
-    rows: &[Text],
-    action: &Action,
-) -> Result<Text, Memory>
+fn step_text(alloc: Global, slots: &[Text], rows: &[Text], action: &Action) -> Result<Text, Memory>
     ensures { (scene : Scene) → slots.now ≡ map slot_text scene.declared.slots
         → rows.now ≡ map container_text scene.seen.containers
         → IfOk result (λ text. text ≡ step_text scene action.now) }

@@ -1,5 +1,5 @@
 -- A slot more.
-use Rattle.std.proofs.Common.{◌≡◌, ◌∙◌, ◌++◌, Bool, List, false, ap, arith, slice_get, unwrap_or}
+use Rattle.std.proofs.Common.{◌∙◌, Bool, List, false, ap, arith, slice_get, unwrap_or}
 use Rattle.plan_core.proofs.Loops.{flag_of}
 use Rattle.run_model.specs.Rolling.{is_rolled}
 use Rattle.rolling_update.specs.Needs.{rolling}

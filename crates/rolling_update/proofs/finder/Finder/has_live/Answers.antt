@@ -1,4 +1,3 @@
-use Rattle.std.proofs.Common.{◌∙◌, false, sym}
 use Rattle.run_model.specs.EngineRules.{is_live}
 use Rattle.rolling_update.proofs.Found.{any_by}
 use Rattle.rolling_update.proofs.finder.Finder.has_live.Goals as goal

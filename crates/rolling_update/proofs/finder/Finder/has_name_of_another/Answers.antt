@@ -1,8 +1,6 @@
-use Rattle.std.proofs.Common.{◌≡◌, ◌∙◌, ℕ, List, ap, map, subst}
+use Rattle.std.proofs.Common.{◌≡◌, ◌∙◌, ℕ, List, ap, subst}
 use Rattle.std.specs.List.{list_any}
-use Rattle.engine_types.specs.declared.Slot.{Slot}
 use Rattle.plan_core.specs.Index.{numbers_under}
-use Rattle.plan_core.specs.Keeping.{texts_under}
 use Rattle.run_model.specs.Rolling.{has_name_of_another}
 use Rattle.rolling_update.specs.Needs.{Given, Scene, is_other_at}
 use Rattle.rolling_update.proofs.Found.{others_found}

@@ -1,6 +1,5 @@
 -- The first of the numbers under a service's key.
-use Rattle.std.proofs.Common.{◌≡◌, ◌∙◌, ℕ, List, Option, Some, None, ap, map}
-use Rattle.engine_types.specs.declared.DeclaredService.{DeclaredService}
+use Rattle.std.proofs.Common.{◌∙◌, ℕ, List, Some, None, ap}
 use Rattle.plan_core.specs.Index.{numbers_under}
 use Rattle.run_model.specs.Rolling.{roll_of}
 use Rattle.rolling_update.specs.Needs.{Given}
