@@ -5,9 +5,9 @@
 #![tactic(auto)]
 
 mod defaults;
-mod loaded_files;
+mod file_forms;
 mod models;
 
 pub use defaults::{empty_gives_tail, unset_gives_tail};
-pub use loaded_files::{forms_give_one_file, one_file_gives_one_model, settled_files_are_loaded};
+pub use file_forms::{forms_give_one_file, one_file_gives_one_model, settled_files_are_loaded};
 pub use models::settled_models_are_their_files;

@@ -12,7 +12,7 @@ mod loaded_pages;
 mod order;
 mod page_words;
 mod pages;
-mod project_pages;
+mod printed_projects;
 
 pub use json_nodes::{json_pages_tell_nodes, json_tells_nodes, page_words_are_numbers_and_flags};
 pub use json_pages::{
@@ -23,4 +23,4 @@ pub use loaded_pages::pages_are_loaded;
 pub use order::order_does_not_matter;
 pub use page_words::pages_are_printable;
 pub use pages::pages_mean_their_projects;
-pub use project_pages::{pages_give_values, project_pages_read_back};
+pub use printed_projects::{pages_give_values, project_pages_read_back};

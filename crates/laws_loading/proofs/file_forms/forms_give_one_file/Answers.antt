@@ -1,5 +1,5 @@
 use Rattle.laws_loading.proofs.OneFile.{one_file}
-use Rattle.laws_loading.proofs.loaded_files.forms_give_one_file.Goals as goal
+use Rattle.laws_loading.proofs.file_forms.forms_give_one_file.Goals as goal
 
 pub returns : goal.returns
 returns c = one_file
