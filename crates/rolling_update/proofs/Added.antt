@@ -59,10 +59,6 @@ module _ (given : Given) where
   pub before_added : (s : ℕ) → AreAdded given (StopKept s) (starts_before given s)
   before_added s = passing (StopKept s)
 
-  -- nothing is added where nothing is
-  pub none_added : (kind : ActionKind) → ((other : ActionKind) → is_added basis kind other ≡ false) → AreAdded given kind []
-  none_added kind none b = (λ m. absurd m, λ e. let other = some_from (is_added basis kind) (slice_get kinds b) e in let bad : false ≡ true = sym (none other.0) ∙ other.2 in absurd (cc bad))
-
   none_before : (s : ℕ) → ((t : ℕ) → waits_at scene s t ≡ true → ⊥) → (other : ActionKind) → is_added basis (StopKept s) other ≡ false
   none_before s none (StartSlot t) = false_from_ne_true (waits_at scene s t) (none t)
   none_before s none _ = refl
@@ -150,9 +146,6 @@ module _ (given : Given) where
         → AreAdded given (StopContainer c) (flat_map (starts_before given) (filter (owns scene c) (places scene.declared.slots)))
     held_added live b = (λ m. by_held b live m, λ e. (held_by b e).1)
 
-    pub none_held : option_map_or (λ (row : Listed). is_live row.state) (slice_get scene.seen.containers c) false ≡ false → AreAdded given (StopContainer c) []
-    none_held dead b = (λ m. absurd m, λ e. let bad : false ≡ true = sym dead ∙ (held_by b e).0 in absurd (cc bad))
-
   -- what the start of a slot needs
   module _ (s : ℕ) where
     pub stops_added : (slot : Slot) → slot_at scene.declared s ≡ Some slot → is_rolled basis slot ≡ true → AreAdded given (StartSlot s) (stops_of given slot)
@@ -163,17 +156,6 @@ module _ (given : Given) where
         at (Some (StopContainer c)) = sym (ap (λ (o : Option Slot). option_map_or (λ (x : Slot). is_rolled basis x && is_slots_at scene.declared scene.seen x c) o false) is
             ∙ ap (λ (t : Bool). t && is_slots_at scene.declared scene.seen slot c) rolled)
         at (Some _) = refl
-
-    pub none_stopped : is_rolled_at scene s ≡ false → AreAdded given (StartSlot s) []
-    none_stopped unrolled = none_added (StartSlot s) at
-      where
-        fails : (c : ℕ) (o : Option Slot) → option_map_or (is_rolled basis) o false ≡ false → option_map_or (λ (x : Slot). is_rolled basis x && is_slots_at scene.declared scene.seen x c) o false ≡ false
-        fails c None e = refl
-        fails c (Some x) e = ap (λ (t : Bool). t && is_slots_at scene.declared scene.seen x c) e
-
-        at : (other : ActionKind) → is_added basis (StartSlot s) other ≡ false
-        at (StopContainer c) = fails c (slot_at scene.declared s) unrolled
-        at _ = refl
 
 -- what is read at a place of options
 pub one_at : (waited : List (Option ℕ)) (s t : ℕ) → Some t ≡ unwrap_or (slice_get waited s) None → slice_get waited s ≡ Some (Some t)

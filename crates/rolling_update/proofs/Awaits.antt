@@ -254,53 +254,15 @@ module _ (scene : Scene) (whole : IsWhole scene.declared) where
         ap (λ (o : Option Slot). option_map_or (λ (slot : Slot). option_map_or (waits_for basis slot) (slot_at scene.declared t) false) o false) is
         ∙ ap (λ (o : Option Slot). option_map_or (waits_for basis x) o false) y.1 ∙ waits
 
-  -- a slot that waits is rolled, and its service rolls
-  pub record IsWaiting (s t : ℕ) : Type 0 where
-    pub slot : Slot
-    pub is : slot_at scene.declared s ≡ Some slot
-    pub rolled : is_rolled_at scene s ≡ true
-    pub count : ℕ
-    pub by_roll : roll_of scene.declared slot ≡ Some count
-
-  pub waiting : (s t : ℕ) → waits_at scene s t ≡ true → IsWaiting s t
-  waiting s t e =
-      let x = some_from (λ (slot : Slot). option_map_or (waits_for basis slot) (slot_at scene.declared t) false) (slot_at scene.declared s) e in
-      let y = some_from (waits_for basis x.0) (slot_at scene.declared t) x.2 in
-      let parts = and_parts (is_rolled basis x.0 && is_rolled basis y.0 && bytes_eq x.0.service y.0.service) _ y.2 in
-      let first = (and_parts (is_rolled basis x.0 && is_rolled basis y.0) (bytes_eq x.0.service y.0.service) parts.0).0 in
-      let rolled = (and_parts (is_rolled basis x.0) (is_rolled basis y.0) first).0 in
-      let count = some_from _ (roll_of scene.declared x.0) parts.1 in
-      record {
-        slot = x.0;
-        is = x.1;
-        rolled = ap (λ (o : Option Slot). option_map_or (is_rolled basis) o false) x.1 ∙ rolled;
-        count = count.0;
-        by_roll = count.1;
-      }
-
 -- for which slot one waits, by the rolled ones before it
 module _ (scene : Scene) (whole : IsWhole scene.declared) (s : ℕ) (row : List ℕ) (is_row : row ≡ filter (is_rolled_at scene) (numbers_from 0 s)) where
   abbrev pub Waits : Option ℕ → Type 0
   Waits o = (t : ℕ) → (o ≡ Some t) ↔ (waits_at scene s t ≡ true)
 
-  -- none, where the slot isn't rolled, isn't there, or all of its service are replaced at once
   nothing : ((t : ℕ) → waits_at scene s t ≡ true → ⊥) → Waits None
   nothing none t = (λ e. absurd (cc e), λ h. absurd (none t h))
 
-  pub not_rolled : is_rolled_at scene s ≡ false → Waits None
-  not_rolled e = nothing (λ t h. both_ways (is_rolled_at scene s) e (waiting scene whole s t h).rolled)
-
-  pub not_there : slot_at scene.declared s ≡ None → Waits None
-  not_there e = nothing (λ t h. let w = waiting scene whole s t h in let bad : None ≡ Some w.slot = sym e ∙ w.is in cc bad)
-
   module _ (x : Slot) (is : slot_at scene.declared s ≡ Some x) where
-    pub not_bounded : roll_of scene.declared x ≡ None → Waits None
-    not_bounded e = nothing (λ t h.
-        let w = waiting scene whole s t h in
-        let same : Some x ≡ Some w.slot = sym is ∙ w.is in
-        let one : x ≡ w.slot = cc same in
-        let bad : None ≡ Some w.count = sym e ∙ ap (roll_of scene.declared) one ∙ w.by_roll in cc bad)
-
     abbrev is_ours : ℕ → Bool
     is_ours t = option_map_or (λ (other : Slot). bytes_eq x.service other.service) (slot_at scene.declared t) false
 
@@ -386,10 +348,7 @@ waited_more scene waited after row next n o is w put more same says = record {
     up s t (inr (inl l)) e = let size = w.size in first waited s (omega (arith, l, size)) ∙ (w.each s t).1 (l, e.1)
     up s t (inr (inr l)) e = let m = e.0 in absurd (omega (arith, l, m))
 
--- none at first, and all of them at last
-pub none_waited : (scene : Scene) → Waited scene [] [] 0
-none_waited scene = record { row_is = refl; size = refl; each = λ s t. (λ e. absurd (cc e), λ h. let l = h.0 in absurd (omega (arith, l))) }
-
+-- all of them at last
 pub all_waited : (scene : Scene) (waited : List (Option ℕ)) (row : List ℕ) (n : ℕ) → length scene.declared.slots ≤ n → Waited scene waited row n → AreWaited scene waited
 all_waited scene waited row n l w s t = (λ e. ((w.each s t).0 e).1, λ h. (w.each s t).1 (below s h, h))
   where
