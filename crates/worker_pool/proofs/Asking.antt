@@ -1,13 +1,12 @@
 -- What an ask in a turn gives a seat.
-use Rattle.std.proofs.Common.{◌≡◌, ℕ, ◌+◌, ◌<◌, Bool, true, false, cond, List, [], ◌∷◌, ◌++◌, length, reverse, Option, Some, None, refl, sym, ap, ◌∙◌, subst, append_assoc}
+use Rattle.std.proofs.Common.{◌≡◌, ℕ, false, List, [], ◌∷◌, ◌++◌, reverse, Option, Some, refl, sym, ap, ◌∙◌, subst, append_assoc}
 use Rattle.std.proofs.lemmas.Bool.{eq-eqb}
 use Rattle.std.proofs.lemmas.List.{append-nil, reverse-append}
-use Rattle.std.specs.Prelude.{◌==◌, if◌then◌else◌, unwrap_or}
+use Rattle.std.specs.Prelude.{◌==◌, unwrap_or}
 use Rattle.engine_types.specs.declared.Entry.{Entry}
-use Rattle.engine_types.specs.declared.Exchange.{Exchange}
 use Rattle.engine_types.specs.declared.Request.{Request}
-use Rattle.outside_api.specs.Accounts.{Account, AreCaused}
-use Rattle.run_model.specs.Journals.{Setup, Watch, Work, holding}
+use Rattle.outside_api.specs.Accounts.{Account}
+use Rattle.run_model.specs.Journals.{Setup, holding}
 use Rattle.run_model.specs.Legal.{Decision, Full, Go, Look, Pause, Take}
 use Rattle.run_model.specs.Logs.{GrowsBy, exchanges_of}
 use Rattle.run_model.specs.Requests.{action_request, poll_request}
@@ -26,8 +25,8 @@ use Rattle.worker_laws.proofs.Adding.{none_own}
 use Rattle.ledger_turns.specs.declared.calls.LedgerAnswer.{LedgerAnswer}
 use Rattle.ledger_turns.specs.declared.calls.LedgerCall.{LedgerCall}
 use Rattle.ledger_turns.proofs.Calling.{own_reverse}
-use Rattle.worker_pool.specs.Seats.{GoesOnTo, HasMade, IsGranted, IsHeld, SeatView, Went, mine_of}
-use Rattle.worker_pool.proofs.Going.{Acted, Since, exchanges_since, setup_kept, since, turned}
+use Rattle.worker_pool.specs.Seats.{GoesOnTo, IsGranted, IsHeld, SeatView, Went, mine_of}
+use Rattle.worker_pool.proofs.Going.{Acted, exchanges_since, setup_kept, since, turned}
 
 -- an action was granted at these entries
 pub record IsWork (run : Course) (n : ℕ) (permit : Permit) (request : Request) (e : Entry) : Type 0 where

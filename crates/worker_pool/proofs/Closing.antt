@@ -1,5 +1,5 @@
 -- Seats in a line, and their end.
-use Rattle.std.proofs.Common.{◌≡◌, ℕ, ◌+◌, ◌-◌, ◌<◌, ◌≤◌, ◌⊎◌, List, [], ◌∷◌, ◌++◌, get_or, map, length, refl, sym, ap, ◌∙◌, subst, inl, inr, append_assoc, arith}
+use Rattle.std.proofs.Common.{◌≡◌, ℕ, ◌+◌, ◌<◌, ◌≤◌, List, [], ◌∷◌, ◌++◌, get_or, map, length, sym, ap, ◌∙◌, subst, inl, inr, append_assoc, arith}
 use Rattle.std.proofs.lemmas.List.{length-map, map-append}
 use Rattle.std.specs.Prelude.{insert, remove}
 use mathlib.Core.List.{IsPrefix}
@@ -8,7 +8,7 @@ use native.Mathlib.Decide.{ℕ_discrete}
 use Rattle.engine_types.specs.declared.Entry.{Entry}
 use Rattle.journal_laws.specs.Courses.{Course}
 use Rattle.turn_ledger.specs.Own.{Each, HasNumber}
-use Rattle.turn_ledger.specs.Seats.{Covers, IsOf, Opened}
+use Rattle.turn_ledger.specs.Seats.{Covers, Opened}
 use Rattle.turn_ledger.specs.Turning.{both}
 use Rattle.turn_ledger.proofs.Lists.{prefix_self, prefix_trans}
 use Rattle.worker_laws.specs.Own.{own_of}

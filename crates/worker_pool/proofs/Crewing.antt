@@ -1,10 +1,9 @@
 -- What the members of a crew have done, by the whole journal.
-use Rattle.std.proofs.Common.{◌≡◌, ℕ, zero, suc, ◌+◌, ◌<◌, ◌≤◌, Bool, true, false, List, [], ◌∷◌, ◌++◌, drop, get_or, length, take, map, reverse, Option, Some, None, if◌then◌else◌, refl, sym, ap, ◌∙◌, subst, arith}
+use Rattle.std.proofs.Common.{◌≡◌, ℕ, zero, suc, ◌+◌, ◌<◌, ◌≤◌, Bool, true, List, [], ◌∷◌, ◌++◌, drop, get_or, length, take, map, reverse, Option, if◌then◌else◌, refl, sym, ap, ◌∙◌, subst, arith}
 use Rattle.std.proofs.lemmas.List.{append-nil, drop_all, length-map, reverse-append, take_all}
 use Rattle.std.proofs.lemmas.List.Elements.{filter-append}
 use Rattle.std.specs.Prelude.{All, ◌==◌}
 use Rattle.engine_types.specs.declared.Entry.{Entry}
-use Rattle.engine_types.specs.declared.Exchange.{Exchange}
 use Rattle.outside_api.specs.Clock.{Clock}
 use Rattle.run_model.specs.Ending.{EveryWorkerLeft}
 use Rattle.run_model.specs.Journals.{Setup, has_left}

@@ -1,39 +1,34 @@
 -- What a turn makes of what a seat knows.
-use Rattle.std.proofs.Common.{◌≡◌, ℕ, ◌+◌, ◌<◌, ◌≤◌, Bool, true, false, cond, List, [], ◌∷◌, ◌++◌, length, reverse, Option, Some, None, refl, sym, ap, ◌∙◌, subst, append_assoc, arith}
-use Rattle.std.proofs.lemmas.Bool.{eq-eqb, true≢false}
-use Rattle.std.proofs.lemmas.List.{append-nil, append_cancel_left, append_cancel_right, reverse-append}
+use Rattle.std.proofs.Common.{◌≡◌, ℕ, ◌≤◌, Bool, true, false, cond, List, [], ◌∷◌, ◌++◌, length, reverse, refl, sym, ap, ◌∙◌, subst, append_assoc, arith}
+use Rattle.std.proofs.lemmas.Bool.{eq-eqb}
+use Rattle.std.proofs.lemmas.List.{append_cancel_right, reverse-append}
 use Rattle.std.proofs.lemmas.List.Elements.{filter-append}
-use Rattle.std.specs.Prelude.{◌==◌, if◌then◌else◌, unwrap_or}
-use mathlib.Core.List.{IsPrefix}
+use Rattle.std.specs.Prelude.{◌==◌}
 use Rattle.engine_types.specs.declared.Entry.{Entry}
 use Rattle.engine_types.specs.declared.Exchange.{Exchange}
 use Rattle.engine_types.specs.declared.Outcome.{Outcome}
 use Rattle.engine_types.specs.declared.Request.{Request}
 use Rattle.engine_types.specs.declared.Seen.{Seen}
 use Rattle.outside_api.proofs.Accounts.{caused-append, caused-one}
-use Rattle.outside_api.specs.Accounts.{Account, AreCaused}
-use Rattle.run_model.specs.Journals.{Setup, holding}
+use Rattle.run_model.specs.Journals.{Setup}
 use Rattle.run_model.specs.Legal.{IsLegal}
-use Rattle.run_model.specs.Logs.{GrowsBy, IsLogOf, exchanges_of}
-use Rattle.run_model.specs.Plans.{Aim}
-use Rattle.run_model.specs.Requests.{action_request, poll_request, request_out}
+use Rattle.run_model.specs.Logs.{exchanges_of}
+use Rattle.run_model.specs.Requests.{request_out}
 use Rattle.journal_laws.specs.Courses.{Course, entries, first_seen, grown, setup_of}
-use Rattle.ledger_core.specs.Answers.{held_by}
 use Rattle.ledger_core.specs.declared.permit.Permit.{Permit}
 use Rattle.ledger_run.specs.Tellings.{Exchanges, Telling, account_in}
 use Rattle.ledger_run.specs.Turns.{with_more}
 use Rattle.ledger_run.specs.Works.{HasOnlySeen}
 use Rattle.ledger_run.proofs.Stepping.{grows-append, grows-one}
 use Rattle.turn_ledger.specs.Turning.{Acts}
-use Rattle.turn_ledger.specs.declared.view.View.{View}
 use Rattle.worker_laws.specs.Own.{granted, own_of, worker_of}
-use Rattle.worker_laws.proofs.Adding.{added, none_own, nothing_more}
+use Rattle.worker_laws.proofs.Adding.{added, nothing_more}
 use Rattle.worker_laws.proofs.Granting.{is_granted}
 use Rattle.ledger_turns.specs.Calls.{Gives, IsOpen, Told, opening}
 use Rattle.ledger_turns.specs.declared.calls.LedgerAnswer.{LedgerAnswer}
 use Rattle.ledger_turns.specs.declared.calls.LedgerCall.{LedgerCall}
 use Rattle.ledger_turns.proofs.Calling.{has_room, newest, own_reverse}
-use Rattle.worker_pool.specs.Seats.{EndsBy, GoesOnTo, HasMade, IsGranted, IsHeld, IsPlaced, IsWorker, SeatView, Went, mine_of}
+use Rattle.worker_pool.specs.Seats.{EndsBy, GoesOnTo, HasMade, IsGranted, IsPlaced, SeatView, Went, mine_of}
 
 -- a turn was taken: what a seat's call entered, and where
 pub record Acted (q : Course) (v : SeatView) (call : LedgerCall) (answer : LedgerAnswer) (w : SeatView) : Type 0 where

@@ -1,5 +1,5 @@
 -- A run that went on until each of its workers left.
-use Rattle.std.proofs.Common.{◌≡◌, ℕ, ◌<◌, ◌≤◌, List, ◌++◌, reverse, refl, sym, subst, arith}
+use Rattle.std.proofs.Common.{◌≡◌, ◌<◌, List, refl, sym, subst, arith}
 use Rattle.engine_types.specs.declared.Entry.{Entry}
 use Rattle.run_model.specs.Ending.{EveryWorkerLeft, IsRunOver}
 use Rattle.run_model.specs.Plans.{Aim, IsOrderly, IsWhole}

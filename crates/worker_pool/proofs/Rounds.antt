@@ -1,21 +1,19 @@
 -- One round of a worker behind another.
-use Rattle.std.proofs.Common.{◌≡◌, ℕ, ◌+◌, ◌*◌, ◌<◌, ◌≤◌, Bool, true, false, cond, List, [], ◌∷◌, ◌++◌, length, reverse, Option, Some, None, if◌then◌else◌, refl, sym, ap, ◌∙◌, subst, append_assoc, arith}
+use Rattle.std.proofs.Common.{◌≡◌, ℕ, ◌<◌, Bool, true, false, List, [], ◌∷◌, ◌++◌, reverse, Option, Some, None, if◌then◌else◌, refl, sym, ap, ◌∙◌, subst, arith}
 use Rattle.std.proofs.lemmas.Bool.{eq-eqb, true≢false}
-use Rattle.std.proofs.lemmas.List.{append-nil, reverse-append, length-reverse}
-use Rattle.std.specs.Prelude.{◌==◌, nat_le}
+use Rattle.std.specs.Prelude.{nat_le}
 use Rattle.engine_types.specs.declared.Entry.{Entry}
 use Rattle.engine_types.specs.declared.LateWhy.{LateWhy}
 use Rattle.outside_api.specs.Clock.{Clock, after_asked, after_now, after_pause}
-use Rattle.run_model.specs.Journals.{Nothing, has_left, has_stopped, holding}
-use Rattle.run_model.specs.Logs.{asks, asks_unstopped, is_ask_of, late_reading, pauses, was_stopped}
+use Rattle.run_model.specs.Journals.{Nothing, has_left, holding}
+use Rattle.run_model.specs.Logs.{is_ask_of}
 use Rattle.journal_laws.specs.Courses.{Course}
 use Rattle.ledger_run.specs.Tellings.{Telling}
 use Rattle.ledger_run.specs.Turns.{Deed, Idles, Leaves, Watches, Works, clock_heeded, goes_on}
 use Rattle.ledger_run.proofs.Calm.{IsCalm}
-use Rattle.ledger_run.proofs.Timing.{IsPaused, not_paused, was_paused}
-use Rattle.ledger_turns.specs.Calls.{MayAskBy, MayStopBy}
-use Rattle.worker_pool.specs.Seats.{ActsBy, HeedsBy, IsCalmBefore, IsLast, IsTimedBy, SeatView, TurnsBy, Went, clock_done, deed_entries, heeded_by, mine_of}
-use Rattle.worker_pool.proofs.Going.{went_on}
+use Rattle.ledger_run.proofs.Timing.{not_paused, was_paused}
+use Rattle.ledger_turns.specs.Calls.{MayStopBy}
+use Rattle.worker_pool.specs.Seats.{IsCalmBefore, IsLast, IsTimedBy, SeatView, TurnsBy, clock_done, deed_entries, heeded_by, mine_of}
 use Rattle.worker_pool.proofs.Heeding.{may_ask_still, mine_with}
 use Rattle.worker_pool.proofs.Timing.{IsAsk, IsReadied, ask_timed, ended_timed, late_readied, none_readied, read_readied, stop_readied}
 

@@ -1,5 +1,5 @@
 -- So many seats were taken in.
-use Rattle.std.proofs.Common.{◌≡◌, ◌+◌, ◌≤◌, List, ◌++◌, length, map}
+use Rattle.std.proofs.Common.{◌≡◌, ◌+◌, ◌≤◌, List, ◌++◌, map}
 use mathlib.Core.List.{IsPrefix}
 use Rattle.std.specs.Prelude.{vec_capacity, vec_len}
 use Rattle.engine_types.specs.declared.Entry.{Entry}

@@ -1,4 +1,4 @@
-use Rattle.std.proofs.Common.{◌≡◌, ◌∙◌, List, ap, length, sym, subst}
+use Rattle.std.proofs.Common.{◌∙◌, List, ap, length, sym, subst}
 use Rattle.std.specs.Prelude.{All}
 use Rattle.journal_laws.specs.Courses.{Course, entries, setup_of}
 use Rattle.ledger_run.specs.Tellings.{telling}
