@@ -1,0 +1,12 @@
+pub mod Going
+pub mod Asking
+pub mod Calming
+pub mod Doing
+pub mod Timing
+pub mod Heeding
+pub mod Rounds
+pub mod Underway
+pub mod Aims
+pub mod Crewing
+pub mod Closing
+pub mod Over

@@ -1,0 +1,30 @@
+use Rattle.std.proofs.Common.{◌≡◌, ◌<◌, ap, ◌∙◌, [], length, arith}
+use Rattle.std.proofs.lemmas.Grind.{common_steps}
+use Rattle.worker_pool.specs.Seats.{SeatView}
+use Rattle.worker_pool.proofs.Closing.{all_taken, front, takes}
+use Rattle.worker_pool.proofs.crew.join_all.Goals as goal
+
+pub loop-crew-preserved : goal.loop-crew-preserved
+loop-crew-preserved g c =
+    let was = c.loop-crew.invariant in let cut = c.remove-seat.ensures in let joined = c.join.ensures in let put = c.push_reserved.ensures in
+    let few = c.loop-crew.crew.ok in let cut_len = cut.len in let put_len = put.len in let put_room = put.capacity in let room = was.room in
+    let some : 0 < length c.loop-crew.crew.items = omega (arith, few, cut_len) in
+    let taken = takes (λ m. m.seat) (λ m. m.hand) c.args.turns.now c.loop-crew.crew.items c.remove-seat.new.self.items c.args.crew.items c.remove-seat.result
+    c.loop-crew.first.view c.join.new.seat.view c.args.first.now.view c.loop-crew.hands.items c.push_reserved.new.self.items c.args.hands.now.items
+    (front c.loop-crew.crew.items c.remove-seat.new.self.items c.remove-seat.result some cut.value cut.items) was.plain was.joined was.begins was.given joined.view joined.begins put.items in
+    let left = ap (λ (v : SeatView). v.left) joined.view in let none = taken.none in let stays = was.left in record {
+      own = (joined.own ∙ was.own.0, ap (λ (v : SeatView). v.opened) joined.view ∙ was.own.1, ap (λ (v : SeatView). v.seats) joined.view ∙ was.own.2);
+      plain = taken.plain;
+      number = ap (λ (v : SeatView). v.number) joined.view ∙ was.number;
+      mine = ap (λ (v : SeatView). v.mine) joined.view ∙ was.mine;
+      left = omega (arith, left, none, stays);
+      joined = taken.joined;
+      begins = taken.begins;
+      given = taken.given;
+      room = omega (arith, put_len, put_room, cut_len, room);
+    }
+
+pub returns-clause-begins : goal.returns-clause-begins
+returns-clause-begins g c =
+    let none : c.loop-crew.crew.items ≡ [] = grind (arith, common_steps) in
+    λ h p. all_taken (λ m. m.seat) (λ m. m.hand) c.loop-crew.crew.items c.args.crew.items c.loop-crew.first.view c.args.first.now.view none c.loop-crew.invariant.begins h p
