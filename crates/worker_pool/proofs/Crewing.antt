@@ -137,12 +137,6 @@ module _ {M H : Type 0} (seat : M → Seat) (hand : M → H) (tell : H → Telli
         lined_still turns deadline (n + 1) xs ys served.1,
       )
 
-  pub as_many : (turns : Opened Course) (deadline : Option ℕ) (n : ℕ) (xs ys : List M) → HaveServed turns deadline n xs ys → length ys ≡ length xs
-  as_many turns deadline n [] [] served = refl
-  as_many turns deadline n [] (y ∷ ys) served = absurd served
-  as_many turns deadline n (x ∷ xs) [] served = absurd served
-  as_many turns deadline n (x ∷ xs) (y ∷ ys) served = ap suc (as_many turns deadline (n + 1) xs ys served.1)
-
   pub done_all : (turns : Opened Course) (deadline : Option ℕ) (n : ℕ) (xs ys : List M) (h : List Entry) → HasOnlySeen turns.object.journal → HaveServed turns deadline n xs ys
       → Each (λ (s : Seat). GoesOnTo s.view h) (map seat ys) → EachPair (λ w x y. HasDone w deadline turns.object (with_more turns.object h) (tell x) (tell y)) n (map hand xs) (map hand ys)
   done_all turns deadline n [] [] h only served goes = tt
