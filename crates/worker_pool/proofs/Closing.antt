@@ -1,7 +1,7 @@
 -- Seats in a line, and their end.
 use Rattle.std.proofs.Common.{◌≡◌, ℕ, ◌+◌, ◌<◌, ◌≤◌, List, [], ◌∷◌, ◌++◌, get_or, map, length, sym, ap, ◌∙◌, subst, inl, inr, append_assoc, arith}
 use Rattle.std.proofs.lemmas.List.{length-map, map-append}
-use Rattle.std.specs.Prelude.{insert, remove}
+use Rattle.std.specs.Prelude.{remove}
 use mathlib.Core.List.{IsPrefix}
 use mathlib.Core.Logic.{dite}
 use native.Mathlib.Decide.{ℕ_discrete}
@@ -20,9 +20,6 @@ use Rattle.worker_pool.specs.Seats.{GoesOnTo, SeatView}
 pub front : {X : Type 0} (xs ys : List X) (x : X) → 0 < length xs → x ≡ get_or xs 0 x → ys ≡ remove xs 0 → xs ≡ x ∷ ys
 front [] ys x some is rest = absurd (omega (arith, some))
 front (y ∷ xs) ys x some is rest = ap (λ z. z ∷ xs) (sym is) ∙ ap (λ zs. x ∷ zs) (sym rest)
-
-pub put_first : {X : Type 0} (xs ys : List X) (x : X) → ys ≡ insert xs 0 x → ys ≡ x ∷ xs
-put_first xs ys x is = is
 
 pub lined_plain : (turns : Opened Course) (n : ℕ) (ss : List Seat) → AreLined turns n ss → Each (λ (s : Seat). IsPlain turns s) ss
 lined_plain turns n [] l = tt

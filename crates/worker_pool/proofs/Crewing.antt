@@ -1,5 +1,5 @@
 -- What the members of a crew have done, by the whole journal.
-use Rattle.std.proofs.Common.{◌≡◌, ℕ, zero, suc, ◌+◌, ◌<◌, ◌≤◌, Bool, true, List, [], ◌∷◌, ◌++◌, drop, get_or, length, take, map, reverse, Option, if◌then◌else◌, refl, sym, ap, ◌∙◌, subst, arith}
+use Rattle.std.proofs.Common.{◌≡◌, ℕ, zero, suc, ◌+◌, ◌<◌, ◌≤◌, Bool, true, List, [], ◌∷◌, ◌++◌, drop, get_or, length, take, map, reverse, Option, if◌then◌else◌, sym, ap, ◌∙◌, subst, arith}
 use Rattle.std.proofs.lemmas.List.{append-nil, drop_all, length-map, reverse-append, take_all}
 use Rattle.std.proofs.lemmas.List.Elements.{filter-append}
 use Rattle.std.specs.Prelude.{All, ◌==◌}
@@ -136,12 +136,6 @@ module _ {M H : Type 0} (seat : M → Seat) (hand : M → H) (tell : H → Telli
         s.worked.went.number ∙ s.number,
         lined_still turns deadline (n + 1) xs ys served.1,
       )
-
-  pub as_many : (turns : Opened Course) (deadline : Option ℕ) (n : ℕ) (xs ys : List M) → HaveServed turns deadline n xs ys → length ys ≡ length xs
-  as_many turns deadline n [] [] served = refl
-  as_many turns deadline n [] (y ∷ ys) served = absurd served
-  as_many turns deadline n (x ∷ xs) [] served = absurd served
-  as_many turns deadline n (x ∷ xs) (y ∷ ys) served = ap suc (as_many turns deadline (n + 1) xs ys served.1)
 
   pub done_all : (turns : Opened Course) (deadline : Option ℕ) (n : ℕ) (xs ys : List M) (h : List Entry) → HasOnlySeen turns.object.journal → HaveServed turns deadline n xs ys
       → Each (λ (s : Seat). GoesOnTo s.view h) (map seat ys) → EachPair (λ w x y. HasDone w deadline turns.object (with_more turns.object h) (tell x) (tell y)) n (map hand xs) (map hand ys)
