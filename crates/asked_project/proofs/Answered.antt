@@ -18,7 +18,6 @@ use Rattle.refusals.proofs.Joined.{one_load}
 use Rattle.refusals.specs.Origins.{IsOfAsking, is_of_words, load_refusal}
 use Rattle.refusals.specs.Refused.{is_failed_read, is_free, wants_memory}
 use Rattle.refusals.specs.declared.Refusal.{Refusal}
-use Rattle.refusals.specs.declared.Unbuilt.{Unbuilt}
 use Rattle.typed_project.specs.DistinctNames.{IsKeyed}
 use Rattle.typed_project.specs.declared.project.Project.{Project}
 use Rattle.tree_base.specs.Answers.{◌>>=◌, Fails, Gives, Unless}
@@ -149,8 +148,7 @@ load_no_words LoadRefusal.Memory h = cc h
 
 -- what holds of refusals of a project
 project_no_words : (refusal : Refusal) → IsOfProject refusal → IsTrue (is_of_words refusal) → ⊥
-project_no_words (Refusal.NotBuilt Unbuilt.Words) k h = k
-project_no_words (Refusal.NotBuilt Unbuilt.Run) k h = k
+project_no_words (Refusal.NotBuilt unbuilt) k h = k
 project_no_words (Refusal.Words words) k h = k
 project_no_words (Refusal.Load refusal) k h = k
 project_no_words (Refusal.Name name) k h = cc h
@@ -167,8 +165,7 @@ project_no_words (Refusal.Outside part) k h = k
 project_no_words Refusal.Memory k h = cc h
 
 project_of_asking : (refusal : Refusal) → IsOfProject refusal → IsOfAsking refusal
-project_of_asking (Refusal.NotBuilt Unbuilt.Words) k = tt
-project_of_asking (Refusal.NotBuilt Unbuilt.Run) k = absurd k
+project_of_asking (Refusal.NotBuilt unbuilt) k = tt
 project_of_asking (Refusal.Words words) k = tt
 project_of_asking (Refusal.Load refusal) k = tt
 project_of_asking (Refusal.Name name) k = tt

@@ -9,7 +9,6 @@ use Rattle.loaded_files.specs.declared.LoadRefusal.{LoadRefusal}
 use Rattle.refusals.specs.Origins.{IsOfAsking, is_of_words, words_refusal}
 use Rattle.refusals.specs.Refused.{wants_memory}
 use Rattle.refusals.specs.declared.Refusal.{Refusal}
-use Rattle.refusals.specs.declared.Unbuilt.{Unbuilt}
 use Rattle.tree_base.specs.Answers.{◌>>=◌, Fails, Gives, Unless}
 
 -- a call that answers exactly gives the answer
@@ -60,8 +59,7 @@ words_kind refusal joined is = subst (λ (r : Refusal). IsTrue (is_of_words r ||
 -- a refusal of words, and a want of memory, are of what is asked for, and are no read that failed
 pub words_of_asking : (refusal : Refusal) → IsTrue (is_of_words refusal || wants_memory refusal) → IsOfAsking refusal
 words_of_asking (Refusal.Words words) h = tt
-words_of_asking (Refusal.NotBuilt Unbuilt.Words) h = tt
-words_of_asking (Refusal.NotBuilt Unbuilt.Run) h = absurd (cc h)
+words_of_asking (Refusal.NotBuilt unbuilt) h = tt
 words_of_asking (Refusal.Load load) h = tt
 words_of_asking (Refusal.Name name) h = tt
 words_of_asking (Refusal.Active active) h = tt

@@ -2,7 +2,6 @@
 use Rattle.std.proofs.Common.{◌≡◌, ◌∙◌, ◌⊎◌, ℕ, Bool, true, false, ◌||◌, List, Ok, Err, Some, None, ap, inl, inr, refl, subst, sym}
 use Rattle.std.specs.Prelude.{Option, Result, IfErr, IfOk, IfSome, if◌then◌else◌}
 use Rattle.asked_run.proofs.Told.{told_have}
-use Rattle.asked_run.specs.Built.{built_or_not, is_built}
 use Rattle.asked_run.specs.Declaring.{AreDigests, Declares, DeclaresAs, ForDeclared, IsDeclared, IsFailedDigest, declared_by, declared_from, declared_or_refused, declared_with, digests_or_refused}
 use Rattle.asked_run.specs.Told.{IsHindered, digests_for}
 use Rattle.compose_words.specs.declared.Command.{Command}
@@ -11,6 +10,7 @@ use Rattle.declared_laws.proofs.OwnSpecs.{declares_own}
 use Rattle.declared_laws.proofs.Whole.{declares_whole}
 use Rattle.declared_laws.specs.Laws.{AreNumbered}
 use Rattle.declared_orders.proofs.Circles.{none_declared}
+use Rattle.declared_orders.proofs.Places.{needs_dependencies}
 use Rattle.declared_set.specs.Declaring.{declared, declared_of, unless_refused}
 use Rattle.declared_set.specs.Declaring as declaring
 use Rattle.declared_set.specs.Refusing.{refusal_of}
@@ -24,7 +24,7 @@ use Rattle.plan_core.specs.Order.{HasNoCycle}
 use Rattle.refusals.specs.Origins.{digest_refusal, identity_refusal}
 use Rattle.refusals.specs.Refused.{is_failed_digest, is_free_of_declaring, wants_memory}
 use Rattle.refusals.specs.declared.Refusal.{Refusal}
-use Rattle.refusals.specs.declared.Unbuilt.{Unbuilt}
+use Rattle.run_laws.specs.Orders.{NeedsDependencies}
 use Rattle.run_model.specs.Plans.{IsWhole}
 use Rattle.service_graph.specs.Cycles.{cycle}
 use Rattle.service_hashes.specs.declared.digest.FileDigest.{FileDigest}
@@ -81,29 +81,18 @@ module _ (project : Project) (scales : List Scale) (digests : List FileDigest) (
   pub set_acyclic : IsInOrder project.services → cycle project.services ≡ None → declared project scales digests ≡ Ok given → HasNoCycle given
   set_acyclic order none e = subst HasNoCycle (set_is project scales digests given e) (none_declared project scales digests order none)
 
-  -- a set that was declared is built or not
-  pub gives_built : (result : Result Declared Refusal) → declared project scales digests ≡ Ok given → result ≡ built_or_not given
-      → Gives wants_memory result (declared_or_refused (declared project scales digests) >>= built_or_not)
-  gives_built result e is =
-      subst (λ (d : Result Declared IdentityRefusal). Gives wants_memory result (declared_or_refused d >>= built_or_not)) (sym e) (as_given result is)
-    where
-      as_given : (result : Result Declared Refusal) → result ≡ built_or_not given → Gives wants_memory result (built_or_not given)
-      as_given (Ok declared) is = sym is
-      as_given (Err refusal) is = at (wants_memory refusal)
-        where
-          at : (wants : Bool) → Unless wants (built_or_not given ≡ Err refusal)
-          at true = tt
-          at false = sym is
+  pub set_needs : declared project scales digests ≡ Ok given → NeedsDependencies given
+  set_needs e = subst NeedsDependencies (set_is project scales digests given e) (needs_dependencies project scales digests)
 
 -- a refusal of what is declared is what the call is refused with
 pub gives_refused : (answer : Result Declared IdentityRefusal) (refusal : IdentityRefusal) (joined : Refusal) → joined ≡ identity_refusal refusal → Fails declaring.wants_memory refusal answer
-    → Fails wants_memory joined (declared_or_refused answer >>= built_or_not)
-gives_refused answer refusal joined is h = subst (λ (r : Refusal). Fails wants_memory r (declared_or_refused answer >>= built_or_not)) (sym is) (at refusal h)
+    → Fails wants_memory joined (declared_or_refused answer)
+gives_refused answer refusal joined is h = subst (λ (r : Refusal). Fails wants_memory r (declared_or_refused answer)) (sym is) (at refusal h)
   where
-    at : (refusal : IdentityRefusal) → Fails declaring.wants_memory refusal answer → Fails wants_memory (identity_refusal refusal) (declared_or_refused answer >>= built_or_not)
-    at (IdentityRefusal.UnknownScale service) h = ap (λ (d : Result Declared IdentityRefusal). declared_or_refused d >>= built_or_not) h
-    at (IdentityRefusal.TooManyNeeds count) h = ap (λ (d : Result Declared IdentityRefusal). declared_or_refused d >>= built_or_not) h
-    at (IdentityRefusal.NameTwice name) h = ap (λ (d : Result Declared IdentityRefusal). declared_or_refused d >>= built_or_not) h
+    at : (refusal : IdentityRefusal) → Fails declaring.wants_memory refusal answer → Fails wants_memory (identity_refusal refusal) (declared_or_refused answer)
+    at (IdentityRefusal.UnknownScale service) h = ap declared_or_refused h
+    at (IdentityRefusal.TooManyNeeds count) h = ap declared_or_refused h
+    at (IdentityRefusal.NameTwice name) h = ap declared_or_refused h
     at IdentityRefusal.Memory h = tt
 
 -- a refusal of what is declared is no read that failed
@@ -115,14 +104,6 @@ identity_no_read refusal joined is = ap is_failed_digest is ∙ at refusal
     at (IdentityRefusal.TooManyNeeds count) = refl
     at (IdentityRefusal.NameTwice name) = refl
     at IdentityRefusal.Memory = refl
-
--- what built_or_not refuses is no read that failed
-pub built_no_read : (result : Result Declared Refusal) (given : Declared) → result ≡ built_or_not given → IfErr result (λ refusal. is_failed_digest refusal ≡ false)
-built_no_read result given is = subst (λ (r : Result Declared Refusal). IfErr r (λ refusal. is_failed_digest refusal ≡ false)) (sym is) (at (is_built given))
-  where
-    at : (b : Bool) → IfErr (if b then Ok given else refused (Refusal.NotBuilt Unbuilt.Run)) (λ refusal. is_failed_digest refusal ≡ false)
-    at true = tt
-    at false = refl
 
 module _ (told : Option Contents) (command : Command) (project : Project) where
   -- what was declared by digests that were given

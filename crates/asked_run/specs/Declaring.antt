@@ -1,7 +1,6 @@
 -- What a call declares of the Engine: what its project declares by the numbers of `--scale` and the digests of its files,
 -- or the first refusal.
 use Rattle.std.specs.Prelude.{◌≡◌, ℕ, List, [], Option, Some, None, Result, Ok, Err}
-use Rattle.asked_run.specs.Built.{built_or_not}
 use Rattle.asked_run.specs.Told.{digests_for}
 use Rattle.compose_words.specs.declared.Command.{Command}
 use Rattle.compose_words.specs.declared.options.Scale.{Scale}
@@ -34,10 +33,10 @@ abbrev pub declared_or_refused : Result Declared IdentityRefusal → Result Decl
 declared_or_refused (Ok declared) = Ok declared
 declared_or_refused (Err refusal) = Err (identity_refusal refusal)
 
--- what a project declares with these numbers of `--scale` and these digests of its files, where its run is built
+-- what a project declares with these numbers of `--scale` and these digests of its files
 abbrev pub declared_in : List Scale → Project → List FileDigest → Result Declared Refusal
 declared_in scales project digests =
-    declared_or_refused (declared project scales digests) >>= built_or_not
+    declared_or_refused (declared project scales digests)
 
 -- what it declares for a command
 abbrev pub declared_with : Command → Project → List FileDigest → Result Declared Refusal

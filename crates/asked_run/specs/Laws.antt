@@ -1,18 +1,11 @@
 -- What holds of what a call declares.
-use Rattle.std.specs.Prelude.{◌≡◌, ◌↔◌, ◌⊎◌, true, Some}
-use Rattle.asked_run.specs.Built.{is_built}
+use Rattle.std.specs.Prelude.{◌≡◌, ◌⊎◌, Some}
 use Rattle.asked_run.specs.Declaring.{AreDigests}
 use Rattle.asked_run.specs.Told.{IsHindered, digests_for}
 use Rattle.compose_words.specs.declared.Command.{Command}
-use Rattle.engine_types.specs.declared.Declared.{Declared}
 use Rattle.file_digests.specs.Digests.{Given}
 use Rattle.outside_files.specs.Files.{Contents}
-use Rattle.project_run.specs.Options.{RollsNone}
 use Rattle.typed_project.specs.declared.project.Project.{Project}
-
--- runs are built of exactly the sets in which no service is to be replaced a few slots at a time
-abbrev pub BuiltSetsRollNone : Type 0
-BuiltSetsRollNone = (declared : Declared) → (is_built declared ≡ true) ↔ RollsNone declared
 
 -- what true answers of reads give of the digests is what the files have, or a read failed or wanted memory
 abbrev pub ToldFilesHaveDigests : Type 0

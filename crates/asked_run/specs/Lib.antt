@@ -1,4 +1,3 @@
-pub mod Built
 pub mod Declaring
 pub mod Laws
 pub mod Told

@@ -3,17 +3,16 @@ ghost use Rattle.asked_run.specs.Declaring.{Declares, DeclaresAs, IsDeclared, Is
 ghost use Rattle.declared_laws.specs.Laws.{AreNumbered};
 ghost use Rattle.file_digests.specs.declared.DigestRefusal.{DigestRefusal};
 ghost use Rattle.plan_core.specs.Order.{HasNoCycle};
-ghost use Rattle.project_run.specs.Options.{RollsNone};
 ghost use Rattle.refusals.specs.Origins.{IsOfDeclaring};
 ghost use Rattle.refusals.specs.Refused.{is_failed_digest, wants_memory};
 ghost use Rattle.refusals.specs.declared.Refusal.{Refusal};
+ghost use Rattle.run_laws.specs.Orders.{NeedsDependencies};
 ghost use Rattle.run_model.specs.Plans.{IsWhole};
 ghost use Rattle.service_graph.specs.Cycles.{cycle};
 ghost use Rattle.tree_base.specs.Answers.{Gives};
 ghost use Rattle.typed_project.specs.DistinctNames.{IsKeyed};
 ghost use Rattle.world_laws.specs.OwnSpecs.{HasOwnSpecs};
 
-use crate::built::built_or_not;
 use crate::digests::digests_for;
 use compose_words::{Command, Scale};
 use declared_laws::numbered;
@@ -27,9 +26,8 @@ use tree_base::Memory;
 use typed_project::Project;
 
 /// What a project declares of the Engine for a command: by the numbers of `--scale`, and by the digests of the files of
-/// its configs and secrets, which `up` reads. The refusals, in their order: those of digests; those of what is declared,
-/// `UnknownScale`, `TooManyNeeds` and `NameTwice`; and `NotBuilt(Run)` where a service is to be replaced a few slots at a
-/// time, which no run does yet. The project's services don't depend on one another in a circle.
+/// its configs and secrets, which `up` reads. The refusals, in their order: those of digests; and those of what is declared,
+/// `UnknownScale`, `TooManyNeeds` and `NameTwice`. The project's services don't depend on one another in a circle.
 pub fn declared_asked<F: Files>(
     alloc: Global,
     command: &Command,
@@ -47,11 +45,11 @@ pub fn declared_asked<F: Files>(
     ensures declared { IfOk result (λ declared.
         IsDeclared (F.told files.old) command.now project.now declared) }
 
-    // It is whole, what is sent for each slot is made for it, no service is replaced a few slots at a time, and neither slots
-    // nor services need one another in a circle.
+    // It is whole, what is sent for each slot is made for it, slots need only slots of services that their own service depends
+    // on, and neither slots nor services need one another in a circle.
     ensures whole { IfOk result IsWhole }
     ensures own { IfOk result HasOwnSpecs }
-    ensures unrolled { IfOk result RollsNone }
+    ensures needs { IfOk result NeedsDependencies }
     ensures acyclic { IfOk result HasNoCycle }
 
     // A read that failed is one that the command asks a digest of, and was counted.
@@ -85,7 +83,7 @@ fn declared_with(
     ensures told { Gives wants_memory result (declared_with command.now project.now digests.now) }
     ensures whole { IfOk result IsWhole }
     ensures own { IfOk result HasOwnSpecs }
-    ensures unrolled { IfOk result RollsNone }
+    ensures needs { IfOk result NeedsDependencies }
     ensures acyclic { IfOk result HasNoCycle }
     ensures read { IfErr result (λ refusal. is_failed_digest refusal ≡ false) }
     ensures kind { IfErr result IsOfDeclaring }
@@ -111,13 +109,13 @@ fn declared_in(
     ensures told { Gives wants_memory result (declared_in scales.now project.now digests.now) }
     ensures whole { IfOk result IsWhole }
     ensures own { IfOk result HasOwnSpecs }
-    ensures unrolled { IfOk result RollsNone }
+    ensures needs { IfOk result NeedsDependencies }
     ensures acyclic { IfOk result HasNoCycle }
     ensures read { IfErr result (λ refusal. is_failed_digest refusal ≡ false) }
     ensures kind { IfErr result IsOfDeclaring }
 {
     match declare(alloc, project, scales, digests) {
-        Ok(declared) => built_or_not(declared),
+        Ok(declared) => Ok(declared),
         Err(refusal) => Err(Refusal::from(refusal)),
     }
 }

@@ -1,7 +1,6 @@
 -- A declared set that passes the test is whole, and nothing in it waits for anything else.
 use Rattle.std.proofs.Common.{◌≡◌, ℕ, zero, suc, ◌<◌, Bool, true, false, ◌&&◌, List, [], ◌∷◌, Option, None, Some, length, slice_get, nat_lt, refl, sym, ◌∙◌, subst, inl, inr, arith}
 use Rattle.std.specs.List.{list_all}
-use Rattle.std.specs.Prelude.{is_none}
 use Rattle.std.proofs.lemmas.Bool.{and_parts, ltb-true}
 use Rattle.engine_types.specs.declared.Attach.{Attach}
 use Rattle.engine_types.specs.declared.Declared.{Declared}
@@ -9,11 +8,11 @@ use Rattle.engine_types.specs.declared.DeclaredService.{DeclaredService}
 use Rattle.engine_types.specs.declared.Need.{Need}
 use Rattle.engine_types.specs.declared.Slot.{Slot}
 use Rattle.plan_core.specs.Order.{HasNoCycle}
-use Rattle.project_run.specs.Options.{RollsNone}
+use Rattle.run_laws.specs.Orders.{HasSmallNumbers, NeedsDependencies}
 use Rattle.run_model.specs.EngineRules.{Among}
 use Rattle.run_model.specs.Plans.{IsWhole, is_running, is_slot_before}
 use Rattle.tree_base.specs.ByteOrder.{IsAscending, is_before}
-use Rattle.cases_runs.specs.Whole.{are_served, is_alone, is_ascending, is_attached, is_nil, is_owned, is_serial, is_served, stand_alone}
+use Rattle.cases_runs.specs.Whole.{are_served, is_alone, is_ascending, is_attached, is_nil, is_owned, is_serial, is_served, some_at_a_time, stand_alone}
 
 module _ {X : Type 0} where
   each_at : (p : X → Bool) (xs : List X) (j : ℕ) (y : X) → list_all p xs ≡ true → slice_get xs j ≡ Some y → p y ≡ true
@@ -63,9 +62,10 @@ all_six a b c d e f p =
     let p2 = and_parts a b p3.0 in
     record { one = p2.0; two = p2.1; three = p3.1; four = p4.1; five = p5.1; six = p6.1 }
 
-none_of : (o : Option ℕ) → is_none o ≡ true → o ≡ None
-none_of None e = refl
-none_of (Some n) e = let clash : false ≡ true = e in absurd (cc clash)
+never_none : (o : Option ℕ) → some_at_a_time o ≡ true → o ≡ Some 0 → ⊥
+never_none None e f = cc f
+never_none (Some zero) e f = cc e
+never_none (Some (suc n)) e f = cc f
 
 module _ (declared : Declared) (serial : is_serial declared ≡ true) where
   tests : Six (is_ascending is_slot_before declared.slots) (is_ascending (λ service other. is_before service.key other.key) declared.services)
@@ -79,19 +79,24 @@ module _ (declared : Declared) (serial : is_serial declared ≡ true) where
   served : (slot : Slot) → Among declared.slots slot → is_served declared.services declared.networks slot ≡ true
   served slot among = all_each (is_served declared.services declared.networks) declared.slots slot tests.five among
 
+  unnumbered : (slot : Slot) → Among declared.slots slot → (is_owned declared.services slot.service && is_attached declared.networks slot && is_nil slot.needs) ≡ true
+  unnumbered slot among =
+      (and_parts (is_owned declared.services slot.service && is_attached declared.networks slot && is_nil slot.needs) (nat_lt slot.number 4294967296) (served slot among)).0
+
   attached : (slot : Slot) → Among declared.slots slot → (is_owned declared.services slot.service && is_attached declared.networks slot) ≡ true
-  attached slot among = (and_parts (is_owned declared.services slot.service && is_attached declared.networks slot) (is_nil slot.needs) (served slot among)).0
+  attached slot among = (and_parts (is_owned declared.services slot.service && is_attached declared.networks slot) (is_nil slot.needs) (unnumbered slot among)).0
 
   no_needs : (slot : Slot) → Among declared.slots slot → slot.needs ≡ []
   no_needs slot among = nil_of slot.needs
-      (and_parts (is_owned declared.services slot.service && is_attached declared.networks slot) (is_nil slot.needs) (served slot among)).1
+      (and_parts (is_owned declared.services slot.service && is_attached declared.networks slot) (is_nil slot.needs) (unnumbered slot among)).1
 
-  alone : (service : DeclaredService) → Among declared.services service → (is_nil service.depends_on ≡ true) × (is_none service.roll ≡ true)
-  alone service among = and_parts (is_nil service.depends_on) (is_none service.roll) (all_each is_alone declared.services service tests.six among)
+  -- the numbers of its slots have 32 bits
+  pub small : HasSmallNumbers declared
+  small slot among = ltb-true slot.number 4294967296
+      (and_parts (is_owned declared.services slot.service && is_attached declared.networks slot && is_nil slot.needs) (nat_lt slot.number 4294967296) (served slot among)).1
 
-  -- no service of it is replaced a few slots at a time
-  pub unrolled : RollsNone declared
-  unrolled service among = none_of service.roll (alone service among).1
+  alone : (service : DeclaredService) → Among declared.services service → (is_nil service.depends_on ≡ true) × (some_at_a_time service.roll ≡ true)
+  alone service among = and_parts (is_nil service.depends_on) (some_at_a_time service.roll) (all_each is_alone declared.services service tests.six among)
 
   no_dependency : {P : Type 0} (service : DeclaredService) (key : List ℕ) → Among declared.services service → Among service.depends_on key → P
   no_dependency service key among depended =
@@ -110,6 +115,9 @@ module _ (declared : Declared) (serial : is_serial declared ≡ true) where
     sinks = no_dependency;
   }
 
+  pub needs : NeedsDependencies declared
+  needs s slot other need at needed there = no_need slot need (at_among declared.slots s slot at) needed
+
   attached_within : (slot : Slot) (attach : Attach) → Among declared.slots slot → Among slot.attach attach → attach.network < length declared.networks
   attached_within slot attach among joined =
       ltb-true attach.network (length declared.networks)
@@ -117,7 +125,7 @@ module _ (declared : Declared) (serial : is_serial declared ≡ true) where
       (and_parts (is_owned declared.services slot.service) (is_attached declared.networks slot) (attached slot among)).1 joined)
 
   none_rolls : (service : DeclaredService) → Among declared.services service → service.roll ≡ Some 0 → ⊥
-  none_rolls service among e = let bad : None ≡ Some 0 = sym (none_of service.roll (alone service among).1) ∙ e in cc bad
+  none_rolls service among e = never_none service.roll (alone service among).1 e
 
   -- and it is whole
   pub whole : IsWhole declared

@@ -1,5 +1,5 @@
 -- Which declared sets one worker can carry out, as a test.
-use Rattle.std.specs.Prelude.{ℕ, Bool, true, false, ◌&&◌, nat_lt, List, [], ◌∷◌, is_none, length}
+use Rattle.std.specs.Prelude.{ℕ, Bool, true, false, not, ◌&&◌, ◌==◌, nat_lt, List, [], ◌∷◌, Option, Some, None, length}
 use Rattle.std.specs.List.{list_all, list_any}
 use Rattle.std.specs.Str.{bytes_eq}
 use Rattle.engine_types.specs.declared.Declared.{Declared}
@@ -27,18 +27,24 @@ abbrev pub is_nil : {X : Type 0} → List X → Bool
 is_nil [] = true
 is_nil (x ∷ xs) = false
 
--- whether a slot is of a service that is there, attaches to networks that are there, and needs no other slot
+-- whether a slot is of a service that is there, attaches to networks that are there, needs no other slot, and has a number of 32 bits
 abbrev pub is_served : List DeclaredService → List NetworkSpec → Slot → Bool
 is_served services networks slot =
     is_owned services slot.service && is_attached networks slot && is_nil slot.needs
+    && nat_lt slot.number 4294967296
 
 -- whether slots do
 abbrev pub are_served : List DeclaredService → List NetworkSpec → List Slot → Bool
 are_served services networks slots = list_all (is_served services networks) slots
 
--- whether a service depends on no other one, and isn't replaced a few slots at a time
+-- whether slots are replaced at least one at a time
+abbrev pub some_at_a_time : Option ℕ → Bool
+some_at_a_time (Some count) = not (count == 0)
+some_at_a_time None = true
+
+-- whether a service depends on no other one, and its slots are replaced at least one at a time
 abbrev pub is_alone : DeclaredService → Bool
-is_alone service = is_nil service.depends_on && is_none service.roll
+is_alone service = is_nil service.depends_on && some_at_a_time service.roll
 
 -- whether services do
 abbrev pub stand_alone : List DeclaredService → Bool

@@ -124,9 +124,8 @@ fn part_at(reading: &mut Reading, fields: &Fields) -> Part {
 fn unbuilt_of(reading: &mut Reading, tree: &Tree) -> Unbuilt {
     match tree {
         Tree::Scalar(text) if text.as_str() == "words" => Unbuilt::Words,
-        Tree::Scalar(text) if text.as_str() == "run" => Unbuilt::Run,
         _ => {
-            reading.wants("not_built", "`words` or `run`");
+            reading.wants("not_built", "`words`");
             Unbuilt::Words
         }
     }

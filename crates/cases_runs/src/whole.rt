@@ -1,10 +1,10 @@
 ghost use Rattle.std.specs.Prelude.{◌≡◌, true};
 ghost use Rattle.std.specs.List.{list_all};
 ghost use Rattle.plan_core.specs.Order.{HasNoCycle};
-ghost use Rattle.project_run.specs.Options.{RollsNone};
+ghost use Rattle.run_laws.specs.Orders.{HasSmallNumbers, NeedsDependencies};
 ghost use Rattle.run_model.specs.Plans.{IsWhole, is_slot_before};
 ghost use Rattle.tree_base.specs.ByteOrder.{is_before};
-ghost use Rattle.cases_runs.specs.Whole.{are_served, is_alone, is_ascending, is_attached, is_nil, is_owned, is_served, is_serial, stand_alone};
+ghost use Rattle.cases_runs.specs.Whole.{are_served, is_alone, is_ascending, is_attached, is_nil, is_owned, is_served, is_serial, some_at_a_time, stand_alone};
 
 use engine_types::{Declared, DeclaredService, NetworkSpec, Slot, VolumeSpec};
 use tree_base::Text;
@@ -13,8 +13,9 @@ use tree_base::Text;
 /// memory.
 pub(crate) fn is_serial(declared: &Declared) -> bool
     ensures whole { result ≡ true → IsWhole declared.now }
-    ensures unrolled { result ≡ true → RollsNone declared.now }
+    ensures small { result ≡ true → HasSmallNumbers declared.now }
     ensures acyclic { result ≡ true → HasNoCycle declared.now }
+    ensures needs { result ≡ true → NeedsDependencies declared.now }
 {
     passes(declared)
 }
@@ -59,7 +60,10 @@ fn are_served(services: &[DeclaredService], networks: &[NetworkSpec], slots: &[S
 fn is_served(services: &[DeclaredService], networks: &[NetworkSpec], slot: &Slot) -> bool
     ensures { result ≡ is_served services.now networks.now slot.now }
 {
-    is_owned(services, &slot.service) && is_attached(networks, slot) && needs_nothing(slot)
+    is_owned(services, &slot.service)
+        && is_attached(networks, slot)
+        && needs_nothing(slot)
+        && u64::from(slot.number) < 4_294_967_296
 }
 
 fn is_owned(services: &[DeclaredService], key: &Text) -> bool
@@ -68,7 +72,7 @@ fn is_owned(services: &[DeclaredService], key: &Text) -> bool
     services.iter().any(|service| service.key == *key)
 }
 
-/// Whether no service depends on another one, or is replaced a few slots at a time.
+/// Whether no service depends on another one, or is replaced no slot at a time.
 fn stand_alone(services: &[DeclaredService]) -> bool
     ensures { result ≡ stand_alone services.now }
 {
@@ -79,8 +83,17 @@ fn is_alone(service: &DeclaredService) -> bool
     ensures { result ≡ is_alone service.now }
 {
     match service.depends_on.as_slice() {
-        [] => service.roll.is_none(),
+        [] => some_at_a_time(service.roll),
         [_, ..] => false,
+    }
+}
+
+fn some_at_a_time(roll: Option<u32>) -> bool
+    ensures { result ≡ some_at_a_time roll }
+{
+    match roll {
+        Some(count) => count != 0,
+        None => true,
     }
 }
 

@@ -25,7 +25,6 @@ use Rattle.refusals.specs.Refused.{is_failed_digest, is_failed_read, wants_memor
 use Rattle.refusals.specs.Saying.{IsSaid}
 use Rattle.refusals.specs.declared.Part.{Part}
 use Rattle.refusals.specs.declared.Refusal.{Refusal}
-use Rattle.refusals.specs.declared.Unbuilt.{Unbuilt}
 use Rattle.run_model.specs.Plans.{Aim}
 use Rattle.tree_base.specs.Answers.{Unless}
 use Rattle.typed_project.specs.declared.project.Project.{Project}
@@ -108,13 +107,12 @@ said_digest refusal found path is_said = said refusal found is_said (λ f. f ≡
     (λ h. absurd (cc h)) (λ h. let same : refusal ≡ Refusal.Digest (DigestRefusal.ReadFault path) = cc h in same)
 
 -- a fact on what is said of a refusal of declaring: one on each of these
-declaring_said : (refusal : Refusal) (found : Option Refusal) (P : Option Refusal → Type 0) → IsOfDeclaring refusal → IsSaid refusal found → P (Some (Refusal.NotBuilt Unbuilt.Run)) → ((cause : DigestRefusal) → P (Some (Refusal.Digest cause)))
+declaring_said : (refusal : Refusal) (found : Option Refusal) (P : Option Refusal → Type 0) → IsOfDeclaring refusal → IsSaid refusal found → ((cause : DigestRefusal) → P (Some (Refusal.Digest cause)))
     → ((cause : IdentityRefusal) → P (Some (Refusal.Identity cause))) → P (Some Refusal.Memory) → P found
-declaring_said refusal found P kind is_said run digest identity memory = said refusal found is_said P memory (at refusal kind)
+declaring_said refusal found P kind is_said digest identity memory = said refusal found is_said P memory (at refusal kind)
   where
     at : (r : Refusal) → IsOfDeclaring r → P (Some r)
-    at (Refusal.NotBuilt Unbuilt.Run) kind = run
-    at (Refusal.NotBuilt Unbuilt.Words) kind = absurd kind
+    at (Refusal.NotBuilt unbuilt) kind = absurd kind
     at (Refusal.Digest cause) kind = digest cause
     at (Refusal.Identity cause) kind = identity cause
     at Refusal.Memory kind = memory
@@ -137,22 +135,22 @@ words_in (Some refusal) = is_of_words refusal
 -- no refusal of declaring is one of words
 pub declaring_no_words : (refusal words : Refusal) (found : Option Refusal) → IsOfDeclaring refusal → IsSaid refusal found → IsTrue (is_of_words words) → found ≡ Some words → ⊥
 declaring_no_words refusal words found kind is_said of_words e =
-    no_true (subst (λ (f : Option Refusal). IsTrue (words_in f)) (sym e) of_words) (declaring_said refusal found (λ f. words_in f ≡ false) kind is_said refl (λ cause. refl) (λ cause. refl) refl)
+    no_true (subst (λ (f : Option Refusal). IsTrue (words_in f)) (sym e) of_words) (declaring_said refusal found (λ f. words_in f ≡ false) kind is_said (λ cause. refl) (λ cause. refl) refl)
   where
     no_true : IsTrue (words_in found) → words_in found ≡ false → ⊥
     no_true h e = let bad : IsTrue false = subst IsTrue e h in cc bad
 
 -- no read of a Compose file failed, where a project can't be declared
 pub declaring_no_load : (refusal : Refusal) (found : Option Refusal) (path : List ℕ) → IsOfDeclaring refusal → IsSaid refusal found → found ≡ Some (Refusal.Load (LoadRefusal.ReadFault path)) → ⊥
-declaring_no_load refusal found path kind is_said = declaring_said refusal found (λ f. f ≡ Some (Refusal.Load (LoadRefusal.ReadFault path)) → ⊥) kind is_said (λ e. cc e) (λ cause e. cc e) (λ cause e. cc e) (λ e. cc e)
+declaring_no_load refusal found path kind is_said = declaring_said refusal found (λ f. f ≡ Some (Refusal.Load (LoadRefusal.ReadFault path)) → ⊥) kind is_said (λ cause e. cc e) (λ cause e. cc e) (λ e. cc e)
 
 -- nothing outside failed
 pub declaring_no_outside : (refusal : Refusal) (found : Option Refusal) (part : Part) → IsOfDeclaring refusal → IsSaid refusal found → found ≡ Some (Refusal.Outside part) → ⊥
-declaring_no_outside refusal found part kind is_said = declaring_said refusal found (λ f. f ≡ Some (Refusal.Outside part) → ⊥) kind is_said (λ e. cc e) (λ cause e. cc e) (λ cause e. cc e) (λ e. cc e)
+declaring_no_outside refusal found part kind is_said = declaring_said refusal found (λ f. f ≡ Some (Refusal.Outside part) → ⊥) kind is_said (λ cause e. cc e) (λ cause e. cc e) (λ e. cc e)
 
 -- what can't be declared begins no run
 pub declaring_unbegun : (refusal : Refusal) (found : Option Refusal) → IsOfDeclaring refusal → IsSaid refusal found → IsUnbegun found
-declaring_unbegun refusal found kind is_said = declaring_said refusal found IsUnbegun kind is_said tt (λ cause. tt) (λ cause. tt) tt
+declaring_unbegun refusal found kind is_said = declaring_said refusal found IsUnbegun kind is_said (λ cause. tt) (λ cause. tt) tt
 
 -- a count that rose in a call rose since before it
 rose_before : (old between new : ℕ) → old ≤ between → between ≤ new → Rose between new → Rose old new

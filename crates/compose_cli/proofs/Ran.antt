@@ -36,6 +36,7 @@ use Rattle.run_model.specs.Observation.{is_up}
 use Rattle.run_model.specs.Plans.{Aim, IsWhole}
 use Rattle.cut_laws.proofs.AcrossRuns.{made_once_after_runs}
 use Rattle.cut_laws.proofs.Sparing.{run_spares_agreeing}
+use Rattle.rolling_update.proofs.Counts.{rolls_at_most}
 use Rattle.world_laws.specs.OwnSpecs.{HasOwnSpecs}
 use Rattle.run_model.specs.Runs.{IsLeftByAll, IsRun, IsWorldOfRun, RunOptions, Task, limits_of, run_exchanges, run_fault, run_report}
 use Rattle.run_model.specs.Worlds.{Move}
@@ -237,6 +238,8 @@ runs_task log heard faults clock task journal hands status report fault refusal 
       spares = spares;
       once = λ up images first mid last earlier moves before world told_ids slot m. made_once_after_runs task journal images first mid last earlier moves up whole own before run world told_ids slot m;
       agreeing = λ up first last moves world. run_spares_agreeing task journal first last moves up whole own run world;
+      rolls = λ up first last later moves service count world there by_roll uncrossed.
+          rolls_at_most task journal first last later moves service count up whole (λ slot m. (own slot m).number) run.legal world there by_roll uncrossed;
       exact = λ e. ends (went_well fault old new refusal found refused is_said e);
       gone = λ e. lacks (went_well fault old new refusal found refused is_said e);
     })

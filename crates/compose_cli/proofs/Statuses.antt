@@ -97,7 +97,6 @@ words_not_zero WordsRefusal.Memory e = absurd (cc e)
 refusal_not_zero : (refusal : Refusal) → refusal_status refusal ≡ 0 → ⊥
 refusal_not_zero (Refusal.Words refusal) e = words_not_zero refusal e
 refusal_not_zero (Refusal.NotBuilt Unbuilt.Words) e = absurd (cc e)
-refusal_not_zero (Refusal.NotBuilt Unbuilt.Run) e = absurd (cc e)
 refusal_not_zero (Refusal.Load (LoadRefusal.NotFound path)) e = absurd (cc e)
 refusal_not_zero (Refusal.Load (LoadRefusal.ReadFault path)) e = absurd (cc e)
 refusal_not_zero (Refusal.Load (LoadRefusal.FileTooLarge path)) e = absurd (cc e)

@@ -24,7 +24,7 @@ use Rattle.file_digests.specs.declared.DigestRefusal.{DigestRefusal}
 use Rattle.typed_project.specs.declared.project.Project.{Project}
 use Rattle.project_run.specs.Timing.{IsTimed}
 use Rattle.project_run.specs.Whole.{IfBegun, IsCaused, SparesKept, task_of}
-use Rattle.project_run.specs.Worlds.{EndsExact, EndsGone, MakesOnce, SparesAgreeing}
+use Rattle.project_run.specs.Worlds.{EndsExact, EndsGone, MakesOnce, RollsFew, SparesAgreeing}
 use Rattle.refusals.specs.Origins.{run_refusal}
 use Rattle.refusals.specs.Refused.{is_failed_digest, is_free}
 use Rattle.refusals.specs.declared.Part.{Part}
@@ -204,6 +204,7 @@ pub record RunsTask {H : Type 0} (log : H → List Exchange) (heard : H → Opti
   pub spares : is_up task.aim.purpose ≡ true → SparesKept task ended.journal
   pub once : is_up task.aim.purpose ≡ true → MakesOnce task ended.journal
   pub agreeing : is_up task.aim.purpose ≡ true → SparesAgreeing task ended.journal
+  pub rolls : is_up task.aim.purpose ≡ true → RollsFew task ended.journal
   pub exact : ended.refusal ≡ None → is_up task.aim.purpose ≡ true → EndsExact task ended.journal
   pub gone : ended.refusal ≡ None → is_up task.aim.purpose ≡ false → EndsGone task ended.journal
 

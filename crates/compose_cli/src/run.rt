@@ -6,13 +6,14 @@ ghost use Rattle.outside_api.specs.Clock.{new_clock};
 ghost use Rattle.outside_api.specs.Hands.{HeardNothing};
 ghost use Rattle.outside_files.specs.Counts.{Rose};
 ghost use Rattle.plan_core.specs.Order.{HasNoCycle};
-ghost use Rattle.project_run.specs.Options.{RollsNone, aim_of, options_of};
+ghost use Rattle.project_run.specs.Options.{aim_of, options_of};
 ghost use Rattle.project_run.specs.Whole.{IfBegun, task_of};
 ghost use Rattle.project_run.specs.Worlds.{GoesThrough};
 ghost use Rattle.refusals.specs.Origins.{IsOfLoading, IsOfRun};
 ghost use Rattle.refusals.specs.Statuses.{status_of};
 ghost use Rattle.refusals.specs.declared.Part.{Part};
 ghost use Rattle.refusals.specs.declared.Refusal.{Refusal};
+ghost use Rattle.run_laws.specs.Orders.{NeedsDependencies};
 ghost use Rattle.run_model.specs.EngineRules.{Among};
 ghost use Rattle.run_model.specs.Observation.{is_up};
 ghost use Rattle.run_model.specs.Plans.{IsWhole};
@@ -45,8 +46,8 @@ pub(crate) fn run_declared<P: Plug, O: Sink, G: Sink>(
 ) -> Ended<P::Hand>
     requires told { ForSome (P.dialled plug.old) (λ n. n < 2 ^ 61) }
     requires whole { IsWhole declared }
-    requires unrolled { RollsNone declared }
     requires acyclic { HasNoCycle declared }
+    requires needs { NeedsDependencies declared }
     requires own { HasOwnSpecs declared }
     ensures origin { IsOfLoading result.refusal → ⊥ }
     ensures dial { result.refusal ≡ Some (Refusal.Outside Part.Plug)
@@ -117,8 +118,8 @@ fn run_with<H: Hand, O: Sink, G: Sink>(
     requires empty { hands.items ≡ [] }
     requires room { vec_len hands < vec_capacity hands }
     requires whole { IsWhole declared }
-    requires unrolled { RollsNone declared }
     requires acyclic { HasNoCycle declared }
+    requires needs { NeedsDependencies declared }
     requires own { HasOwnSpecs declared }
     requires unused { H.log hand ≡ [] }
     requires unread { H.clock hand ≡ new_clock }

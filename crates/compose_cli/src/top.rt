@@ -14,7 +14,7 @@ ghost use Rattle.outside_files.specs.Sinks.{GrewBy};
 ghost use Rattle.project_run.specs.Options.{aim_of, options_of};
 ghost use Rattle.project_run.specs.Timing.{IsTimed};
 ghost use Rattle.project_run.specs.Whole.{IfBegun, SparesKept};
-ghost use Rattle.project_run.specs.Worlds.{EndsExact, EndsGone, MakesOnce, SparesAgreeing};
+ghost use Rattle.project_run.specs.Worlds.{EndsExact, EndsGone, MakesOnce, RollsFew, SparesAgreeing};
 ghost use Rattle.refusals.specs.Origins.{IsOfLoading, is_of_words};
 ghost use Rattle.refusals.specs.Statuses.{status_of};
 ghost use Rattle.refusals.specs.declared.Part.{Part};
@@ -192,6 +192,12 @@ pub fn serial_main<F: Files, P: Plug, O: Sink, G: Sink>(
     ensures agreeing { IfBegun result.journal (ForTask words.now env.now cwd.now (F.told files.old)
         (first_reading (λ h. P.Hand.clock h) result.hands) (λ task.
         is_up task.aim.purpose ≡ true → SparesAgreeing task result.journal)) }
+
+    // At no moment of `up` do more slots of a service lack a live container by the run's doing than the service replaces at a
+    // time.
+    ensures rolls { IfBegun result.journal (ForTask words.now env.now cwd.now (F.told files.old)
+        (first_reading (λ h. P.Hand.clock h) result.hands) (λ task.
+        is_up task.aim.purpose ≡ true → RollsFew task result.journal)) }
 
     // The Engine went through the run: the one that the hand tells, and one in every world of the run, whatever it
     // held before.

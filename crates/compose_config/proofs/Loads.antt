@@ -13,7 +13,6 @@ use Rattle.refusals.specs.Origins.{IsOfAsking, is_of_words}
 use Rattle.refusals.specs.Refused.{IsRefusal, is_free, wants_memory}
 use Rattle.refusals.specs.Saying.{IsSaid}
 use Rattle.refusals.specs.declared.Refusal.{Refusal}
-use Rattle.refusals.specs.declared.Unbuilt.{Unbuilt}
 use Rattle.typed_project.specs.declared.project.Project.{Project}
 use Rattle.tree_base.specs.Answers.{Gives, Unless}
 
@@ -204,8 +203,7 @@ asking_kind refusal found before is_said = said refusal found is_said IsOfConfig
     at : (refusal : Refusal) → IsOfAsking refusal → IsOfConfig (Some refusal)
     at Refusal.Memory h = tt
     at (Refusal.Words words) h = tt
-    at (Refusal.NotBuilt Unbuilt.Words) h = tt
-    at (Refusal.NotBuilt Unbuilt.Run) h = absurd h
+    at (Refusal.NotBuilt unbuilt) h = tt
     at (Refusal.Load load) h = tt
     at (Refusal.Name name) h = tt
     at (Refusal.Active active) h = tt

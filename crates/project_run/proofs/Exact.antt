@@ -18,7 +18,9 @@ use Rattle.world_laws.specs.OwnSpecs.{HasOwnSpecs}
 use Rattle.project_run.specs.Whole.{IfBegun, IsFault, run_steps, task_of}
 use Rattle.cut_laws.proofs.AcrossRuns.{made_once_after_runs}
 use Rattle.cut_laws.proofs.Sparing.{run_spares_agreeing}
-use Rattle.project_run.specs.Worlds.{EndsExact, EndsGone, GoesThrough, MakesOnce, SparesAgreeing}
+use Rattle.rolling_update.proofs.Counts.{rolls_at_most}
+use Rattle.run_laws.specs.Orders.{HasSmallNumbers}
+use Rattle.project_run.specs.Worlds.{EndsExact, EndsGone, GoesThrough, MakesOnce, RollsFew, SparesAgreeing}
 
 -- a hand that tells no Engine goes on so
 none_told : (steps : List Step) (now : Option Engine) → TellsSteps steps None now → now ≡ None
@@ -58,3 +60,7 @@ makes_once task journal up whole own run images first mid last earlier moves bef
 
 pub spares_agreeing : (task : Task) (journal : List Entry) → is_up task.aim.purpose ≡ true → IsWhole task.declared → HasOwnSpecs task.declared → IsRun task journal → SparesAgreeing task journal
 spares_agreeing task journal up whole own run first last moves world = run_spares_agreeing task journal first last moves up whole own run world
+
+pub rolls_few : (task : Task) (journal : List Entry) → is_up task.aim.purpose ≡ true → IsWhole task.declared → HasSmallNumbers task.declared → IsRun task journal → RollsFew task journal
+rolls_few task journal up whole small run first last later moves service count world among by_roll uncrossed =
+    rolls_at_most task journal first last later moves service count up whole small run.legal world among by_roll uncrossed

@@ -24,17 +24,18 @@ use Rattle.outside_api.proofs.Accounts.{caused-append}
 use Rattle.outside_api.specs.Accounts.{Account, AreCaused}
 use Rattle.outside_api.specs.Clock.{Clock, new_clock}
 use Rattle.plan_core.specs.Order.{HasNoCycle}
-use Rattle.project_run.proofs.Beginning.{may_begin, unrolled_actions}
+use Rattle.project_run.proofs.Beginning.{may_begin}
 use Rattle.project_run.proofs.Joining.{seen_after}
 use Rattle.project_run.proofs.Timed.{run_timed, same_limits, still_timed}
 use Rattle.project_run.specs.Carrying.{IsCarriedOut, IsUnbegun, IsWorked, come_to, cut_short}
 use Rattle.project_run.specs.Opening.{HasEndedBadly, Opens}
-use Rattle.project_run.specs.Options.{RollsNone, basis_of, bounded, clock_begun, limits_by}
+use Rattle.project_run.specs.Options.{basis_of, bounded, clock_begun, limits_by}
 use Rattle.project_run.specs.Timing.{IsTimed}
 use Rattle.project_run.specs.Whole.{IsCaused, Leaves, run_steps, task_of}
 use Rattle.project_run.specs.declared.opening.Opening.{Opening}
 use Rattle.project_run.specs.declared.options as asked
 use Rattle.run_ends.proofs.Leaving.{left_ends}
+use Rattle.run_laws.specs.Orders.{HasSmallNumbers, NeedsDependencies}
 use Rattle.run_model.specs.Ending.{EveryWorkerLeft, IsRunOver, first_fault, is_seen_bad}
 use Rattle.run_model.specs.EngineRules.{Step, TellsSteps, exchanges_in, unpaused}
 use Rattle.run_model.specs.Journals.{Setup, has_left, seen_in}
@@ -42,7 +43,7 @@ use Rattle.run_model.specs.Legal.{IsLegal, IsObserved, Saw, seen_end, whole_end}
 use Rattle.run_model.specs.Lines.{report_text}
 use Rattle.run_model.specs.Logs.{GrowsBy, deadline_after, exchanges_of}
 use Rattle.run_model.specs.Observation.{Asks, Ends, Onward, Strays, is_asked, observed as observed_by}
-use Rattle.run_model.specs.Plans.{Aim, IsWhole, planned}
+use Rattle.run_model.specs.Plans.{Aim, IsWhole}
 use Rattle.run_model.specs.Rolling.{run_actions}
 use Rattle.run_model.specs.Runs.{IsLeftByAll, IsRun, Task, run_exchanges, run_fault, run_report, run_seen, run_setup}
 use Rattle.world_laws.proofs.ToldRuns.{unpaused_are}
@@ -121,9 +122,9 @@ opens_short declared aim observed plan before now opens = record {
 -- a run whose worker left
 module _ (declared : Declared) (aim : Aim) (options : asked.RunOptions.RunOptions) (limits : RunLimits) (observed : Observed) (plan : Plan) (journal : List Entry) (clock : Clock) (before mid now : Telling)
     (unused : before.clock ≡ new_clock) (read : clock ≡ clock_begun options.wait_seconds clock.first) (bound : limits ≡ bounded aim (limits_by options clock))
-    (plain : RollsNone declared) (may : MayBegin declared observed plan limits)
+    (may : MayBegin declared observed plan limits)
     (opens : Opens declared aim (Opening.Planned observed plan) (record before { clock = clock }) mid)
-    (seen : Seen) (good : observed.end ≡ SeenEnd.Good seen) (is : plan.actions ≡ planned (basis_of declared seen aim))
+    (seen : Seen) (good : observed.end ≡ SeenEnd.Good seen) (actions : plan.actions ≡ run_actions (basis_of declared seen aim))
     (worked : IsWorked (begun declared observed plan limits) journal mid now) where
   abbrev old : Course
   old = begun declared observed plan limits
@@ -168,9 +169,6 @@ module _ (declared : Declared) (aim : Aim) (options : asked.RunOptions.RunOption
 
   saw_first : first_seen journal ≡ seen
   saw_first = ap first_seen starts ∙ first_one
-
-  actions : plan.actions ≡ run_actions (basis_of declared seen aim)
-  actions = unrolled_actions declared seen aim plan.actions plain is
 
   pub same_setup : setup_of new ≡ run_setup task journal
   same_setup = rw (saw_first, saw_last, actions, limits_are) refl
@@ -243,10 +241,10 @@ module _ (declared : Declared) (aim : Aim) (options : asked.RunOptions.RunOption
 -- a run whose plan was carried out, or wasn't begun
 module _ (declared : Declared) (aim : Aim) (options : asked.RunOptions.RunOptions) (limits : RunLimits) (observed : Observed) (plan : Plan) (journal : List Entry) (clock : Clock) (before mid now : Telling)
     (unused : before.clock ≡ new_clock) (read : clock ≡ clock_begun options.wait_seconds clock.first) (bound : limits ≡ bounded aim (limits_by options clock))
-    (whole : IsWhole declared) (plain : RollsNone declared) (acyclic : HasNoCycle declared)
+    (whole : IsWhole declared) (small : HasSmallNumbers declared) (acyclic : HasNoCycle declared) (needs : NeedsDependencies declared)
     (opens : Opens declared aim (Opening.Planned observed plan) (record before { clock = clock }) mid) where
   pub may : MayBegin declared observed plan limits
-  may = may_begin declared aim observed plan (limits_by options clock) limits (record before { clock = clock }) mid whole plain acyclic opens refl bound
+  may = may_begin declared aim observed plan (limits_by options clock) limits (record before { clock = clock }) mid whole small acyclic needs opens refl bound
 
   leaves_short : IsUnbegun observed journal mid now → Leaves (task_of declared aim (limits_by options now.clock)) journal before now
   leaves_short unbegun = subst (λ (js : List Entry). Leaves (task_of declared aim (limits_by options now.clock)) js before now) (sym unbegun.only)
@@ -254,7 +252,7 @@ module _ (declared : Declared) (aim : Aim) (options : asked.RunOptions.RunOption
       (leaves_badly declared aim options (cut_short observed.exchanges) clock before mid unused read (opens_short declared aim observed plan (record before { clock = clock }) mid opens)))
 
   pub leaves : IsCarriedOut declared observed plan limits journal mid now → Leaves (task_of declared aim (limits_by options now.clock)) journal before now
-  leaves (inl worked) = leaves_well declared aim options limits observed plan journal clock before mid now unused read bound plain may opens opens.follows.0 opens.follows.1 opens.follows.2 worked
+  leaves (inl worked) = leaves_well declared aim options limits observed plan journal clock before mid now unused read bound may opens opens.follows.0 opens.follows.1 opens.follows.2 worked
   leaves (inr unbegun) = leaves_short unbegun
 
   -- what is told of it is said of the task
@@ -262,7 +260,7 @@ module _ (declared : Declared) (aim : Aim) (options : asked.RunOptions.RunOption
       → IsCarriedOut declared observed plan limits journal mid now
       → tell (setup_of (run_of declared plan limits journal)) (reverse journal) ≡ tell (run_setup (task_of declared aim (limits_by options now.clock)) journal) (reverse journal)
   of_task tell any (inl worked) = ap (λ (setup : Setup). tell setup (reverse journal))
-      (same_setup declared aim options limits observed plan journal clock before mid now unused read bound plain may opens opens.follows.0 opens.follows.1 opens.follows.2 worked)
+      (same_setup declared aim options limits observed plan journal clock before mid now unused read bound may opens opens.follows.0 opens.follows.1 opens.follows.2 worked)
   of_task tell any (inr unbegun) = rw unbegun.only (any (setup_of (run_of declared plan limits (Entry.Seen (cut_short observed.exchanges) ∷ [])))
       (run_setup (task_of declared aim (limits_by options now.clock)) (Entry.Seen (cut_short observed.exchanges) ∷ [])))
 

@@ -13,7 +13,8 @@ use Rattle.project_run.specs.Options.{basis_of}
 use Rattle.run_model.specs.EngineRules.{ToldBy}
 use Rattle.run_model.specs.Legal.{IsObserved, whole_end}
 use Rattle.run_model.specs.Logs.{GrowsBy}
-use Rattle.run_model.specs.Plans.{Aim, AreKeptPlaces, is_too_long, planned}
+use Rattle.run_model.specs.Plans.{Aim, AreKeptPlaces, is_too_long}
+use Rattle.run_model.specs.Rolling.{run_actions}
 
 -- an end is the whole one of what was observed, or want of memory stands in its place
 abbrev pub IsWholeEnd : Declared → Aim → SeenEnd → SeenEnd → Type 0
@@ -33,7 +34,7 @@ HasEndedBadly observed = (fault : SeenFault) × (observed.end ≡ SeenEnd.Bad fa
 abbrev pub Follows : Declared → Aim → Opening → Type 0
 Follows declared aim (Opening.Planned observed plan) =
     (seen : Seen) × (observed.end ≡ SeenEnd.Good seen)
-    × (plan.actions ≡ planned (basis_of declared seen aim))
+    × (plan.actions ≡ run_actions (basis_of declared seen aim))
     × (is_too_long (basis_of declared seen aim) ≡ false) × AreKeptPlaces declared seen plan.kept
 Follows declared aim (Opening.Ended observed) = HasEndedBadly observed
 

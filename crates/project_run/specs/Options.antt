@@ -1,11 +1,9 @@
 -- What a run is for, what bounds it, and what its plan is made from.
-use Rattle.std.specs.Prelude.{◌≡◌, ℕ, ◌&&◌, Option, Some, None}
+use Rattle.std.specs.Prelude.{ℕ, ◌&&◌, Option, Some, None}
 use Rattle.engine_types.specs.declared.Declared.{Declared}
-use Rattle.engine_types.specs.declared.DeclaredService.{DeclaredService}
 use Rattle.engine_types.specs.declared.RunLimits.{RunLimits}
 use Rattle.engine_types.specs.declared.Seen.{Seen}
 use Rattle.outside_api.specs.Clock.{Clock, after_now, new_clock}
-use Rattle.run_model.specs.EngineRules.{Among}
 use Rattle.run_model.specs.Observation.{is_up}
 use Rattle.run_model.specs.Plans.{Aim, Basis}
 use Rattle.run_model.specs.Runs.{RunOptions, limits_of}
@@ -41,8 +39,3 @@ clock_begun None first = new_clock
 -- what the plan of a run is made from
 abbrev pub basis_of : Declared → Seen → Aim → Basis
 basis_of declared seen aim = record { declared = declared; seen = seen; aim = aim }
-
--- no service is to be replaced a few slots at a time
-abbrev pub RollsNone : Declared → Type 0
-RollsNone declared =
-    (service : DeclaredService) → Among declared.services service → service.roll ≡ None

@@ -1,13 +1,16 @@
 -- What a run of a project leaves in the Engine.
-use Rattle.std.specs.Prelude.{◌≡◌, ℕ, ◌+◌, ◌≤◌, List, Option, Some, None, IsSomeAnd}
+use Rattle.std.specs.Prelude.{◌≡◌, ℕ, ◌+◌, ◌≤◌, false, List, ◌++◌, Option, Some, None, IsSomeAnd, length}
+use Rattle.engine_types.specs.declared.DeclaredService.{DeclaredService}
 use Rattle.engine_types.specs.declared.Engine.{Engine}
 use Rattle.engine_types.specs.declared.Entry.{Entry}
 use Rattle.engine_types.specs.declared.Slot.{Slot}
 use Rattle.cut_laws.specs.Spared.{SparesAlong}
+use Rattle.rolling_update.specs.Moments.{lacking}
 use Rattle.run_model.specs.Cuts.{Ran, Runs, TellsImages, creates, creates_over}
 use Rattle.run_model.specs.EngineRules.{Among}
 use Rattle.run_model.specs.Exact.{IsExact, IsGone}
-use Rattle.run_model.specs.Runs.{IsWorldOfRun, Task, run_setup}
+use Rattle.run_model.specs.Rolling.{is_crossed}
+use Rattle.run_model.specs.Runs.{IsWorldOfRun, Task, run_seen, run_setup}
 use Rattle.run_model.specs.Worlds.{Move}
 
 -- the Engine that a hand told at first went through the run, to the one that it tells now; a hand that told none tells none
@@ -42,3 +45,15 @@ abbrev pub SparesAgreeing : Task → List Entry → Type 0
 SparesAgreeing task journal = (first last : Engine) (moves : List Move)
     → (world : IsWorldOfRun task journal first moves last)
     → SparesAlong (run_setup task journal) first moves last world.world
+
+-- in every world of the run, at no moment more slots of a service lack a live container by the run's doing than the service replaces
+-- at a time, where it isn't crossed; a moment comes before any moves, between two, or after all
+abbrev pub RollsFew : Task → List Entry → Type 0
+RollsFew task journal =
+    (first last : Engine) (later moves : List Move) (service : DeclaredService) (count : ℕ)
+    → IsWorldOfRun task journal first (later ++ moves) last
+    → Among task.declared.services service → service.roll ≡ Some count
+    → is_crossed
+    (record { declared = task.declared; seen = run_seen journal; aim = task.aim }) service.key
+    ≡ false
+    → length (lacking (run_setup task journal) moves service.key) ≤ count

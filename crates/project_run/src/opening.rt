@@ -4,15 +4,17 @@ ghost use Rattle.plan_core.specs.declared.refusal.PlanRefusal.{PlanRefusal};
 ghost use Rattle.project_run.specs.Opening.{Follows, IsWholeEnd, Opens, observation_of};
 ghost use Rattle.project_run.specs.Options.{aim_of, basis_of};
 ghost use Rattle.ledger_run.specs.Tellings.{telling};
-ghost use Rattle.run_model.specs.Plans.{AreKeptPlaces, action_count, is_too_long, planned};
+ghost use Rattle.run_model.specs.Plans.{AreKeptPlaces, IsWhole, action_count, is_too_long, up_basis};
+ghost use Rattle.run_model.specs.Rolling.{run_actions};
 
 use crate::plan_aim::Aim;
 use engine_types::{Declared, Exchange, Observed, Plan, Purpose, Seen, SeenEnd, SeenFault};
 use observe_project::observe;
 use outside_api::Hand;
 use plan_core::{PlanRefusal, plan_down, plan_up};
+use rolling_update::roll;
 use std::alloc::Global;
-use tree_base::List;
+use tree_base::{List, Memory};
 
 /// How a run opened.
 #[derive(Drop)]
@@ -25,6 +27,7 @@ pub(crate) enum Opening {
 
 /// Observes and plans. A plan that is too long, or for which there is no memory, is a bad end of the observation.
 pub(crate) fn open<H: Hand>(alloc: Global, hand: &mut H, declared: &Declared, aim: Aim) -> Opening
+    requires whole { IsWhole declared.now }
     ensures { Opens declared.now (aim_of aim) result
         (telling (H.log hand.old) (H.heard hand.old) (H.faults hand.old) (H.clock hand.old)
         (H.engine hand.old))
@@ -59,6 +62,7 @@ fn after_seen(
     seen: Seen,
     aim: Aim,
 ) -> Opening
+    requires whole { IsWhole declared.now }
     ensures exchanges { (observation_of result).exchanges ≡ exchanges }
     ensures end { IsWholeEnd declared.now (aim_of aim) (SeenEnd.Good seen)
         (observation_of result).end }
@@ -77,10 +81,11 @@ fn after_seen(
     }
 }
 
-/// The plan of an aim, or why there is none as a fault of the observation.
+/// The plan of an aim, with what each action needs in a run, or why there is none as a fault of the observation.
 fn plan_for(alloc: Global, declared: &Declared, seen: &Seen, aim: Aim) -> Result<Plan, SeenFault>
+    requires whole { IsWhole declared.now }
     ensures planned { IfOk result (λ plan.
-        plan.actions ≡ planned (basis_of declared.now seen.now (aim_of aim))) }
+        plan.actions ≡ run_actions (basis_of declared.now seen.now (aim_of aim))) }
     ensures fits { IfOk result (λ plan.
         is_too_long (basis_of declared.now seen.now (aim_of aim)) ≡ false) }
     ensures kept { IfOk result (λ plan. AreKeptPlaces declared.now seen.now plan.kept) }
@@ -94,10 +99,11 @@ fn plan_for(alloc: Global, declared: &Declared, seen: &Seen, aim: Aim) -> Result
     }
 }
 
-/// The plan of an aim.
+/// The plan of an aim, with what each action needs in a run.
 fn plan_by(alloc: Global, declared: &Declared, seen: &Seen, aim: Aim) -> Result<Plan, PlanRefusal>
+    requires whole { IsWhole declared.now }
     ensures planned { IfOk result (λ plan.
-        plan.actions ≡ planned (basis_of declared.now seen.now (aim_of aim))) }
+        plan.actions ≡ run_actions (basis_of declared.now seen.now (aim_of aim))) }
     ensures fits { IfOk result (λ plan.
         is_too_long (basis_of declared.now seen.now (aim_of aim)) ≡ false) }
     ensures kept { IfOk result (λ plan. AreKeptPlaces declared.now seen.now plan.kept) }
@@ -106,7 +112,31 @@ fn plan_by(alloc: Global, declared: &Declared, seen: &Seen, aim: Aim) -> Result<
         × (count ≡ action_count (basis_of declared.now seen.now (aim_of aim))) }
 {
     match aim.purpose {
-        Purpose::Up => plan_up(alloc, declared, seen, aim.orphans),
+        Purpose::Up => rolled_up(alloc, declared, seen, aim.orphans),
         Purpose::Down => plan_down(alloc, declared, seen, aim.orphans, aim.volumes),
+    }
+}
+
+/// The plan that brings a project up, with the needs that rolling updates add.
+fn rolled_up(
+    alloc: Global,
+    declared: &Declared,
+    seen: &Seen,
+    orphans: bool,
+) -> Result<Plan, PlanRefusal>
+    requires whole { IsWhole declared.now }
+    ensures planned { IfOk result (λ plan.
+        plan.actions ≡ run_actions (up_basis declared.now seen.now orphans)) }
+    ensures fits { IfOk result (λ plan.
+        is_too_long (up_basis declared.now seen.now orphans) ≡ false) }
+    ensures kept { IfOk result (λ plan. AreKeptPlaces declared.now seen.now plan.kept) }
+    ensures too_many { (count : ℕ) → result ≡ Err (PlanRefusal.TooManyActions count)
+        → (is_too_long (up_basis declared.now seen.now orphans) ≡ true)
+        × (count ≡ action_count (up_basis declared.now seen.now orphans)) }
+{
+    let plan = plan_up(alloc, declared, seen, orphans)?;
+    match roll(alloc, declared, seen, plan) {
+        Ok(plan) => Ok(plan),
+        Err(Memory) => Err(PlanRefusal::Memory),
     }
 }

@@ -4,10 +4,11 @@ ghost use Rattle.ledger_run.specs.Tellings.{telling};
 ghost use Rattle.outside_api.specs.Accounts.{account};
 ghost use Rattle.outside_api.specs.Clock.{new_clock};
 ghost use Rattle.plan_core.specs.Order.{HasNoCycle};
-ghost use Rattle.project_run.specs.Options.{RollsNone, aim_of, limits_by};
+ghost use Rattle.project_run.specs.Options.{aim_of, limits_by};
 ghost use Rattle.project_run.specs.Timing.{IsTimed};
 ghost use Rattle.project_run.specs.Whole.{IfBegun, IsCaused, IsFault, IsReport, Leaves, SparesKept, run_steps, task_of};
-ghost use Rattle.project_run.specs.Worlds.{EndsExact, EndsGone, GoesThrough, MakesOnce, SparesAgreeing};
+ghost use Rattle.project_run.specs.Worlds.{EndsExact, EndsGone, GoesThrough, MakesOnce, RollsFew, SparesAgreeing};
+ghost use Rattle.run_laws.specs.Orders.{HasSmallNumbers, NeedsDependencies};
 ghost use Rattle.run_model.specs.EngineRules.{TellsSteps};
 ghost use Rattle.run_model.specs.Logs.{GrowsBy};
 ghost use Rattle.run_model.specs.Observation.{is_up};
@@ -27,8 +28,9 @@ use std::alloc::Global;
 use tree_base::{List, Memory, ReservedList, Text};
 
 /// Carries out for a declared set what an aim asks for, with one hand, which is worker 0: observes what the Engine has,
-/// plans, and goes through the plan as the run's ledger grants it, within what the options bound. No service that is declared is
-/// replaced a few slots at a time, and neither slots nor services need one another in a circle. The hand is new.
+/// plans, and goes through the plan as the run's ledger grants it, within what the options bound. A service that says so is
+/// replaced a few slots at a time. Slots need only slots of services that their own service depends on, and neither slots nor
+/// services need one another in a circle. The hand is new.
 ///
 /// The journal is empty only where there was no room for its first entry; then nothing was sent, and the fault
 /// is Memory. Each exchange has its cause in itself: a reply is the one that was heard, where the hand tells it, and where a
@@ -38,8 +40,9 @@ use tree_base::{List, Memory, ReservedList, Text};
 /// went through the run, and changed by itself in the hand's pauses alone. Where a run of `up` went well and each slot's
 /// spec is made for it, the Engine holds exactly what is declared, and where one of `down` went well, all that is declared
 /// is gone, whatever the Engine held before. Over a run of `up` and any runs before it, each whole or cut off anywhere, each
-/// container is made at most once, and a run spares the containers that agree. Where there is no memory to say the fault or
-/// the report, the fault is Memory in its place, and the report is empty.
+/// container is made at most once, and a run spares the containers that agree. At no moment of a run of `up` do more slots of
+/// a service lack a live container by the run's doing than the service replaces at a time. Where there is no memory to say the
+/// fault or the report, the fault is Memory in its place, and the report is empty.
 pub fn run_project<H: Hand>(
     alloc: Global,
     hand: &mut H,
@@ -48,8 +51,9 @@ pub fn run_project<H: Hand>(
     options: RunOptions,
 ) -> Ran
     requires whole { IsWhole declared }
-    requires unrolled { RollsNone declared }
+    requires small { HasSmallNumbers declared }
     requires acyclic { HasNoCycle declared }
+    requires needs { NeedsDependencies declared }
     requires unused { H.clock hand.old ≡ new_clock }
     ensures empty { result.journal ≡ [] → (result.fault ≡ Some RunFault.Memory)
         × (H.log hand.new ≡ H.log hand.old) × (H.clock hand.new ≡ H.clock hand.old) }
@@ -82,6 +86,8 @@ pub fn run_project<H: Hand>(
         (task_of declared (aim_of aim) (limits_by options (H.clock hand.new))) result.journal) }
     ensures agreeing { IfBegun result.journal (is_up aim.purpose ≡ true → HasOwnSpecs declared
         → SparesAgreeing
+        (task_of declared (aim_of aim) (limits_by options (H.clock hand.new))) result.journal) }
+    ensures rolls { IfBegun result.journal (is_up aim.purpose ≡ true → RollsFew
         (task_of declared (aim_of aim) (limits_by options (H.clock hand.new))) result.journal) }
     ensures gone { result.fault ≡ None → is_up aim.purpose ≡ false → EndsGone
         (task_of declared (aim_of aim) (limits_by options (H.clock hand.new))) result.journal }
@@ -133,8 +139,9 @@ fn run<H: Hand>(
     journal: ReservedList<Entry>,
 ) -> Ran
     requires whole { IsWhole declared }
-    requires unrolled { RollsNone declared }
+    requires small { HasSmallNumbers declared }
     requires acyclic { HasNoCycle declared }
+    requires needs { NeedsDependencies declared }
     requires unused { H.clock hand.old ≡ new_clock }
     requires empty { journal.items ≡ [] }
     requires room { 1 ≤ journal.spare }

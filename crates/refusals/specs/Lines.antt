@@ -15,10 +15,9 @@ abbrev pub part_words : Part → List ℕ
 part_words Part.Out = codes "Out"
 part_words Part.Plug = codes "Plug"
 
--- what isn't built: the words, what stands at a path, or the run
+-- what isn't built: the words
 abbrev pub unbuilt_words : Unbuilt → List ℕ
 unbuilt_words Unbuilt.Words = codes "not built: words"
-unbuilt_words Unbuilt.Run = codes "not built: run"
 
 -- a file that there is no digest of is named by its path
 abbrev pub digest_words : DigestRefusal → List ℕ

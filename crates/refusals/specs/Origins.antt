@@ -8,13 +8,12 @@ use Rattle.loaded_files.specs.declared.LoadRefusal.{LoadRefusal}
 use Rattle.loading_words.specs.declared.TreeRefusal.{TreeRefusal}
 use Rattle.refusals.specs.declared.refusal.Part.{Part}
 use Rattle.refusals.specs.declared.refusal.Refusal.{Refusal}
-use Rattle.refusals.specs.declared.refusal.Unbuilt.{Unbuilt}
 
 -- a refusal of what a call asks for: of the words, of loading, of the project's name, of its active services, or of what
 -- stands in it; or a want of memory
 abbrev pub IsOfAsking : Refusal → Type 0
 IsOfAsking (Refusal.Words refusal) = Unit {0}
-IsOfAsking (Refusal.NotBuilt Unbuilt.Words) = Unit {0}
+IsOfAsking (Refusal.NotBuilt unbuilt) = Unit {0}
 IsOfAsking (Refusal.Load refusal) = Unit {0}
 IsOfAsking (Refusal.Name refusal) = Unit {0}
 IsOfAsking (Refusal.Active refusal) = Unit {0}
@@ -22,10 +21,8 @@ IsOfAsking (Refusal.Project refusal) = Unit {0}
 IsOfAsking Refusal.Memory = Unit {0}
 IsOfAsking _ = ⊥
 
--- a refusal of what a project declares of the Engine: of a digest, of the declared set, or of a run that isn't built; or
--- a want of memory
+-- a refusal of what a project declares of the Engine: of a digest or of the declared set; or a want of memory
 abbrev pub IsOfDeclaring : Refusal → Type 0
-IsOfDeclaring (Refusal.NotBuilt Unbuilt.Run) = Unit {0}
 IsOfDeclaring (Refusal.Digest refusal) = Unit {0}
 IsOfDeclaring (Refusal.Identity refusal) = Unit {0}
 IsOfDeclaring Refusal.Memory = Unit {0}
@@ -46,7 +43,7 @@ IsOfLoading _ = ⊥
 -- a refusal of the words: they are none, or ask for what isn't built
 abbrev pub is_of_words : Refusal → Bool
 is_of_words (Refusal.Words refusal) = true
-is_of_words (Refusal.NotBuilt Unbuilt.Words) = true
+is_of_words (Refusal.NotBuilt unbuilt) = true
 is_of_words _ = false
 
 -- a refusal that comes before the dial: of what is asked for, or of what is declared

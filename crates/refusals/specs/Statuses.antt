@@ -13,10 +13,9 @@ abbrev pub words_status : WordsRefusal → ℕ
 words_status WordsRefusal.Memory = 9
 words_status _ = 1
 
--- words that aren't built have status 1, what a file says and its run have 2
+-- words that aren't built have status 1
 abbrev pub unbuilt_status : Unbuilt → ℕ
 unbuilt_status Unbuilt.Words = 1
-unbuilt_status Unbuilt.Run = 2
 
 -- a file that isn't there has status 2, a read that failed 7, one past the limit 8, and a want of memory 9
 abbrev pub digest_status : DigestRefusal → ℕ

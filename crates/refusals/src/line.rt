@@ -61,7 +61,6 @@ fn unbuilt_words(alloc: Global, unbuilt: &Unbuilt) -> Result<Text, Memory>
 {
     match unbuilt {
         Unbuilt::Words => Text::from_str(alloc, "not built: words"),
-        Unbuilt::Run => Text::from_str(alloc, "not built: run"),
     }
 }
 

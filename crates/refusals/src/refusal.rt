@@ -54,8 +54,6 @@ pub enum Refusal {
 pub enum Unbuilt {
     /// The words of the command line.
     Words,
-    /// A run of what the project declares.
-    Run,
 }
 
 /// The parts of the outside whose faults end a call.

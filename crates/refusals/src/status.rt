@@ -56,7 +56,6 @@ fn unbuilt_status(unbuilt: &Unbuilt) -> u8
 {
     match unbuilt {
         Unbuilt::Words => 1,
-        Unbuilt::Run => 2,
     }
 }
 

@@ -8,6 +8,9 @@ use Rattle.project_run.specs.Worlds.{GoesThrough}
 use Rattle.run_model.specs.EngineRules.{Among}
 use Rattle.compose_cli.proofs.run.run_with.Goals as goal
 
+pub run_project-requires-clause-small : goal.run_project-requires-clause-small
+run_project-requires-clause-small g c = λ slot m. (c.requires.own slot m).number
+
 pub returns-clause-ran : goal.returns-clause-ran
 returns-clause-ran g c =
     let ok : is_ok c.push.result ≡ true = c.push.ensures.succeeds c.requires.room in

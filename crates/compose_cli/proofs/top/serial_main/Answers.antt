@@ -17,7 +17,7 @@ use Rattle.file_digests.specs.declared.DigestRefusal.{DigestRefusal}
 use Rattle.outside_api.specs.Accounts.{account}
 use Rattle.outside_files.specs.Sinks.{GrewBy}
 use Rattle.project_run.specs.Whole.{SparesKept}
-use Rattle.project_run.specs.Worlds.{EndsExact, EndsGone, MakesOnce, SparesAgreeing}
+use Rattle.project_run.specs.Worlds.{EndsExact, EndsGone, MakesOnce, RollsFew, SparesAgreeing}
 use Rattle.refusals.specs.Origins.{IsOfLoading}
 use Rattle.refusals.specs.Saying.{IsSaid}
 use Rattle.refusals.specs.declared.Part.{Part}
@@ -114,6 +114,13 @@ returns-in-Some-clause-agreeing g c = if_begun c.run_asked-end.result.journal c.
     (λ task. RunsWhole (λ h. g.P.Hand.Hand.log h) (λ h. g.P.Hand.Hand.heard h) (λ h. g.P.Hand.Hand.faults h) (λ h. g.P.Hand.Hand.clock h) (λ h. g.P.Hand.Hand.engine h) (g.P.Plug.engine c.args.plug.now) task c.run_asked-end.result (g.O.Sink.written c.args.out.now) (g.O.Sink.written c.run_asked-end.new.out) (g.O.Sink.faults c.args.out.now) (g.O.Sink.faults c.run_asked-end.new.out))
     (λ task. is_up task.aim.purpose ≡ true → SparesAgreeing task c.run_asked-end.result.journal)
     c.project_asked.ensures.kept (command_is c.args.words.now c.args.env.now c.in-Ok.asked.options c.in-Ok.ensures.options) (aims c.in-Ok.asked.options.command c.aim_for.result c.in-Some.aim c.aim_for.ensures c.in-Some.is) c.options_for-options.ensures c.in-Ok.ensures.told c.in-Ok.ensures.text ran (λ task whole. whole.ran.agreeing))
+
+pub returns-in-Some-clause-rolls : goal.returns-in-Some-clause-rolls
+returns-in-Some-clause-rolls g c = if_begun c.run_asked-end.result.journal c.run_asked-end.ensures.ran (λ ran.
+    task_by c.args.words.now c.args.env.now c.args.cwd.now (g.F.Files.told c.args.files.now) (g.F.Files.told c.project_asked.new.files) (first_reading (λ h. g.P.Hand.Hand.clock h) c.run_asked-end.result.hands) (aim_of c.in-Some.aim) (options_of c.options_for-options.result) c.in-Ok.asked
+    (λ task. RunsWhole (λ h. g.P.Hand.Hand.log h) (λ h. g.P.Hand.Hand.heard h) (λ h. g.P.Hand.Hand.faults h) (λ h. g.P.Hand.Hand.clock h) (λ h. g.P.Hand.Hand.engine h) (g.P.Plug.engine c.args.plug.now) task c.run_asked-end.result (g.O.Sink.written c.args.out.now) (g.O.Sink.written c.run_asked-end.new.out) (g.O.Sink.faults c.args.out.now) (g.O.Sink.faults c.run_asked-end.new.out))
+    (λ task. is_up task.aim.purpose ≡ true → RollsFew task c.run_asked-end.result.journal)
+    c.project_asked.ensures.kept (command_is c.args.words.now c.args.env.now c.in-Ok.asked.options c.in-Ok.ensures.options) (aims c.in-Ok.asked.options.command c.aim_for.result c.in-Some.aim c.aim_for.ensures c.in-Some.is) c.options_for-options.ensures c.in-Ok.ensures.told c.in-Ok.ensures.text ran (λ task whole. whole.ran.rolls))
 
 pub returns-in-Some-clause-world : goal.returns-in-Some-clause-world
 returns-in-Some-clause-world g c = if_begun_in c.run_asked-end.result.journal c.run_asked-end.ensures.ran (λ inside ran.

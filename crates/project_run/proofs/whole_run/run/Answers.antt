@@ -19,7 +19,7 @@ carry_out-requires-clause-may g c =
     may_begin c.args.declared (aim_of c.args.aim) c.in-Planned.observed c.in-Planned.plan (limits_by c.args.options (g.H.Hand.clock c.limits_for-limits.new.hand)) c.limits_for-limits.result
     (telling (g.H.Hand.log c.limits_for-limits.new.hand) (g.H.Hand.heard c.limits_for-limits.new.hand) (g.H.Hand.faults c.limits_for-limits.new.hand) (g.H.Hand.clock c.limits_for-limits.new.hand) (g.H.Hand.engine c.limits_for-limits.new.hand))
     (telling (g.H.Hand.log c.open.new.hand) (g.H.Hand.heard c.open.new.hand) (g.H.Hand.faults c.open.new.hand) (g.H.Hand.clock c.open.new.hand) (g.H.Hand.engine c.open.new.hand))
-    c.requires.whole c.requires.unrolled c.requires.acyclic c.in-Planned.ensures refl c.limits_for-limits.ensures.limits
+    c.requires.whole c.requires.small c.requires.acyclic c.requires.needs c.in-Planned.ensures refl c.limits_for-limits.ensures.limits
 
 pub carry_out-requires-clause-clock : goal.carry_out-requires-clause-clock
 carry_out-requires-clause-clock g c =
@@ -31,7 +31,7 @@ returns-in-Planned-clause-leaves g c =
     (telling (g.H.Hand.log c.args.hand.now) (g.H.Hand.heard c.args.hand.now) (g.H.Hand.faults c.args.hand.now) (g.H.Hand.clock c.args.hand.now) (g.H.Hand.engine c.args.hand.now))
     (telling (g.H.Hand.log c.open.new.hand) (g.H.Hand.heard c.open.new.hand) (g.H.Hand.faults c.open.new.hand) (g.H.Hand.clock c.open.new.hand) (g.H.Hand.engine c.open.new.hand))
     (telling (g.H.Hand.log c.carry_out.new.hand) (g.H.Hand.heard c.carry_out.new.hand) (g.H.Hand.faults c.carry_out.new.hand) (g.H.Hand.clock c.carry_out.new.hand) (g.H.Hand.engine c.carry_out.new.hand))
-    c.requires.unused c.limits_for-limits.ensures.clock c.limits_for-limits.ensures.limits c.requires.whole c.requires.unrolled c.requires.acyclic
+    c.requires.unused c.limits_for-limits.ensures.clock c.limits_for-limits.ensures.limits c.requires.whole c.requires.small c.requires.acyclic c.requires.needs
     (subst (λ (t : Telling). Opens c.args.declared (aim_of c.args.aim) (Opening.Planned c.in-Planned.observed c.in-Planned.plan) t
     (telling (g.H.Hand.log c.open.new.hand) (g.H.Hand.heard c.open.new.hand) (g.H.Hand.faults c.open.new.hand) (g.H.Hand.clock c.open.new.hand) (g.H.Hand.engine c.open.new.hand)))
     c.limits_for-limits.ensures.kept c.in-Planned.ensures)
@@ -43,7 +43,7 @@ returns-in-Planned-clause-fault g c = subst (λ (expected : Option RunFault). Is
     (telling (g.H.Hand.log c.args.hand.now) (g.H.Hand.heard c.args.hand.now) (g.H.Hand.faults c.args.hand.now) (g.H.Hand.clock c.args.hand.now) (g.H.Hand.engine c.args.hand.now))
     (telling (g.H.Hand.log c.open.new.hand) (g.H.Hand.heard c.open.new.hand) (g.H.Hand.faults c.open.new.hand) (g.H.Hand.clock c.open.new.hand) (g.H.Hand.engine c.open.new.hand))
     (telling (g.H.Hand.log c.carry_out.new.hand) (g.H.Hand.heard c.carry_out.new.hand) (g.H.Hand.faults c.carry_out.new.hand) (g.H.Hand.clock c.carry_out.new.hand) (g.H.Hand.engine c.carry_out.new.hand))
-    c.requires.unused c.limits_for-limits.ensures.clock c.limits_for-limits.ensures.limits c.requires.whole c.requires.unrolled c.requires.acyclic
+    c.requires.unused c.limits_for-limits.ensures.clock c.limits_for-limits.ensures.limits c.requires.whole c.requires.small c.requires.acyclic c.requires.needs
     (subst (λ (t : Telling). Opens c.args.declared (aim_of c.args.aim) (Opening.Planned c.in-Planned.observed c.in-Planned.plan) t
     (telling (g.H.Hand.log c.open.new.hand) (g.H.Hand.heard c.open.new.hand) (g.H.Hand.faults c.open.new.hand) (g.H.Hand.clock c.open.new.hand) (g.H.Hand.engine c.open.new.hand)))
     c.limits_for-limits.ensures.kept c.in-Planned.ensures)
@@ -56,7 +56,7 @@ returns-in-Planned-clause-report g c = subst (λ (expected : List _). IsReport e
     (telling (g.H.Hand.log c.args.hand.now) (g.H.Hand.heard c.args.hand.now) (g.H.Hand.faults c.args.hand.now) (g.H.Hand.clock c.args.hand.now) (g.H.Hand.engine c.args.hand.now))
     (telling (g.H.Hand.log c.open.new.hand) (g.H.Hand.heard c.open.new.hand) (g.H.Hand.faults c.open.new.hand) (g.H.Hand.clock c.open.new.hand) (g.H.Hand.engine c.open.new.hand))
     (telling (g.H.Hand.log c.carry_out.new.hand) (g.H.Hand.heard c.carry_out.new.hand) (g.H.Hand.faults c.carry_out.new.hand) (g.H.Hand.clock c.carry_out.new.hand) (g.H.Hand.engine c.carry_out.new.hand))
-    c.requires.unused c.limits_for-limits.ensures.clock c.limits_for-limits.ensures.limits c.requires.whole c.requires.unrolled c.requires.acyclic
+    c.requires.unused c.limits_for-limits.ensures.clock c.limits_for-limits.ensures.limits c.requires.whole c.requires.small c.requires.acyclic c.requires.needs
     (subst (λ (t : Telling). Opens c.args.declared (aim_of c.args.aim) (Opening.Planned c.in-Planned.observed c.in-Planned.plan) t
     (telling (g.H.Hand.log c.open.new.hand) (g.H.Hand.heard c.open.new.hand) (g.H.Hand.faults c.open.new.hand) (g.H.Hand.clock c.open.new.hand) (g.H.Hand.engine c.open.new.hand)))
     c.limits_for-limits.ensures.kept c.in-Planned.ensures)

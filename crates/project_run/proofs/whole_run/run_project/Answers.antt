@@ -1,5 +1,5 @@
 use Rattle.std.proofs.Common.{refl}
-use Rattle.project_run.proofs.Exact.{ends_exact, ends_gone, goes_through, if_any, makes_once, spares_agreeing}
+use Rattle.project_run.proofs.Exact.{ends_exact, ends_gone, goes_through, if_any, makes_once, rolls_few, spares_agreeing}
 use Rattle.project_run.proofs.Sparing.{runs_spare_kept}
 use Rattle.project_run.proofs.Leaving.{nothing_caused}
 use Rattle.project_run.specs.Options.{aim_of, limits_by}
@@ -28,6 +28,10 @@ returns-in-Ok-clause-once g c = if_any c.run.result.journal (λ up own.
 pub returns-in-Ok-clause-agreeing : goal.returns-in-Ok-clause-agreeing
 returns-in-Ok-clause-agreeing g c = if_any c.run.result.journal (λ up own.
     spares_agreeing (task_of c.args.declared (aim_of c.args.aim) (limits_by c.args.options (g.H.Hand.clock c.run.new.hand))) c.run.result.journal up c.requires.whole own c.run.ensures.leaves.run)
+
+pub returns-in-Ok-clause-rolls : goal.returns-in-Ok-clause-rolls
+returns-in-Ok-clause-rolls g c = if_any c.run.result.journal (λ up.
+    rolls_few (task_of c.args.declared (aim_of c.args.aim) (limits_by c.args.options (g.H.Hand.clock c.run.new.hand))) c.run.result.journal up c.requires.whole c.requires.small c.run.ensures.leaves.run)
 
 pub returns-in-Ok-clause-gone : goal.returns-in-Ok-clause-gone
 returns-in-Ok-clause-gone g c =
