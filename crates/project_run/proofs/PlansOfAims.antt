@@ -73,11 +73,11 @@ module _ (declared : Declared) (seen : Seen) (orphans volumes : Bool) where
 
   awaits_same : (kind : ActionKind) → Among kinds kind → awaited_by down kinds kind ≡ needed_by down kinds kind
   awaits_same kind m = filter_among (λ (b : ℕ). option_map_or (is_awaited down kind) (slice_get kinds b) false) (λ (b : ℕ). option_map_or (is_needed_by down kind) (slice_get kinds b) false) (places kinds)
-      (λ b n. at (slice_get kinds b) refl)
+      (λ b n. at b (slice_get kinds b) refl)
     where
-      at : {b : ℕ} (o : Option ActionKind) → slice_get kinds b ≡ o → option_map_or (is_awaited down kind) o false ≡ option_map_or (is_needed_by down kind) o false
-      at None e = refl
-      at {b} (Some other) e = ap (λ (t : Bool). is_needed_by down kind other || t) (none_added kind other (wanted kind m) (wanted other (from_place kinds b other e))) ∙ or_none (is_needed_by down kind other)
+      at : (b : ℕ) (o : Option ActionKind) → slice_get kinds b ≡ o → option_map_or (is_awaited down kind) o false ≡ option_map_or (is_needed_by down kind) o false
+      at b None e = refl
+      at b (Some other) e = ap (λ (t : Bool). is_needed_by down kind other || t) (none_added kind other (wanted kind m) (wanted other (from_place kinds b other e))) ∙ or_none (is_needed_by down kind other)
 
   pub down_unrolled : run_actions down ≡ planned down
   down_unrolled = map_among (λ (kind : ActionKind). let action : Action = record { kind = kind; needs = awaited_by down kinds kind } in action)
