@@ -21,8 +21,13 @@ def is_texts(value):
     return isinstance(value, list) and all(map(is_text, value))
 
 
+def is_word(value):
+    """A word of a list, or words that repeat."""
+    return is_text(value) or is_named(value) and set(value) == {"times", "of"} and is_number(value["times"]) and is_words(value["of"])
+
+
 def is_words(value):
-    return is_text(value) or is_texts(value)
+    return is_text(value) or isinstance(value, list) and all(map(is_word, value))
 
 
 def is_named(value):
@@ -39,6 +44,7 @@ def is_list(value):
 
 # What the keys of a call, and of an exchange of its Engine, may have for a value.
 FORMS = {
+    "copy": is_text,
     "files": is_named,
     "in": is_text,
     "variables": is_named_texts,
@@ -48,6 +54,7 @@ FORMS = {
     "status": is_number,
     "out": is_built,
     "out_to": is_text,
+    "out_room": is_number,
     "err": is_built,
 }
 EXCHANGE_FORMS = {
@@ -83,9 +90,9 @@ class Case:
     """A case of a file: where it stands, and its calls."""
 
     def __init__(self, place, parts):
-        if not isinstance(parts, dict) or not is_text(parts.get("case")):
-            raise Fault("a case is a mapping with `case`, a sentence")
-        self.place = f"{place}: {parts['case']}"
+        if not isinstance(parts, dict) or not is_text(parts.get("case", "")):
+            raise Fault("a case is a mapping, and its `case` a sentence")
+        self.place = f"{place}: {parts.get('case') or beginning(parts)}"
         parts = {key: value for key, value in parts.items() if key != "case"}
         if list(parts) == ["calls"] and is_list(parts["calls"]):
             self.calls = [Call(it, f"call {at}") for at, it in enumerate(parts["calls"], 1)]
@@ -93,10 +100,22 @@ class Case:
             self.calls = [Call(parts, "the case")]
 
 
+def beginning(parts):
+    """What stands for the sentence of a case that has none: the beginning of its last file, or else its words."""
+    texts = list(parts["files"].values()) if is_named(parts.get("files")) else []
+    text = built(texts[-1]).decode("utf-8", "backslashreplace") if texts else str(parts.get("call", "calls"))
+    text = " ".join(text.split())
+    return text if len(text) <= 100 else text[:100] + " .."
+
+
 def words_of(call):
-    """The words of a call: a list as it stands, and a text as a shell cuts it."""
+    """The words of a call: a list, in which words may repeat, as it stands, and a text as a shell cuts it."""
+    if isinstance(call, dict):
+        return int(call["times"]) * words_of(call["of"])
+    if isinstance(call, list):
+        return [word for it in call for word in ([it] if is_text(it) else words_of(it))]
     try:
-        return call if isinstance(call, list) else shlex.split(call)
+        return shlex.split(call)
     except ValueError as fault:
         raise Fault(f"the words of `call`: {fault}") from fault
 
@@ -144,7 +163,7 @@ def cases_of(file, place):
     for number, parts in enumerate(items, 1):
         try:
             cases.append(Case(f"{place}, case {number}", parts))
-        except Fault as fault:
+        except (Fault, ValueError) as fault:
             faults.append(f"{place}, case {number}: no case: {fault}")
     return cases, faults
 

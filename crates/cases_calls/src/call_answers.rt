@@ -2,7 +2,6 @@ ghost use Rattle.std.specs.Prelude.{◌≡◌, ◌<◌, ◌^◌, None, length};
 ghost use Rattle.service_graph.specs.Cycles.{cycle};
 ghost use Rattle.typed_project.specs.DistinctNames.{IsKeyed};
 
-use crate::config_call::put_ended;
 use crate::files::sound_files_of;
 use crate::scene::Scene;
 use crate::stage::Stage;
@@ -38,6 +37,13 @@ pub fn put_call(
         Some(hand) => put_hand(fields, scene, hand, answers),
         None => put_no_hand(answers),
     }
+}
+
+/// Puts the exit status of a call and what its sinks took.
+fn put_ended(status: u8, stage: &Stage, answers: &mut Answers) {
+    answers.put_number("status", u64::from(status));
+    answers.put_bytes("out", stage.out.written());
+    answers.put_bytes("err", stage.err.written());
 }
 
 /// No exchange, and an Engine of which nothing is known.

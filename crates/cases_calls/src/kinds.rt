@@ -1,4 +1,3 @@
-use crate::config_call::config;
 use crate::files::reads;
 use crate::hands::{clock, hand, plug};
 use crate::lines::{say, say_if_any, write};
@@ -18,15 +17,6 @@ const CALL: [&str; 9] = [
     "engine",
     "served",
     "no_hand_left",
-];
-
-const CONFIG: [&str; 6] = [
-    "directory",
-    "files",
-    "failing_reads",
-    "environment",
-    "out_sink",
-    "err_sink",
 ];
 
 const LOAD_FILES: [&str; 6] = [
@@ -50,7 +40,6 @@ const PLUG: [&str; 1] = ["engine"];
 pub fn inputs_of(call: &str) -> Option<&'static [&'static str]> {
     match call {
         "call" => Some(&CALL),
-        "config" => Some(&CONFIG),
         "load_files" => Some(&LOAD_FILES),
         "reads" => Some(&READS),
         "write" | "writes" | "say" | "say_if_any" => Some(&SINK),
@@ -66,7 +55,6 @@ pub fn answer(name: &str, fields: &Fields, answers: &mut Answers) {
     match name {
         "call" => call(fields, answers),
         "calls" => calls(fields, answers),
-        "config" => config(fields, answers),
         "load_files" => load_files(fields, answers),
         "reads" => reads(fields, answers),
         "write" => write(fields, answers),

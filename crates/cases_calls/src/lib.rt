@@ -1,12 +1,11 @@
 //! Cases of whole calls: the top call of `compose_cli` on files, sinks and an Engine in memory, alone or one call after
-//! another, the command `config`, the loading of several files, and what stands outside of a call: files, sinks, lines
-//! of refusals, hands, clocks and plugs.
+//! another, the loading of several files, and what stands outside of a call: files, sinks, lines of refusals, hands,
+//! clocks and plugs.
 //!
 //! `inputs_of` knows the calls and their inputs, and `answer` makes the call of a case.
 #![tactic(auto)]
 
 mod call_answers;
-mod config_call;
 mod engines;
 mod files;
 mod hands;

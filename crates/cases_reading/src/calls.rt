@@ -1,7 +1,4 @@
-use crate::{
-    active, env_files, forms, laws, meanings, merging, mounts, pages, ports, projects, variables,
-    words,
-};
+use crate::{active, env_files, forms, laws, merging, mounts, pages, ports, variables, words};
 use case_files::{Answers, Fields};
 
 /// The inputs of a call beside its main one; None where the call isn't one of the reading side. No memory.
@@ -17,8 +14,6 @@ pub fn inputs_of(call: &str) -> Option<&'static [&'static str]> {
         "merge" | "long_forms" => Some(&[]),
         "overlay" => Some(&["base"]),
         "out_of_memory" | "law" => Some(&[]),
-        "load" => Some(&["directory", "file", "failing", "times"]),
-        "project" => Some(&["name"]),
         "active" => Some(&["profiles", "variables"]),
         _ => cases_ground::inputs_of(call),
     }
@@ -36,8 +31,6 @@ pub fn answer(call: &str, fields: &Fields, answers: &mut Answers) {
         "usage" => words::usage(fields, answers),
         "page" => pages::page(fields, answers),
         "page_scalar" => pages::page_scalar(fields, answers),
-        "load" => projects::load(fields, answers),
-        "project" => meanings::project(fields, answers),
         "active" => active::active(fields, answers),
         "law" => laws::law(fields, answers),
         _ => answer_of_form(call, fields, answers),

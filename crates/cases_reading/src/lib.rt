@@ -1,5 +1,5 @@
-//! The calls of the reading side that cases make: variables, the words of a command line, short forms, pages and projects,
-//! and those of the ground below them.
+//! The calls of the reading side that cases make: variables, the words of a command line, short forms, merging, profiles,
+//! pages, and those of the ground below them.
 //!
 //! `inputs_of` has the inputs of each call beside its main one, and `answer` makes the call of a case and puts what it
 //! answered. An input that isn't of its form is a fault of the case.
@@ -10,13 +10,11 @@ mod calls;
 mod env_files;
 mod forms;
 mod laws;
-mod meanings;
 mod merging;
 mod mounts;
 mod options;
 mod pages;
 mod ports;
-mod projects;
 mod refusing;
 mod variables;
 mod words;

@@ -40,7 +40,7 @@ fn put_read_back(page: &str, answers: &mut Answers) {
 }
 
 /// The tree that a text spells.
-pub(crate) fn tree_in(alloc: Global, bytes: &[u8]) -> Result<Tree, YamlRefusal> {
+fn tree_in(alloc: Global, bytes: &[u8]) -> Result<Tree, YamlRefusal> {
     let lines = scan(alloc, bytes, 0)?;
     read(alloc, &lines)
 }
