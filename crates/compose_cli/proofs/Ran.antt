@@ -2,7 +2,6 @@
 use Rattle.std.proofs.Common.{◌≡◌, ℕ, zero, suc, ◌≤◌, Bool, true, false, List, [], ◌∷◌, ◌++◌, Option, Some, None, length, take, refl, sym, ap, ◌∙◌, subst, inl, inr, arith, append-nil}
 use Rattle.std.specs.Prelude.{IfSome, Ok, if◌then◌else◌, option_map, slice_get}
 use Rattle.std.specs.Option.{option_map_or}
-use Rattle.engine_types.specs.declared.Declared.{Declared}
 use Rattle.engine_types.specs.declared.Engine.{Engine}
 use Rattle.engine_types.specs.declared.RunFault.{RunFault}
 use Rattle.engine_types.specs.declared.RunLimits.{RunLimits}
@@ -10,13 +9,14 @@ use Rattle.asked_project.specs.Asking.{Variables, command_of}
 use Rattle.asked_project.specs.Meaning.{IsSpelled, MeansAs, meaning}
 use Rattle.asked_project.specs.declared.Asked.{Asked}
 use Rattle.asked_run.specs.Declaring.{ForDeclared}
-use Rattle.compose_cli.specs.Runs.{ForTask, HoldsExactly, HoldsNone, IfRuns, IsCausedAnew, IsRefusalOf, IsStatusOf, IsUnbegun, LeadsOn, MovesEngine, Reports, RunsTask, RunsWhole, aim_asked, aim_for, first_reading, options_for}
+use Rattle.compose_cli.specs.Runs.{ForTask, HoldsExactly, HoldsNone, IfRuns, IsCausedAnew, IsRefusalOf, IsStatusOf, LeadsOn, RanAlone, RanAs, Reports, aim_asked, aim_for, first_reading, options_for}
+use Rattle.compose_cli.specs.declared.ended.Ended.{Ended}
 use Rattle.engine_types.specs.declared.Entry.{Entry}
 use Rattle.engine_types.specs.declared.Exchange.{Exchange}
 use Rattle.compose_config.proofs.Loads.{for_project}
-use Rattle.compose_config.specs.Commands.{ForProject}
 use Rattle.compose_words.specs.declared.Command.{Command}
 use Rattle.outside_files.specs.Files.{Contents}
+use Rattle.ledger_run.specs.Tellings.{Telling, account_in}
 use Rattle.outside_api.specs.Accounts.{Account, account}
 use Rattle.outside_api.specs.Clock.{Clock, new_clock}
 use Rattle.outside_api.specs.Hands.{BeginsWith, Heard, HeardNothing}
@@ -24,7 +24,7 @@ use Rattle.outside_files.specs.Sinks.{GrewBy}
 use Rattle.project_run.specs.Options.{aim_of, options_of}
 use Rattle.project_run.specs.Timing.{IsTimed}
 use Rattle.project_run.specs.Whole.{IfBegun, IsCaused, IsFault, IsReport, SparesKept, task_of}
-use Rattle.project_run.specs.Worlds.{EndsExact, EndsGone, GoesThrough}
+use Rattle.project_run.specs.Worlds.{EndsExact, EndsGone, GoesThrough, MakesOnce, RollsFew, SparesAgreeing}
 use Rattle.refusals.specs.Origins.{IsOfRun, run_refusal}
 use Rattle.refusals.specs.Statuses.{refusal_status, status_of}
 use Rattle.refusals.specs.declared.Part.{Part}
@@ -33,14 +33,10 @@ use Rattle.run_model.specs.EngineRules.{Among}
 use Rattle.run_model.specs.Ending.{fault_status}
 use Rattle.run_model.specs.Logs.{GrowsBy}
 use Rattle.run_model.specs.Observation.{is_up}
-use Rattle.run_model.specs.Plans.{Aim, IsWhole}
-use Rattle.cut_laws.proofs.AcrossRuns.{made_once_after_runs}
-use Rattle.cut_laws.proofs.Sparing.{run_spares_agreeing}
-use Rattle.rolling_update.proofs.Counts.{rolls_at_most}
+use Rattle.run_model.specs.Plans.{Aim}
 use Rattle.world_laws.specs.OwnSpecs.{HasOwnSpecs}
-use Rattle.run_model.specs.Runs.{IsLeftByAll, IsRun, IsWorldOfRun, RunOptions, Task, limits_of, run_exchanges, run_fault, run_report}
+use Rattle.run_model.specs.Runs.{IsLeftByAll, IsRun, IsWorldOfRun, Task, limits_of, run_exchanges, run_fault, run_report}
 use Rattle.run_model.specs.Worlds.{Move}
-use Rattle.typed_project.specs.declared.project.Project.{Project}
 use Rattle.project_run.specs.declared.plan_aim as given
 use Rattle.project_run.specs.declared.options as asked_options
 use Rattle.refusals.specs.Saying.{IsSaid, IsSaidIfAny}

@@ -5,7 +5,6 @@ use Rattle.engine_types.specs.declared.Engine.{Engine}
 use Rattle.engine_types.specs.declared.Entry.{Entry}
 use Rattle.engine_types.specs.declared.Purpose.{Purpose}
 use Rattle.engine_types.specs.declared.RunFault.{RunFault}
-use Rattle.engine_types.specs.declared.RunLimits.{RunLimits}
 use Rattle.asked_project.specs.Asking.{Variables, command_of, options_asked}
 use Rattle.asked_project.specs.Meaning.{IsLoaded, meaning}
 use Rattle.asked_run.specs.Declaring.{ForDeclared, IsFailedDigest, declared_from}

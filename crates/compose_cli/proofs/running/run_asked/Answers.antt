@@ -1,4 +1,4 @@
-use Rattle.std.proofs.Common.{◌≡◌, Ok, Err, Some, ap, refl, subst, sym}
+use Rattle.std.proofs.Common.{Err, ap, subst, sym}
 use Rattle.asked_run.specs.Declaring.{declared_from}
 use Rattle.compose_cli.proofs.Declaring.{declared_unrefused, declaring_no_load, declaring_no_outside, declaring_no_words, declaring_unbegun, for_declared_by, only_digests, refused_undeclared, said_digest}
 use Rattle.compose_cli.proofs.Ending.{counts_none, no_words}

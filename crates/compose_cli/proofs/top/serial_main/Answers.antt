@@ -1,4 +1,4 @@
-use Rattle.std.proofs.Common.{ℕ, [], ◌≡◌, ◌∙◌, Err, None, Some, true, false, ap, inr, refl, subst, sym, length, slice_get}
+use Rattle.std.proofs.Common.{◌≡◌, ◌∙◌, Err, None, Some, ap, inr, refl, subst, sym}
 use Rattle.std.specs.Prelude.{IfErr, IfOk}
 use Rattle.asked_project.specs.Asking.{command_of, options_asked}
 use Rattle.asked_project.specs.Meaning.{meaning}
