@@ -26,6 +26,7 @@ use Rattle.refusals.specs.Saying.{IsSaid}
 use Rattle.refusals.specs.declared.Part.{Part}
 use Rattle.refusals.specs.declared.Refusal.{Refusal}
 use Rattle.run_model.specs.Plans.{Aim}
+use Rattle.run_model.specs.Runs.{RunOptions}
 use Rattle.tree_base.specs.Answers.{Unless}
 use Rattle.typed_project.specs.declared.project.Project.{Project}
 
@@ -36,10 +37,16 @@ abbrev pub declares : Declared → Result Declared Refusal
 declares declared = Ok declared
 
 -- a fact on what was declared is one on what is declared
-pub for_declared : (told : Option Contents) (command : Command) (project : Project) (declared : Declared) (Fact : Declared → Type 0)
+for_declared : (told : Option Contents) (command : Command) (project : Project) (declared : Declared) (Fact : Declared → Type 0)
     → IfSome told (λ contents. DeclaresAs (declared_from contents command project) (declares declared)) → IsDeclared told command project declared → Fact declared → ForDeclared told command project Fact
 for_declared None command project declared Fact means is fact = (declared, is, fact)
 for_declared (Some contents) command project declared Fact means is fact = (declared, means, fact)
+
+-- the same, of a fact on these options too, found by others that are equal
+pub for_declared_by : (told : Option Contents) (command : Command) (project : Project) (declared : Declared) (found expected : RunOptions) (Fact : Declared → RunOptions → Type 0) → found ≡ expected
+    → IfSome told (λ contents. DeclaresAs (declared_from contents command project) (declares declared)) → IsDeclared told command project declared → Fact declared found → ForDeclared told command project (λ d. Fact d expected)
+for_declared_by told command project declared found expected Fact same means is fact =
+    for_declared told command project declared (λ d. Fact d expected) means is (subst (Fact declared) same fact)
 
 -- what is declared isn't refused
 pub declared_unrefused : (Fact : Refusal → Type 0) (meant : Result Declared Refusal) (declared : Declared) → DeclaresAs meant (declares declared) → IfErr meant Fact

@@ -2,7 +2,6 @@
 use Rattle.std.proofs.Common.{◌≡◌, ℕ, zero, suc, ◌≤◌, Bool, true, false, List, [], ◌∷◌, ◌++◌, Option, Some, None, length, take, refl, sym, ap, ◌∙◌, subst, inl, inr, arith, append-nil}
 use Rattle.std.specs.Prelude.{IfSome, Ok, if◌then◌else◌, option_map, slice_get}
 use Rattle.std.specs.Option.{option_map_or}
-use Rattle.engine_types.specs.declared.Declared.{Declared}
 use Rattle.engine_types.specs.declared.Engine.{Engine}
 use Rattle.engine_types.specs.declared.RunFault.{RunFault}
 use Rattle.engine_types.specs.declared.RunLimits.{RunLimits}
@@ -10,13 +9,14 @@ use Rattle.asked_project.specs.Asking.{Variables, command_of}
 use Rattle.asked_project.specs.Meaning.{IsSpelled, MeansAs, meaning}
 use Rattle.asked_project.specs.declared.Asked.{Asked}
 use Rattle.asked_run.specs.Declaring.{ForDeclared}
-use Rattle.compose_cli.specs.Runs.{ForTask, HoldsExactly, HoldsNone, IfRuns, IsCausedAnew, IsRefusalOf, IsStatusOf, IsUnbegun, LeadsOn, MovesEngine, Reports, RunsTask, RunsWhole, aim_asked, aim_for, first_reading, options_for}
+use Rattle.compose_cli.specs.Runs.{ForTask, HoldsExactly, HoldsNone, IfRuns, IsCausedAnew, IsRefusalOf, IsStatusOf, LeadsOn, RanAlone, RanAs, Reports, aim_asked, aim_for, first_reading, options_for}
+use Rattle.compose_cli.specs.declared.ended.Ended.{Ended}
 use Rattle.engine_types.specs.declared.Entry.{Entry}
 use Rattle.engine_types.specs.declared.Exchange.{Exchange}
 use Rattle.compose_config.proofs.Loads.{for_project}
-use Rattle.compose_config.specs.Commands.{ForProject}
 use Rattle.compose_words.specs.declared.Command.{Command}
 use Rattle.outside_files.specs.Files.{Contents}
+use Rattle.ledger_run.specs.Tellings.{Telling, account_in}
 use Rattle.outside_api.specs.Accounts.{Account, account}
 use Rattle.outside_api.specs.Clock.{Clock, new_clock}
 use Rattle.outside_api.specs.Hands.{BeginsWith, Heard, HeardNothing}
@@ -24,7 +24,7 @@ use Rattle.outside_files.specs.Sinks.{GrewBy}
 use Rattle.project_run.specs.Options.{aim_of, options_of}
 use Rattle.project_run.specs.Timing.{IsTimed}
 use Rattle.project_run.specs.Whole.{IfBegun, IsCaused, IsFault, IsReport, SparesKept, task_of}
-use Rattle.project_run.specs.Worlds.{EndsExact, EndsGone, GoesThrough}
+use Rattle.project_run.specs.Worlds.{EndsExact, EndsGone, GoesThrough, MakesOnce, RollsFew, SparesAgreeing}
 use Rattle.refusals.specs.Origins.{IsOfRun, run_refusal}
 use Rattle.refusals.specs.Statuses.{refusal_status, status_of}
 use Rattle.refusals.specs.declared.Part.{Part}
@@ -33,14 +33,10 @@ use Rattle.run_model.specs.EngineRules.{Among}
 use Rattle.run_model.specs.Ending.{fault_status}
 use Rattle.run_model.specs.Logs.{GrowsBy}
 use Rattle.run_model.specs.Observation.{is_up}
-use Rattle.run_model.specs.Plans.{Aim, IsWhole}
-use Rattle.cut_laws.proofs.AcrossRuns.{made_once_after_runs}
-use Rattle.cut_laws.proofs.Sparing.{run_spares_agreeing}
-use Rattle.rolling_update.proofs.Counts.{rolls_at_most}
+use Rattle.run_model.specs.Plans.{Aim}
 use Rattle.world_laws.specs.OwnSpecs.{HasOwnSpecs}
-use Rattle.run_model.specs.Runs.{IsLeftByAll, IsRun, IsWorldOfRun, RunOptions, Task, limits_of, run_exchanges, run_fault, run_report}
+use Rattle.run_model.specs.Runs.{IsLeftByAll, IsRun, IsWorldOfRun, Task, limits_of, run_exchanges, run_fault, run_report}
 use Rattle.run_model.specs.Worlds.{Move}
-use Rattle.typed_project.specs.declared.project.Project.{Project}
 use Rattle.project_run.specs.declared.plan_aim as given
 use Rattle.project_run.specs.declared.options as asked_options
 use Rattle.refusals.specs.Saying.{IsSaid, IsSaidIfAny}
@@ -178,6 +174,10 @@ among_one xs x y e m = at (subst (λ (l : List _). Among l y) e m)
     at (inl h) = h
     at (inr h) = absurd h
 
+-- a fact on the only one is one on each
+only_among : {X : Type 0} (xs : List X) (x : X) (Fact : X → Type 0) → xs ≡ x ∷ [] → Fact x → (y : X) → Among xs y → Fact y
+only_among xs x Fact one fact y m = subst Fact (sym (among_one xs x y one m)) fact
+
 -- the only hand is that of worker 0
 only_at : {X : Type 0} (xs : List X) (x y : X) (w : ℕ) → xs ≡ x ∷ [] → slice_get xs w ≡ Some y → (w ≡ 0) × (y ≡ x)
 only_at xs x y w e m = at w (subst (λ (l : List _). slice_get l w ≡ Some y) e m)
@@ -186,7 +186,7 @@ only_at xs x y w e m = at w (subst (λ (l : List _). slice_get l w ≡ Some y) e
     at zero h = (refl, cc h)
     at (suc n) h = absurd (cc h)
 
--- a fact on a journal that has an entry, from one, and from four
+-- a fact on a journal that has an entry, from another one
 pub if_begun : (journal : List Entry) {A R : Type 0} → IfBegun journal A → (A → R) → IfBegun journal R
 if_begun [] a f = tt
 if_begun (entry ∷ rest) a f = f a
@@ -195,10 +195,6 @@ if_begun (entry ∷ rest) a f = f a
 pub if_begun_in : (journal : List Entry) {A R : Type 0} → IfBegun journal A → (((B : Type 0) → IfBegun journal B → B) → A → R) → IfBegun journal R
 if_begun_in [] a f = tt
 if_begun_in (entry ∷ rest) a f = f (λ B b. b) a
-
-if_begun_of : (journal : List Entry) {A B C D E R : Type 0} → IfBegun journal A → IfBegun journal B → IfBegun journal C → IfBegun journal D → IfBegun journal E → (A → B → C → D → E → R) → IfBegun journal R
-if_begun_of [] a b c d e f = tt
-if_begun_of (entry ∷ rest) a b c d e f = f a b c d e
 
 -- a run of which nothing is refused went well
 unrefused : (fault : Option RunFault) (old new : ℕ) (refusal : Option Refusal) → IsRefusalOf fault old new refusal → refusal ≡ None → fault ≡ None
@@ -210,76 +206,53 @@ unrefused (Some fault) old new refusal (inr (inr h)) e = let bad : Some Refusal.
 pub went_well : (fault : Option RunFault) (old new : ℕ) (refusal found : Option Refusal) → IsRefusalOf fault old new refusal → IsSaidIfAny refusal found → found ≡ None → fault ≡ None
 went_well fault old new refusal found r h e = unrefused fault old new refusal r (unsaid refusal found h e)
 
+-- a fact on the only hand, which is worker 0's, is one on the hand of each worker
+only_hand : {H : Type 0} (hands : List H) (after : H) (Fact : ℕ → H → Type 0) → hands ≡ after ∷ [] → Fact 0 after → (w : ℕ) (hand : H) → slice_get hands w ≡ Some hand → Fact w hand
+only_hand hands after Fact one fact w hand m = let only = only_at hands after hand w one m in subst (λ (n : ℕ). Fact n hand) (sym only.0) (subst (Fact 0) (sym only.1) fact)
+
 -- what a call leaves, by what its run left
-pub runs_task : {H : Type 0} (log : H → List Exchange) (heard : H → Option (List Heard)) (faults : H → ℕ) (clock : H → Clock) (task : Task) (journal : List Entry) (hands : List H) (status : ℕ) (report : List ℕ)
+pub ran_as : {H : Type 0} (tell : H → Telling) (task : Task) (journal : List Entry) (hands : List H) (status : ℕ) (report : List ℕ)
     (fault : Option RunFault) (refusal found : Option Refusal) (hand after : H) (written_old written_new : Option (List ℕ)) (old new : ℕ)
-    → task.limits.workers ≡ 1 → IsWhole task.declared → HasOwnSpecs task.declared → IfBegun journal (IsRun task journal) → IfBegun journal (IsLeftByAll task journal) → IfBegun journal (GrowsBy (run_exchanges task journal 0) (log hand) (log after)) → IfBegun journal (IsFault (run_fault task journal) fault) → IfBegun journal (IsTimed task journal 0 (clock hand) (clock after))
-    → IsReport (run_report task journal) fault report → IsCaused task journal 0 (account (log hand) (heard hand) (faults hand)) (account (log after) (heard after) (faults after))
-    → (is_up task.aim.purpose ≡ true → SparesKept task journal) → (fault ≡ None → is_up task.aim.purpose ≡ true → EndsExact task journal)
-    → (fault ≡ None → is_up task.aim.purpose ≡ false → EndsGone task journal) → log hand ≡ [] → clock hand ≡ new_clock → HeardNothing (heard hand) → faults hand ≡ 0 → hands ≡ after ∷ [] → IsRefusalOf fault old new refusal → Says report written_old written_new old new → IsSaidIfAny refusal found
-    → IfBegun journal (RunsTask log heard faults clock task (record { status = status; journal = journal; hands = hands; refusal = found }) written_old written_new old new)
-runs_task log heard faults clock task journal hands status report fault refusal found hand after written_old written_new old new worker whole own is left grows told times reports causes spares ends lacks unused unread unheard faultless one refused says is_said =
-    if_begun_of journal is left grows told times (λ run all_left grown is_fault is_timed. record {
-      run = run;
-      left = all_left;
+    → task.limits.workers ≡ 1 → HasOwnSpecs task.declared → IfBegun journal (IsRun task journal) → IfBegun journal (IsLeftByAll task journal) → IfBegun journal (GrowsBy (run_exchanges task journal 0) (tell hand).log (tell after).log) → IfBegun journal (IsFault (run_fault task journal) fault) → IfBegun journal (IsTimed task journal 0 (tell hand).clock (tell after).clock)
+    → IsReport (run_report task journal) fault report → IsCaused task journal 0 (account_in (tell hand)) (account_in (tell after))
+    → (is_up task.aim.purpose ≡ true → SparesKept task journal) → IfBegun journal (is_up task.aim.purpose ≡ true → HasOwnSpecs task.declared → MakesOnce task journal)
+    → IfBegun journal (is_up task.aim.purpose ≡ true → HasOwnSpecs task.declared → SparesAgreeing task journal) → IfBegun journal (is_up task.aim.purpose ≡ true → RollsFew task journal)
+    → (fault ≡ None → is_up task.aim.purpose ≡ true → HasOwnSpecs task.declared → EndsExact task journal) → (fault ≡ None → is_up task.aim.purpose ≡ false → EndsGone task journal)
+    → (tell hand).log ≡ [] → (tell hand).clock ≡ new_clock → HeardNothing (tell hand).heard → (tell hand).faults ≡ 0 → hands ≡ after ∷ [] → IsRefusalOf fault old new refusal → Says report written_old written_new old new → IsSaidIfAny refusal found → status ≡ status_of found
+    → IfBegun journal (RanAs tell task (record { status = status; journal = journal; hands = hands; refusal = found }) written_old written_new old new)
+ran_as tell task journal hands status report fault refusal found hand after written_old written_new old new worker own is left grows told times reports causes spares once agreeing rolls ends lacks unused unread unheard faultless one refused says is_said is_status =
+    if_begun_in journal is (λ inside run.
+    let is_refusal = refused_by old new (run_fault task journal) fault refusal found (inside (IsFault (run_fault task journal) fault) told) refused is_said in record {
+      legal = run;
+      left = inside (IsLeftByAll task journal) left;
       hands = ap length one ∙ sym worker;
-      logs = λ w other m. let only = only_at hands after other w one m in
-          subst (λ (n : ℕ). GrowsBy (run_exchanges task journal n) [] (log other)) (sym only.0) (subst (λ (h : _). GrowsBy (run_exchanges task journal 0) [] (log h)) (sym only.1)
-          (subst (λ (l : List Exchange). GrowsBy (run_exchanges task journal 0) l (log after)) unused grown));
-      caused = λ w other m. let only = only_at hands after other w one m in
-          subst (λ (n : ℕ). IsCausedAnew task journal n (account (log other) (heard other) (faults other))) (sym only.0)
-          (subst (λ (h : _). IsCausedAnew task journal 0 (account (log h) (heard h) (faults h))) (sym only.1)
-          (caused_anew task journal 0 (log hand) (heard hand) (faults hand) (account (log after) (heard after) (faults after)) unused unheard faultless causes));
-      timed = λ w other m. let only = only_at hands after other w one m in
-          subst (λ (n : ℕ). IsTimed task journal n new_clock (clock other)) (sym only.0) (subst (λ (h : _). IsTimed task journal 0 new_clock (clock h)) (sym only.1)
-          (subst (λ (c : Clock). IsTimed task journal 0 c (clock after)) unread is_timed));
-      refused = refused_by old new (run_fault task journal) fault refusal found is_fault refused is_said;
-      reported = reports_by old new (run_report task journal) report fault refusal found written_old written_new reports says refused is_said;
-      spares = spares;
-      once = λ up images first mid last earlier moves before world told_ids slot m. made_once_after_runs task journal images first mid last earlier moves up whole own before run world told_ids slot m;
-      agreeing = λ up first last moves world. run_spares_agreeing task journal first last moves up whole own run world;
-      rolls = λ up first last later moves service count world there by_roll uncrossed.
-          rolls_at_most task journal first last later moves service count up whole (λ slot m. (own slot m).number) run.legal world there by_roll uncrossed;
-      exact = λ e. ends (went_well fault old new refusal found refused is_said e);
-      gone = λ e. lacks (went_well fault old new refusal found refused is_said e);
+      log = only_hand hands after (λ w h. GrowsBy (run_exchanges task journal w) [] (tell h).log) one
+          (subst (λ (l : List Exchange). GrowsBy (run_exchanges task journal 0) l (tell after).log) unused (inside (GrowsBy (run_exchanges task journal 0) (tell hand).log (tell after).log) grows));
+      cause = only_hand hands after (λ w h. IsCausedAnew task journal w (account_in (tell h))) one
+          (caused_anew task journal 0 (tell hand).log (tell hand).heard (tell hand).faults (account_in (tell after)) unused unheard faultless causes);
+      timed = only_hand hands after (λ w h. IsTimed task journal w new_clock (tell h).clock) one
+          (subst (λ (c : Clock). IsTimed task journal 0 c (tell after).clock) unread (inside (IsTimed task journal 0 (tell hand).clock (tell after).clock) times));
+      run_status = status_by (run_fault task journal) old new found status is_refusal is_status;
+      run_fault = is_refusal;
+      report = reports_by old new (run_report task journal) report fault refusal found written_old written_new reports says refused is_said;
+      kept = spares;
+      once = λ up. inside (is_up task.aim.purpose ≡ true → HasOwnSpecs task.declared → MakesOnce task journal) once up own;
+      agreeing = λ up. inside (is_up task.aim.purpose ≡ true → HasOwnSpecs task.declared → SparesAgreeing task journal) agreeing up own;
+      rolls = inside (is_up task.aim.purpose ≡ true → RollsFew task journal) rolls;
+      exact_in_each_world = λ zero up. ends (went_well fault old new refusal found refused is_said (not_refused found status is_status zero)) up own;
+      gone_in_each_world = λ zero. lacks (went_well fault old new refusal found refused is_said (not_refused found status is_status zero));
     })
 
--- the Engine that the call's one hand tells went through the run, and holds exactly what is declared
-pub through_by : {H : Type 0} (engine : H → Option Engine) (task : Task) (journal : List Entry) (hands : List H) (began : Option Engine) (after : H)
-    → IfBegun journal (GoesThrough task journal began (engine after)) → hands ≡ after ∷ []
-    → IfBegun journal ((other : H) → Among hands other → GoesThrough task journal began (engine other))
-through_by engine task journal hands began after goes one = if_begun journal goes (λ through other m. let same : other ≡ after = among_one hands after other one m in
-    subst (λ (h : _). GoesThrough task journal began (engine h)) (sym same) through)
-
+-- the Engine that a hand tells holds what each one holds that the run may have led to
 holds_by : (task : Task) (journal : List Entry) (began now : Option Engine) → GoesThrough task journal began now → EndsExact task journal → HoldsExactly task now
 holds_by task journal None now goes ends = subst (HoldsExactly task) (sym goes) tt
 holds_by task journal (Some first) None goes ends = tt
 holds_by task journal (Some first) (Some last) goes ends = ends first last goes.0 goes.1
 
-begun_by : (journal : List Entry) {A : Type 0} → IfBegun journal A → (journal ≡ [] → ⊥) → A
-begun_by [] a not = absurd (not refl)
-begun_by (entry ∷ rest) a not = a
-
-pub exact_by : {H : Type 0} (engine : H → Option Engine) (task : Task) (journal : List Entry) (hands : List H) (began : Option Engine) (after : H) (fault : Option RunFault)
-    → (journal ≡ [] → fault ≡ Some RunFault.Memory) → IfBegun journal (GoesThrough task journal began (engine after)) → (fault ≡ None → EndsExact task journal)
-    → hands ≡ after ∷ [] → fault ≡ None → (other : H) → Among hands other → HoldsExactly task (engine other)
-exact_by engine task journal hands began after fault empty goes ends one well other m =
-    let same : other ≡ after = among_one hands after other one m in
-    let through : GoesThrough task journal began (engine after) = begun_by journal goes (λ e. let bad : None ≡ Some RunFault.Memory = sym well ∙ empty e in cc bad) in
-    subst (λ (h : _). HoldsExactly task (engine h)) (sym same) (holds_by task journal began (engine after) through (ends well))
-
 lacks_by : (task : Task) (journal : List Entry) (began now : Option Engine) → GoesThrough task journal began now → EndsGone task journal → HoldsNone task now
 lacks_by task journal None now goes ends = subst (HoldsNone task) (sym goes) tt
 lacks_by task journal (Some first) None goes ends = tt
 lacks_by task journal (Some first) (Some last) goes ends = ends first last goes.0 goes.1
-
-pub gone_by : {H : Type 0} (engine : H → Option Engine) (task : Task) (journal : List Entry) (hands : List H) (began : Option Engine) (after : H) (fault : Option RunFault)
-    → (journal ≡ [] → fault ≡ Some RunFault.Memory) → IfBegun journal (GoesThrough task journal began (engine after)) → (fault ≡ None → EndsGone task journal)
-    → hands ≡ after ∷ [] → fault ≡ None → (other : H) → Among hands other → HoldsNone task (engine other)
-gone_by engine task journal hands began after fault empty goes ends one well other m =
-    let same : other ≡ after = among_one hands after other one m in
-    let through : GoesThrough task journal began (engine after) = begun_by journal goes (λ e. let bad : None ≡ Some RunFault.Memory = sym well ∙ empty e in cc bad) in
-    subst (λ (h : _). HoldsNone task (engine h)) (sym same) (lacks_by task journal began (engine after) through (ends well))
 
 -- the hand told the plug's Engine at first
 leads_by : (task : Task) (journal : List Entry) (plugged told now : Option Engine) → BeginsWith plugged told → GoesThrough task journal told now → LeadsOn task journal plugged now
@@ -288,10 +261,18 @@ leads_by task journal (Some engine) told None b g = tt
 leads_by task journal (Some engine) None (Some last) b g = absurd (cc g)
 leads_by task journal (Some engine) (Some own) (Some last) b g = subst (λ (first : Engine). (moves : List Move) × IsWorldOfRun task journal first moves last) b g
 
-pub all_lead : {H : Type 0} (engine : H → Option Engine) (task : Task) (journal : List Entry) (hands : List H) (plugged told : Option Engine) → BeginsWith plugged told
-    → IfBegun journal ((other : H) → Among hands other → GoesThrough task journal told (engine other))
-    → IfBegun journal ((other : H) → Among hands other → LeadsOn task journal plugged (engine other))
-all_lead engine task journal hands plugged told begins goes = if_begun journal goes (λ through other m. leads_by task journal plugged told (engine other) begins (through other m))
+-- a call that ran a task with one hand, and what became of the Engine that this hand tells
+pub ran_alone : {H : Type 0} (tell : H → Telling) (task : Task) (ended : Ended H) (hand after : H) (written_old written_new : Option (List ℕ)) (old new : ℕ)
+    → IfBegun ended.journal (RanAs tell task ended written_old written_new old new) → IfBegun ended.journal (GoesThrough task ended.journal (tell hand).engine (tell after).engine) → ended.hands ≡ after ∷ []
+    → IfBegun ended.journal ((began : Option Engine) → BeginsWith began (tell hand).engine → RanAlone tell began task ended written_old written_new old new)
+ran_alone tell task ended hand after written_old written_new old new ran goes one =
+    if_begun_in ended.journal ran (λ inside whole began begins.
+    let through = inside (GoesThrough task ended.journal (tell hand).engine (tell after).engine) goes in record {
+      ran = whole;
+      world = only_among ended.hands after (λ h. LeadsOn task ended.journal began (tell h).engine) one (leads_by task ended.journal began (tell hand).engine (tell after).engine begins through);
+      exact = λ zero up. only_among ended.hands after (λ h. HoldsExactly task (tell h).engine) one (holds_by task ended.journal (tell hand).engine (tell after).engine through (whole.exact_in_each_world zero up));
+      gone = λ zero down. only_among ended.hands after (λ h. HoldsNone task (tell h).engine) one (lacks_by task ended.journal (tell hand).engine (tell after).engine through (whole.gone_in_each_world zero down));
+    })
 
 -- a call of status 0 isn't refused
 pub said_not_zero : (refusal : Refusal) (found : Option Refusal) (status : ℕ) → IsSaid refusal found → status ≡ status_of found → status ≡ 0 → ⊥
@@ -299,28 +280,14 @@ said_not_zero refusal found status h e z =
     let none : found ≡ None = not_refused found status e z in
     let is : IsSaid refusal None = subst (IsSaid refusal) none h in cc is
 
-pub has_begun : (journal : List Entry) {A : Type 0} (refusal : Option Refusal) → (journal ≡ [] → IsUnbegun refusal) → refusal ≡ None → IfBegun journal A → A
-has_begun journal refusal unbegun e a = begun_by journal a (λ n. subst IsUnbegun e (unbegun n))
-
--- a fact on what is declared, from another one
-pub declared_weaker : (told : Option Contents) (command : Command) (project : Project) (P Q : Declared → Type 0) → ForDeclared told command project P → ((declared : Declared) → P declared → Q declared) → ForDeclared told command project Q
-declared_weaker None command project P Q h k = (h.0, h.1, k h.0 h.2)
-declared_weaker (Some contents) command project P Q h k = (h.0, h.1, k h.0 h.2)
-
--- a fact on the task that the words ask for, from one on what the project that was asked for declares, as the files tell it later
-pub task_by : (words : List (List ℕ)) (env : Variables) (cwd : List ℕ) (told later : Option Contents) (first : ℕ) (aim : Aim) (bounds : RunOptions) (asked : Asked) (Whole Fact : Task → Type 0) → later ≡ told
-    → command_of words env ≡ Some asked.options.command → aim_for asked.options.command ≡ Some aim → bounds ≡ options_for asked.options.command
+-- a fact on what the project that was asked for declares, as the files tell it later, is one on the task that the words ask for
+pub task_by : (words : List (List ℕ)) (env : Variables) (cwd : List ℕ) (told later : Option Contents) (workers first : ℕ) (aim : Aim) (asked : Asked) (Fact : Task → Type 0) → later ≡ told
+    → command_of words env ≡ Some asked.options.command → aim_for asked.options.command ≡ Some aim
     → IfSome told (λ contents. MeansAs (meaning words env cwd contents) (Ok asked)) → IsSpelled words env cwd told asked.project
-    → ForDeclared later asked.options.command asked.project (λ declared. Whole (task_of declared aim (limits_of bounds first)))
-    → ((task : Task) → Whole task → Fact task) → ForTask words env cwd told first Fact
-task_by words env cwd told later first aim bounds asked Whole Fact same is runs bound means spelled whole weaker =
-    let now : ForDeclared told asked.options.command asked.project (λ declared. Whole (task_of declared aim (limits_of bounds first))) =
-    subst (λ (t : Option Contents). ForDeclared t asked.options.command asked.project (λ declared. Whole (task_of declared aim (limits_of bounds first)))) same whole in
-    let fact : ForDeclared told asked.options.command asked.project (λ declared. Fact (task_of declared aim (limits_of bounds first))) =
-    declared_weaker told asked.options.command asked.project (λ declared. Whole (task_of declared aim (limits_of bounds first))) (λ declared. Fact (task_of declared aim (limits_of bounds first)))
-    now (λ declared h. weaker (task_of declared aim (limits_of bounds first)) h) in
-    rw is (rw runs (for_project words env cwd told asked (λ p. ForDeclared told asked.options.command p (λ declared. Fact (task_of declared aim (limits_of (options_for asked.options.command) first)))) means spelled
-    (subst (λ (o : RunOptions). ForDeclared told asked.options.command asked.project (λ declared. Fact (task_of declared aim (limits_of o first)))) bound fact)))
+    → ForDeclared later asked.options.command asked.project (λ declared. Fact (task_of declared aim (limits_of (options_for workers asked.options.command) first))) → ForTask workers words env cwd told first Fact
+task_by words env cwd told later workers first aim asked Fact same is runs means spelled fact =
+    rw is (rw runs (for_project words env cwd told asked (λ p. ForDeclared told asked.options.command p (λ declared. Fact (task_of declared aim (limits_of (options_for workers asked.options.command) first)))) means spelled
+    (subst (λ (t : Option Contents). ForDeclared t asked.options.command asked.project (λ declared. Fact (task_of declared aim (limits_of (options_for workers asked.options.command) first)))) same fact)))
 
 -- what a command's run is for, by the call that found it
 pub aims : (command : Command) (found : Option given.Aim.Aim) (aim : given.Aim.Aim) → option_map aim_of found ≡ aim_for command → found ≡ Some aim → aim_for command ≡ Some (aim_of aim)
@@ -344,11 +311,3 @@ unasked words env command found is finds e = ap aim_asked is ∙ (sym finds ∙ 
 -- a fact on what a run is for holds where nothing is run
 pub idle : (words : List (List ℕ)) (env : Variables) (Fact : Aim → Type 0) → aim_asked (command_of words env) ≡ None → IfRuns words env Fact
 idle words env Fact none = subst (λ (aim : Option Aim). IfSome aim Fact) (sym none) tt
-
--- words that run nothing have no task
-pub idle_task : (words : List (List ℕ)) (env : Variables) (cwd : List ℕ) (told : Option Contents) (first : ℕ) (Fact : Task → Type 0) → aim_asked (command_of words env) ≡ None → ForTask words env cwd told first Fact
-idle_task words env cwd told first Fact none = by (command_of words env) (λ command aim. ForProject words env cwd told (λ project. ForDeclared told command project (λ declared. Fact (task_of declared aim (limits_of (options_for command) first))))) none
-  where
-    by : (command : Option Command) (F : Command → Aim → Type 0) → aim_asked command ≡ None → IfSome command (λ c. IfSome (aim_for c) (F c))
-    by None F e = tt
-    by (Some command) F e = subst (λ (aim : Option Aim). IfSome aim (F command)) (sym e) tt

@@ -3,10 +3,8 @@ use Rattle.std.specs.Prelude.{◌≡◌, ◌⊎◌, ◌≤◌, ◌||◌, ℕ, tr
 use Rattle.engine_types.specs.declared.Declared.{Declared}
 use Rattle.engine_types.specs.declared.Engine.{Engine}
 use Rattle.engine_types.specs.declared.Entry.{Entry}
-use Rattle.engine_types.specs.declared.Exchange.{Exchange}
 use Rattle.engine_types.specs.declared.Purpose.{Purpose}
 use Rattle.engine_types.specs.declared.RunFault.{RunFault}
-use Rattle.engine_types.specs.declared.RunLimits.{RunLimits}
 use Rattle.asked_project.specs.Asking.{Variables, command_of, options_asked}
 use Rattle.asked_project.specs.Meaning.{IsLoaded, meaning}
 use Rattle.asked_run.specs.Declaring.{ForDeclared, IsFailedDigest, declared_from}
@@ -14,6 +12,7 @@ use Rattle.compose_cli.specs.declared.ended.Ended.{Ended}
 use Rattle.compose_config.specs.Commands.{ForProject, IsReadFault}
 use Rattle.outside_files.specs.Counts.{Rose}
 use Rattle.outside_files.specs.Files.{Contents}
+use Rattle.ledger_run.specs.Tellings.{Telling, account_in}
 use Rattle.outside_api.specs.Accounts.{Account, account}
 use Rattle.outside_api.specs.Clock.{Clock, new_clock}
 use Rattle.outside_api.specs.Hands.{Heard, HeardNothing}
@@ -23,7 +22,7 @@ use Rattle.compose_words.specs.declared.Options.{Options}
 use Rattle.file_digests.specs.declared.DigestRefusal.{DigestRefusal}
 use Rattle.typed_project.specs.declared.project.Project.{Project}
 use Rattle.project_run.specs.Timing.{IsTimed}
-use Rattle.project_run.specs.Whole.{IfBegun, IsCaused, SparesKept, task_of}
+use Rattle.project_run.specs.Whole.{IsCaused, SparesKept, task_of}
 use Rattle.project_run.specs.Worlds.{EndsExact, EndsGone, MakesOnce, RollsFew, SparesAgreeing}
 use Rattle.refusals.specs.Origins.{run_refusal}
 use Rattle.refusals.specs.Refused.{is_failed_digest, is_free}
@@ -34,7 +33,7 @@ use Rattle.run_model.specs.Exact.{IsExact, IsGone}
 use Rattle.run_model.specs.Logs.{GrowsBy}
 use Rattle.run_model.specs.Observation.{is_up}
 use Rattle.run_model.specs.Plans.{Aim}
-use Rattle.run_model.specs.Runs.{IsLeftByAll, IsRun, IsWorldOfRun, RunOptions, Task, limits_of, run_exchanges, run_fault, run_report}
+use Rattle.run_model.specs.Runs.{IsLeftByAll, IsRun, IsWorldOfRun, RunOptions, Task, limits_of, run_exchanges, run_fault, run_report, run_status}
 use Rattle.run_model.specs.Worlds.{Move}
 use Rattle.outside_files.specs.Writing.{Says}
 use Rattle.tree_base.specs.Answers.{Unless}
@@ -56,15 +55,15 @@ aim_asked (Some command) = aim_for command
 abbrev pub IfRuns : List (List ℕ) → Variables → (Aim → Type 0) → Type 0
 IfRuns words env Fact = IfSome (aim_asked (command_of words env)) Fact
 
--- what a command's options bound of its run, which has one worker: `up` may wait for goals, and be late; a stop of `down` may
--- wait so many seconds in place of what each slot says
-abbrev pub options_for : Command → RunOptions
-options_for (Command.Up orphans wait seconds scale) =
-    record { workers = 1; wait = wait; wait_seconds = seconds; stop_seconds = None }
-options_for (Command.Down orphans volumes seconds) =
-    record { workers = 1; wait = false; wait_seconds = None; stop_seconds = seconds }
-options_for _ =
-    record { workers = 1; wait = false; wait_seconds = None; stop_seconds = None }
+-- what a command's options bound of its run by so many workers: `up` may wait for goals, and be late; a stop of `down` may wait so
+-- many seconds in place of what each slot says
+abbrev pub options_for : ℕ → Command → RunOptions
+options_for workers (Command.Up orphans wait seconds scale) =
+    record { workers = workers; wait = wait; wait_seconds = seconds; stop_seconds = None }
+options_for workers (Command.Down orphans volumes seconds) =
+    record { workers = workers; wait = false; wait_seconds = None; stop_seconds = seconds }
+options_for workers _ =
+    record { workers = workers; wait = false; wait_seconds = None; stop_seconds = None }
 
 -- the first reading of the clock of hand 0; 0 where there is no hand, or it never read its clock
 abbrev pub first_reading : {H : Type 0} → (H → Clock) → List H → ℕ
@@ -79,13 +78,13 @@ ForAsked words env cwd told Fact =
     IfSome (command_of words env) (λ command. IfSome (aim_for command) (λ aim.
     ForProject words env cwd told (λ project. ForDeclared told command project (Fact command aim))))
 
--- a fact on the task that a call runs: what its words ask for, within the limits that its options and the first
--- reading of hand 0's clock set, of what is declared
+-- a fact on the task that a call runs: what its words ask for, within the limits that its options, so many workers and the first
+-- reading of hand 0's clock set, of what one project declares
 abbrev pub ForTask :
-    List (List ℕ) → Variables → List ℕ → Option Contents → ℕ → (Task → Type 0) → Type 0
-ForTask words env cwd told first Fact =
+    ℕ → List (List ℕ) → Variables → List ℕ → Option Contents → ℕ → (Task → Type 0) → Type 0
+ForTask workers words env cwd told first Fact =
     ForAsked words env cwd told (λ command aim declared.
-    Fact (task_of declared aim (limits_of (options_for command) first)))
+    Fact (task_of declared aim (limits_of (options_for workers command) first)))
 
 -- a fact on what a run's project is declared as, or refused with, where the files are told and a project is meant
 abbrev pub IfDeclared :
@@ -185,42 +184,52 @@ IsCausedAnew task journal w now =
     (heard : Option (List Heard)) × HeardNothing heard
     × IsCaused task journal w (account [] heard 0) now
 
--- a call ran a task: its journal, what each worker's hand tells, its refusal, and what it wrote
-pub record RunsTask {H : Type 0} (log : H → List Exchange) (heard : H → Option (List Heard))
-    (faults : H → ℕ) (clock : H → Clock) (task : Task) (ended : Ended H)
+-- a call ran this task, with a hand for each of its workers: what it left, and what that means for each Engine that may have given
+-- the journal's replies
+pub record RanAs {H : Type 0} (tell : H → Telling) (task : Task) (ended : Ended H)
     (written_old written_new : Option (List ℕ)) (faults_old faults_new : ℕ) : Type 0 where
-  pub run : IsRun task ended.journal
+  -- the journal is that of a whole run, legal and final, which each worker left where the observation ended well
+  pub legal : IsRun task ended.journal
   pub left : IsLeftByAll task ended.journal
+  -- there are as many hands as workers, and the hand of each made its exchanges, each of which has its cause in itself
   pub hands : length ended.hands ≡ task.limits.workers
-  pub logs : (w : ℕ) (hand : H) → slice_get ended.hands w ≡ Some hand
-      → GrowsBy (run_exchanges task ended.journal w) [] (log hand)
-  pub caused : (w : ℕ) (hand : H) → slice_get ended.hands w ≡ Some hand
-      → IsCausedAnew task ended.journal w (account (log hand) (heard hand) (faults hand))
+  pub log : (w : ℕ) (hand : H) → slice_get ended.hands w ≡ Some hand
+      → GrowsBy (run_exchanges task ended.journal w) [] (tell hand).log
+  pub cause : (w : ℕ) (hand : H) → slice_get ended.hands w ≡ Some hand
+      → IsCausedAnew task ended.journal w (account_in (tell hand))
+  -- the hand of each worker looked whether to stop, paused and read its clock as the journal says
   pub timed : (w : ℕ) (hand : H) → slice_get ended.hands w ≡ Some hand
-      → IsTimed task ended.journal w new_clock (clock hand)
-  pub refused : IsRefusalOf (run_fault task ended.journal) faults_old faults_new ended.refusal
-  pub reported : Reports (run_report task ended.journal) ended.refusal written_old written_new
+      → IsTimed task ended.journal w new_clock (tell hand).clock
+  -- status, refusal and report are those of the run
+  pub run_status : IsStatusOf (run_status task ended.journal) ended.status
+  pub run_fault : IsRefusalOf (run_fault task ended.journal) faults_old faults_new ended.refusal
+  pub report : Reports (run_report task ended.journal) ended.refusal written_old written_new
       faults_old faults_new
-  pub spares : is_up task.aim.purpose ≡ true → SparesKept task ended.journal
+  -- `up` leaves kept containers alone
+  pub kept : is_up task.aim.purpose ≡ true → SparesKept task ended.journal
+  -- whatever runs of `up` came before, each whole or cut off anywhere: over all of them and this one each container is made at most
+  -- once, and this one spares the containers that agree
   pub once : is_up task.aim.purpose ≡ true → MakesOnce task ended.journal
   pub agreeing : is_up task.aim.purpose ≡ true → SparesAgreeing task ended.journal
+  -- at no moment of `up` do more slots of a service lack a live container by the run's doing than the service replaces at a time
   pub rolls : is_up task.aim.purpose ≡ true → RollsFew task ended.journal
-  pub exact : ended.refusal ≡ None → is_up task.aim.purpose ≡ true → EndsExact task ended.journal
-  pub gone : ended.refusal ≡ None → is_up task.aim.purpose ≡ false → EndsGone task ended.journal
+  -- at status 0 the Engine holds exactly what is declared after `up`, and nothing of it after `down`, in every world of the run,
+  -- whatever it held before
+  pub exact_in_each_world : ended.status ≡ 0 → is_up task.aim.purpose ≡ true
+      → EndsExact task ended.journal
+  pub gone_in_each_world : ended.status ≡ 0 → is_up task.aim.purpose ≡ false
+      → EndsGone task ended.journal
 
--- what became of the Engine that a call's hand tells, and that its plug told at first
-pub record MovesEngine {H : Type 0} (engine : H → Option Engine) (task : Task) (ended : Ended H)
-    (began : Option Engine) : Type 0 where
-  pub leads : IfBegun ended.journal ((hand : H) → Among ended.hands hand
-      → LeadsOn task ended.journal began (engine hand))
-  pub exact : ended.refusal ≡ None → is_up task.aim.purpose ≡ true → (hand : H)
-      → Among ended.hands hand → HoldsExactly task (engine hand)
-  pub gone : ended.refusal ≡ None → is_up task.aim.purpose ≡ false → (hand : H)
-      → Among ended.hands hand → HoldsNone task (engine hand)
-
--- a call ran a task, and so did the Engine that its hand tells
-pub record RunsWhole {H : Type 0} (log : H → List Exchange) (heard : H → Option (List Heard))
-    (faults : H → ℕ) (clock : H → Clock) (engine : H → Option Engine) (began : Option Engine) (task : Task) (ended : Ended H)
-    (written_old written_new : Option (List ℕ)) (faults_old faults_new : ℕ) : Type 0 where
-  pub ran : RunsTask log heard faults clock task ended written_old written_new faults_old faults_new
-  pub moved : MovesEngine engine task ended began
+-- a call ran this task with one hand, and so did the Engine that this hand tells now and that its plug told at first
+pub record RanAlone {H : Type 0} (tell : H → Telling) (began : Option Engine) (task : Task)
+    (ended : Ended H) (written_old written_new : Option (List ℕ)) (faults_old faults_new : ℕ)
+    : Type 0 where
+  pub ran : RanAs tell task ended written_old written_new faults_old faults_new
+  -- a world of the run leads from the one Engine to the other
+  pub world : (hand : H) → Among ended.hands hand
+      → LeadsOn task ended.journal began (tell hand).engine
+  -- at status 0 it holds exactly what is declared after `up`, and nothing of it after `down`
+  pub exact : ended.status ≡ 0 → is_up task.aim.purpose ≡ true → (hand : H)
+      → Among ended.hands hand → HoldsExactly task (tell hand).engine
+  pub gone : ended.status ≡ 0 → is_up task.aim.purpose ≡ false → (hand : H)
+      → Among ended.hands hand → HoldsNone task (tell hand).engine

@@ -1,21 +1,21 @@
-ghost use Rattle.std.specs.Prelude.{◌≡◌, ◌+◌, ◌<◌, ◌^◌, [], Some, None, if◌then◌else◌, true, false, length, vec_len, vec_capacity};
+ghost use Rattle.std.specs.Prelude.{◌≡◌, ◌+◌, ◌<◌, ◌^◌, [], Option, Some, None, if◌then◌else◌, length, vec_len, vec_capacity};
 ghost use Rattle.std.specs.Option.{ForSome};
 ghost use Rattle.compose_cli.specs.Ends.{CountsHands, SendsNothing};
-ghost use Rattle.compose_cli.specs.Runs.{HoldsExactly, HoldsNone, IsRefusalOf, IsUnbegun, MovesEngine, RunsTask, first_reading};
+ghost use Rattle.compose_cli.specs.Runs.{IsRefusalOf, IsUnbegun, RanAlone, first_reading};
+ghost use Rattle.engine_types.specs.declared.Engine.{Engine};
+ghost use Rattle.ledger_run.specs.Tellings.{telling};
 ghost use Rattle.outside_api.specs.Clock.{new_clock};
-ghost use Rattle.outside_api.specs.Hands.{HeardNothing};
+ghost use Rattle.outside_api.specs.Hands.{BeginsWith, HeardNothing};
 ghost use Rattle.outside_files.specs.Counts.{Rose};
 ghost use Rattle.plan_core.specs.Order.{HasNoCycle};
 ghost use Rattle.project_run.specs.Options.{aim_of, options_of};
 ghost use Rattle.project_run.specs.Whole.{IfBegun, task_of};
-ghost use Rattle.project_run.specs.Worlds.{GoesThrough};
 ghost use Rattle.refusals.specs.Origins.{IsOfLoading, IsOfRun};
 ghost use Rattle.refusals.specs.Statuses.{status_of};
 ghost use Rattle.refusals.specs.declared.Part.{Part};
 ghost use Rattle.refusals.specs.declared.Refusal.{Refusal};
 ghost use Rattle.run_laws.specs.Orders.{NeedsDependencies};
 ghost use Rattle.run_model.specs.EngineRules.{Among};
-ghost use Rattle.run_model.specs.Observation.{is_up};
 ghost use Rattle.run_model.specs.Plans.{IsWhole};
 ghost use Rattle.run_model.specs.Runs.{limits_of};
 ghost use Rattle.refusals.specs.Saying.{IsSaid, SaysRefusal};
@@ -57,15 +57,11 @@ pub(crate) fn run_declared<P: Plug, O: Sink, G: Sink>(
     ensures quiet_unbegun { result.journal ≡ [] → O.written out.new ≡ O.written out.old }
     ensures unsent { result.journal ≡ [] → (hand : P.Hand) → Among result.hands hand
         → P.Hand.log hand ≡ [] }
-    ensures ran { IfBegun result.journal (RunsTask
-        (λ h. P.Hand.log h) (λ h. P.Hand.heard h) (λ h. P.Hand.faults h) (λ h. P.Hand.clock h)
+    ensures ran { IfBegun result.journal (RanAlone (λ h. telling (P.Hand.log h) (P.Hand.heard h)
+        (P.Hand.faults h) (P.Hand.clock h) (P.Hand.engine h)) (P.engine plug.old)
         (task_of declared (aim_of aim) (limits_of (options_of options)
         (first_reading (λ h. P.Hand.clock h) result.hands))) result
         (O.written out.old) (O.written out.new) (O.faults out.old) (O.faults out.new)) }
-    ensures engine { MovesEngine
-        (λ h. P.Hand.engine h) (task_of declared (aim_of aim) (limits_of (options_of options)
-        (first_reading (λ h. P.Hand.clock h) result.hands))) result
-        (P.engine plug.old) }
     ensures status { result.status ≡ status_of result.refusal }
     ensures line { SaysRefusal result.refusal (G.written err.old) (G.written err.new)
         (G.faults err.old) (G.faults err.new) }
@@ -131,23 +127,12 @@ fn run_with<H: Hand, O: Sink, G: Sink>(
     ensures quiet_unbegun { result.journal ≡ [] → O.written out.new ≡ O.written out.old }
     ensures unsent { result.journal ≡ [] → (hand : H)
         → Among result.hands hand → H.log hand ≡ [] }
-    ensures ran { IfBegun result.journal (RunsTask
-        (λ h. H.log h) (λ h. H.heard h) (λ h. H.faults h) (λ h. H.clock h)
+    ensures ran { IfBegun result.journal ((began : Option Engine)
+        → BeginsWith began (H.engine hand) → RanAlone (λ h. telling (H.log h) (H.heard h)
+        (H.faults h) (H.clock h) (H.engine h)) began
         (task_of declared (aim_of aim) (limits_of (options_of options)
         (first_reading (λ h. H.clock h) result.hands))) result
         (O.written out.old) (O.written out.new) (O.faults out.old) (O.faults out.new)) }
-    ensures through { IfBegun result.journal ((other : H) → Among result.hands other → GoesThrough
-        (task_of declared (aim_of aim) (limits_of (options_of options)
-        (first_reading (λ h. H.clock h) result.hands))) result.journal (H.engine hand)
-        (H.engine other)) }
-    ensures exact { result.refusal ≡ None → is_up aim.purpose ≡ true → (other : H)
-        → Among result.hands other
-        → HoldsExactly (task_of declared (aim_of aim) (limits_of (options_of options)
-        (first_reading (λ h. H.clock h) result.hands))) (H.engine other) }
-    ensures gone { result.refusal ≡ None → is_up aim.purpose ≡ false → (other : H)
-        → Among result.hands other
-        → HoldsNone (task_of declared (aim_of aim) (limits_of (options_of options)
-        (first_reading (λ h. H.clock h) result.hands))) (H.engine other) }
     ensures status { result.status ≡ status_of result.refusal }
     ensures line { SaysRefusal result.refusal (G.written err.old) (G.written err.new)
         (G.faults err.old) (G.faults err.new) }

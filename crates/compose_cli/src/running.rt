@@ -3,11 +3,12 @@ ghost use Rattle.std.specs.Option.{ForSome};
 ghost use Rattle.asked_run.specs.Declaring.{ForDeclared, IsFailedDigest, declared_from};
 ghost use Rattle.compose_cli.specs.Ends.{CountsHands, SendsNothing};
 ghost use Rattle.compose_cli.specs.Reaching.{IsReachable};
-ghost use Rattle.compose_cli.specs.Runs.{IsDigestOf, IsUnbegun, IsUndeclared, RunsWhole, first_reading};
+ghost use Rattle.compose_cli.specs.Runs.{IsDigestOf, IsUnbegun, IsUndeclared, RanAlone, first_reading, options_for};
 ghost use Rattle.file_digests.specs.declared.DigestRefusal.{DigestRefusal};
+ghost use Rattle.ledger_run.specs.Tellings.{telling};
 ghost use Rattle.loaded_files.specs.declared.LoadRefusal.{LoadRefusal};
 ghost use Rattle.outside_files.specs.Counts.{Rose};
-ghost use Rattle.project_run.specs.Options.{aim_of, options_of};
+ghost use Rattle.project_run.specs.Options.{aim_of};
 ghost use Rattle.project_run.specs.Whole.{IfBegun, task_of};
 ghost use Rattle.refusals.specs.Origins.{IsOfLoading, is_of_words};
 ghost use Rattle.refusals.specs.Saying.{SaysRefusal};
@@ -19,6 +20,7 @@ ghost use Rattle.run_model.specs.Runs.{limits_of};
 ghost use Rattle.service_graph.specs.Cycles.{cycle};
 ghost use Rattle.typed_project.specs.DistinctNames.{IsKeyed};
 
+use crate::aims::options_for;
 use crate::ended::Ended;
 use crate::reaching::place_asked;
 use crate::run::{refused, run_declared};
@@ -26,17 +28,17 @@ use asked_project::Asked;
 use asked_run::declared_asked;
 use outside_api::Plug;
 use outside_files::{Files, Sink};
-use project_run::{Aim, RunOptions};
+use project_run::Aim;
 use std::alloc::Global;
+use std::mem::forget;
 use tree_base::{Env, Text};
 
-/// Does with what a project that was asked for declares what an aim asks for, within what options bound, or refuses what can't be
-/// declared.
+/// Does with what a project that was asked for declares what an aim asks for, within what the options of its command bound, or
+/// refuses what can't be declared.
 pub(crate) fn run_asked<F: Files, P: Plug, O: Sink, G: Sink>(
     alloc: Global,
-    asked: &Asked,
+    asked: Asked,
     aim: Aim,
-    options: RunOptions,
     env: &Env,
     cwd: &Text,
     files: &mut F,
@@ -45,21 +47,21 @@ pub(crate) fn run_asked<F: Files, P: Plug, O: Sink, G: Sink>(
     err: &mut G,
 ) -> Ended<P::Hand>
     requires dialled { ForSome (P.dialled plug.old) (λ n. n < 2 ^ 61) }
-    requires keyed { IsKeyed asked.now.project }
-    requires acyclic { cycle asked.now.project.services ≡ None }
-    requires reachable { IsReachable asked.now.options env.now cwd.now }
+    requires keyed { IsKeyed asked.project }
+    requires acyclic { cycle asked.project.services ≡ None }
+    requires reachable { IsReachable asked.options env.now cwd.now }
 
     // What can't be declared is what the call is refused with; and nothing else is, but for reads that failed.
     ensures declaring { IfSome (F.told files.old) (λ contents.
-        IfErr (declared_from contents asked.now.options.command asked.now.project) (λ refusal.
+        IfErr (declared_from contents asked.options.command asked.project) (λ refusal.
         SendsNothing result × IsUndeclared refusal result.refusal)) }
     ensures complete { IsOfLoading result.refusal → IfSome (F.told files.old) (λ contents.
-        IfOk (declared_from contents asked.now.options.command asked.now.project) (λ declared.
-        IsDigestOf asked.now.options.command asked.now.project (F.told files.old)
+        IfOk (declared_from contents asked.options.command asked.project) (λ declared.
+        IsDigestOf asked.options.command asked.project (F.told files.old)
         (F.faults files.old) (F.faults files.new) result.refusal)) }
     ensures digest { (path : _)
         → result.refusal ≡ Some (Refusal.Digest (DigestRefusal.ReadFault path))
-        → IsFailedDigest (F.told files.old) asked.now.options.command asked.now.project
+        → IsFailedDigest (F.told files.old) asked.options.command asked.project
         (F.faults files.old) (F.faults files.new) path }
     ensures words { (refusal : _) → IsTrue (is_of_words refusal)
         → result.refusal ≡ Some refusal → ⊥ }
@@ -77,10 +79,11 @@ pub(crate) fn run_asked<F: Files, P: Plug, O: Sink, G: Sink>(
     ensures unsent { result.journal ≡ [] → (hand : P.Hand) → Among result.hands hand
         → P.Hand.log hand ≡ [] }
     ensures ran { IfBegun result.journal (ForDeclared (F.told files.old)
-        asked.now.options.command asked.now.project (λ declared. RunsWhole
-        (λ h. P.Hand.log h) (λ h. P.Hand.heard h) (λ h. P.Hand.faults h) (λ h. P.Hand.clock h)
-        (λ h. P.Hand.engine h) (P.engine plug.old) (task_of declared (aim_of aim)
-        (limits_of (options_of options) (first_reading (λ h. P.Hand.clock h) result.hands))) result
+        asked.options.command asked.project (λ declared. RanAlone
+        (λ h. telling (P.Hand.log h) (P.Hand.heard h) (P.Hand.faults h) (P.Hand.clock h)
+        (P.Hand.engine h)) (P.engine plug.old) (task_of declared (aim_of aim)
+        (limits_of (options_for 1 asked.options.command)
+        (first_reading (λ h. P.Hand.clock h) result.hands))) result
         (O.written out.old) (O.written out.new) (O.faults out.old) (O.faults out.new))) }
     ensures status { result.status ≡ status_of result.refusal }
     ensures line { SaysRefusal result.refusal (G.written err.old) (G.written err.new)
@@ -88,11 +91,17 @@ pub(crate) fn run_asked<F: Files, P: Plug, O: Sink, G: Sink>(
     ensures quiet { result.refusal ≡ Some (Refusal.Outside Part.Plug)
         → O.written out.new ≡ O.written out.old }
 {
+    let options = options_for(&asked.options.command);
     match declared_asked(alloc, &asked.options.command, &asked.project, files) {
         Ok(declared) => {
             let place = place_asked(alloc, &asked.options, env, cwd);
+            // The call ends, and all its memory with it: the project isn't given back piece by piece.
+            forget(asked);
             run_declared(alloc, declared, aim, options, place, plug, out, err)
         }
-        Err(refusal) => refused(alloc, refusal, err),
+        Err(refusal) => {
+            forget(asked);
+            refused(alloc, refusal, err)
+        }
     }
 }

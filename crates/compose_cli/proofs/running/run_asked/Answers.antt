@@ -1,10 +1,11 @@
-use Rattle.std.proofs.Common.{◌≡◌, Ok, Err, Some, ap, refl, subst, sym}
+use Rattle.std.proofs.Common.{Err, ap, subst, sym}
 use Rattle.asked_run.specs.Declaring.{declared_from}
-use Rattle.compose_cli.proofs.Declaring.{declared_unrefused, declaring_no_load, declaring_no_outside, declaring_no_words, declaring_unbegun, for_declared, only_digests, refused_undeclared, said_digest}
+use Rattle.compose_cli.proofs.Declaring.{declared_unrefused, declaring_no_load, declaring_no_outside, declaring_no_words, declaring_unbegun, for_declared_by, only_digests, refused_undeclared, said_digest}
 use Rattle.compose_cli.proofs.Ending.{counts_none, no_words}
 use Rattle.compose_cli.proofs.Ran.{if_begun}
-use Rattle.compose_cli.specs.Runs.{RunsWhole, first_reading}
+use Rattle.compose_cli.specs.Runs.{RanAlone, first_reading, options_for}
 use Rattle.compose_config.proofs.Loads.{IfSome-map}
+use Rattle.ledger_run.specs.Tellings.{telling}
 use Rattle.project_run.specs.Whole.{task_of}
 use Rattle.refusals.specs.Origins.{IsOfLoading}
 use Rattle.refusals.specs.declared.Part.{Part}
@@ -13,7 +14,7 @@ use Rattle.run_model.specs.Runs.{limits_of}
 use Rattle.compose_cli.proofs.running.run_asked.Goals as goal
 
 pub returns-in-Ok-clause-declaring : goal.returns-in-Ok-clause-declaring
-returns-in-Ok-clause-declaring g c = IfSome-map (g.F.Files.told c.args.files.now) _ _ c.in-Ok.ensures.told (λ contents means. declared_unrefused _ (declared_from contents c.args.asked.now.options.command c.args.asked.now.project) c.in-Ok.declared means)
+returns-in-Ok-clause-declaring g c = IfSome-map (g.F.Files.told c.args.files.now) _ _ c.in-Ok.ensures.told (λ contents means. declared_unrefused _ (declared_from contents c.args.asked.options.command c.args.asked.project) c.in-Ok.declared means)
 
 pub returns-in-Ok-clause-complete : goal.returns-in-Ok-clause-complete
 returns-in-Ok-clause-complete g c = λ loading. absurd (c.run_declared.ensures.origin loading)
@@ -35,19 +36,19 @@ returns-in-Ok-clause-quiet_loading g c = λ loading. absurd (c.run_declared.ensu
 
 pub returns-in-Ok-clause-ran : goal.returns-in-Ok-clause-ran
 returns-in-Ok-clause-ran g c = if_begun c.run_declared.result.journal c.run_declared.ensures.ran (λ ran.
-    for_declared (g.F.Files.told c.args.files.now) c.args.asked.now.options.command c.args.asked.now.project c.in-Ok.declared (λ declared. RunsWhole
-    (λ h. g.P.Hand.Hand.log h) (λ h. g.P.Hand.Hand.heard h) (λ h. g.P.Hand.Hand.faults h) (λ h. g.P.Hand.Hand.clock h) (λ h. g.P.Hand.Hand.engine h) (g.P.Plug.engine c.args.plug.now)
-    (task_of declared (aim_of c.args.aim) (limits_of (options_of c.args.options) (first_reading (λ h. g.P.Hand.Hand.clock h) c.run_declared.result.hands))) c.run_declared.result
+    for_declared_by (g.F.Files.told c.args.files.now) c.args.asked.options.command c.args.asked.project c.in-Ok.declared (options_of c.options_for-options.result) (options_for 1 c.args.asked.options.command) (λ declared bounds. RanAlone
+    (λ h. telling (g.P.Hand.Hand.log h) (g.P.Hand.Hand.heard h) (g.P.Hand.Hand.faults h) (g.P.Hand.Hand.clock h) (g.P.Hand.Hand.engine h)) (g.P.Plug.engine c.args.plug.now)
+    (task_of declared (aim_of c.args.aim) (limits_of bounds (first_reading (λ h. g.P.Hand.Hand.clock h) c.run_declared.result.hands))) c.run_declared.result
     (g.O.Sink.written c.args.out.now) (g.O.Sink.written c.run_declared.new.out) (g.O.Sink.faults c.args.out.now) (g.O.Sink.faults c.run_declared.new.out))
-    c.in-Ok.ensures.told c.in-Ok.ensures.declared (record { ran = ran; moved = c.run_declared.ensures.engine }))
+    c.options_for-options.ensures c.in-Ok.ensures.told c.in-Ok.ensures.declared ran)
 
 pub returns-in-Err-clause-declaring : goal.returns-in-Err-clause-declaring
-returns-in-Err-clause-declaring g c = IfSome-map (g.F.Files.told c.args.files.now) _ _ c.in-Err.ensures.told (λ contents means. refused_undeclared (declared_from contents c.args.asked.now.options.command c.args.asked.now.project) c.in-Err.refusal c.refused.result c.refused.ensures.nothing means c.refused.ensures.refusal)
+returns-in-Err-clause-declaring g c = IfSome-map (g.F.Files.told c.args.files.now) _ _ c.in-Err.ensures.told (λ contents means. refused_undeclared (declared_from contents c.args.asked.options.command c.args.asked.project) c.in-Err.refusal c.refused.result c.refused.ensures.nothing means c.refused.ensures.refusal)
 
 pub returns-in-Err-clause-complete : goal.returns-in-Err-clause-complete
 returns-in-Err-clause-complete g c = λ loading. IfSome-map (g.F.Files.told c.args.files.now) _ _ c.in-Err.ensures.told (λ contents means.
-    only_digests c.args.asked.now.options.command c.args.asked.now.project (g.F.Files.told c.args.files.now) (g.F.Files.faults c.args.files.now) (g.F.Files.faults c.declared_asked.new.files)
-    (declared_from contents c.args.asked.now.options.command c.args.asked.now.project) c.in-Err.refusal c.refused.result.refusal c.in-Err.ensures.kind means c.in-Err.ensures.read c.refused.ensures.refusal loading)
+    only_digests c.args.asked.options.command c.args.asked.project (g.F.Files.told c.args.files.now) (g.F.Files.faults c.args.files.now) (g.F.Files.faults c.declared_asked.new.files)
+    (declared_from contents c.args.asked.options.command c.args.asked.project) c.in-Err.refusal c.refused.result.refusal c.in-Err.ensures.kind means c.in-Err.ensures.read c.refused.ensures.refusal loading)
 
 pub returns-in-Err-clause-digest : goal.returns-in-Err-clause-digest
 returns-in-Err-clause-digest g c = λ path e. c.in-Err.ensures.read path (ap Err (said_digest c.in-Err.refusal c.refused.result.refusal path c.refused.ensures.refusal e))
