@@ -27,7 +27,7 @@ struct Reading {
 }
 
 /// What came of a run whose observation ended well, by its journal.
-pub(crate) fn end(
+pub fn end(
     alloc: Global,
     declared: &Declared,
     plan: &Plan,
@@ -47,7 +47,7 @@ pub(crate) fn end(
 }
 
 /// The journal that has this observation alone, of one that is empty and has room for it. No memory.
-pub(crate) fn only_seen(observed: Observed, mut journal: ReservedList<Entry>) -> List<Entry>
+pub fn only_seen(observed: Observed, mut journal: ReservedList<Entry>) -> List<Entry>
     requires empty { journal.items ≡ [] }
     requires room { 1 ≤ journal.spare }
     ensures { result ≡ Entered.Seen observed ∷ [] }
@@ -57,7 +57,7 @@ pub(crate) fn only_seen(observed: Observed, mut journal: ReservedList<Entry>) ->
 }
 
 /// What came of a run that ended with its observation. The journal is empty, and has room for it.
-pub(crate) fn ended(
+pub fn ended(
     alloc: Global,
     declared: &Declared,
     observed: Observed,

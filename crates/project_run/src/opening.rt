@@ -18,7 +18,7 @@ use tree_base::{List, Memory};
 
 /// How a run opened.
 #[derive(Drop)]
-pub(crate) enum Opening {
+pub enum Opening {
     /// The observation ended well: it, and the plan that is made from what it saw.
     Planned { observed: Observed, plan: Plan },
     /// The observation ended badly, and nothing follows it.
@@ -26,7 +26,7 @@ pub(crate) enum Opening {
 }
 
 /// Observes and plans. A plan that is too long, or for which there is no memory, is a bad end of the observation.
-pub(crate) fn open<H: Hand>(alloc: Global, hand: &mut H, declared: &Declared, aim: Aim) -> Opening
+pub fn open<H: Hand>(alloc: Global, hand: &mut H, declared: &Declared, aim: Aim) -> Opening
     requires whole { IsWhole declared.now }
     ensures { Opens declared.now (aim_of aim) result
         (telling (H.log hand.old) (H.heard hand.old) (H.faults hand.old) (H.clock hand.old)

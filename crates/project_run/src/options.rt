@@ -20,7 +20,7 @@ pub struct RunOptions {
 
 /// What bounds a run, with a deadline that is counted from the first reading of the hand's clock, made here; there is no reading
 /// where there is no deadline. Goals are waited for only where a project is brought up.
-pub(crate) fn limits_for<H: Hand>(hand: &mut H, aim: Aim, options: RunOptions) -> RunLimits
+pub fn limits_for<H: Hand>(hand: &mut H, aim: Aim, options: RunOptions) -> RunLimits
     requires { H.clock hand.old ≡ new_clock }
     ensures limits { result
         ≡ bounded (aim_of aim) (limits_by options (H.clock hand.new)) }
