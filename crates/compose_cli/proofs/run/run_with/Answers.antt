@@ -9,8 +9,8 @@ use Rattle.project_run.specs.Options.{aim_of, limits_by}
 use Rattle.project_run.specs.Whole.{IfBegun, task_of}
 use Rattle.compose_cli.proofs.run.run_with.Goals as goal
 
-pub run_project-requires-clause-small : goal.run_project-requires-clause-small
-run_project-requires-clause-small g c = λ slot m. (c.requires.own slot m).number
+pub run_project-journal-requires-clause-small : goal.run_project-journal-requires-clause-small
+run_project-journal-requires-clause-small g c = λ slot m. (c.requires.own slot m).number
 
 pub returns-clause-ran : goal.returns-clause-ran
 returns-clause-ran g c =
