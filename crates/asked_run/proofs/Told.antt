@@ -2,11 +2,12 @@
 use Rattle.std.proofs.Common.{◌≡◌, ◌∙◌, ◌⊎◌, ℕ, ◌<◌, ◌≤◌, List, [], ◌∷◌, Ok, Err, Some, None, ap, inl, inr, length, refl, subst, sym}
 use Rattle.std.specs.Prelude.{Option, Result, IsSomeAnd, if◌then◌else◌, Bool, true, false, nat_lt}
 use Rattle.std.proofs.lemmas.Bool.{le-ltb, lt-ltb}
+use Rattle.tree_base.specs.Limits.{most_file_bytes}
 use Rattle.asked_run.specs.Declaring.{AreDigests}
 use Rattle.asked_run.specs.Told.{IsHindered, answer_of, digest_in, digests_for, digests_in, digests_of}
 use Rattle.compose_words.specs.declared.Command.{Command}
 use Rattle.engine_types.specs.declared.declared.Kind.{Kind}
-use Rattle.file_digests.specs.Digests.{AreDigested, Digested, Follows, FollowsAll, Given, MayAnswer, behind, digest_read, file_limit}
+use Rattle.file_digests.specs.Digests.{AreDigested, Digested, Follows, FollowsAll, Given, MayAnswer, behind, digest_read}
 use Rattle.file_digests.specs.declared.DigestRefusal.{DigestRefusal}
 use Rattle.outside_files.specs.Files.{Contents, IsReadOf}
 use Rattle.outside_files.specs.declared.files.FileAnswer.{FileAnswer}
@@ -22,17 +23,17 @@ refused refusal = Err refusal
 
 -- an answer that is true of a file, which holds these bytes or isn't there
 abbrev IsTrueOf : Option (List ℕ) → FileAnswer → Type 0
-IsTrueOf found (Bytes bytes) = (found ≡ Some bytes) × (length bytes ≤ file_limit)
+IsTrueOf found (Bytes bytes) = (found ≡ Some bytes) × (length bytes ≤ most_file_bytes)
 IsTrueOf found Missing = found ≡ None
-IsTrueOf found Longer = IsSomeAnd found (λ bytes. file_limit < length bytes)
+IsTrueOf found Longer = IsSomeAnd found (λ bytes. most_file_bytes < length bytes)
 IsTrueOf found Failed = Unit {0}
 IsTrueOf found Memory = Unit {0}
 
-within : (bytes : List ℕ) (long : Bool) → nat_lt file_limit (length bytes) ≡ long → long ≡ false → answer_of (Some bytes) ≡ Bytes bytes
+within : (bytes : List ℕ) (long : Bool) → nat_lt most_file_bytes (length bytes) ≡ long → long ≡ false → answer_of (Some bytes) ≡ Bytes bytes
 within bytes long e f = ap (λ (b : Bool). if b then Longer else Bytes bytes) (e ∙ f)
 
-beyond : (bytes : List ℕ) → file_limit < length bytes → answer_of (Some bytes) ≡ Longer
-beyond bytes l = ap (λ (b : Bool). if b then Longer else Bytes bytes) (lt-ltb file_limit (length bytes) l)
+beyond : (bytes : List ℕ) → most_file_bytes < length bytes → answer_of (Some bytes) ≡ Longer
+beyond bytes l = ap (λ (b : Bool). if b then Longer else Bytes bytes) (lt-ltb most_file_bytes (length bytes) l)
 
 -- what follows an answer that is true of a file: the one that it has, or none
 abbrev Or : Type 0 → FileAnswer → FileAnswer → Type 0
@@ -40,14 +41,14 @@ Or A answer expected = A ⊎ (answer ≡ expected)
 
 -- a true answer is the one that the file has, but for a read that failed or wanted memory
 one_answer : (found : Option (List ℕ)) (answer : FileAnswer) → IsTrueOf found answer → ((answer ≡ Failed) ⊎ (answer ≡ Memory)) ⊎ (answer ≡ answer_of found)
-one_answer found (Bytes bytes) h = inr (sym (ap answer_of h.0 ∙ within bytes false (le-ltb file_limit (length bytes) h.1) refl))
+one_answer found (Bytes bytes) h = inr (sym (ap answer_of h.0 ∙ within bytes false (le-ltb most_file_bytes (length bytes) h.1) refl))
 one_answer found Missing h = inr (sym (ap answer_of h))
 one_answer None Longer h = absurd h
 one_answer (Some bytes) Longer h = inr (sym (beyond bytes h))
 one_answer found Failed h = inl (inl refl)
 one_answer found Memory h = inl (inr refl)
 
-as_true : (files : Contents) (path : List ℕ) (answer : FileAnswer) → IsReadOf files path file_limit answer → IsTrueOf (value_at files path) answer
+as_true : (files : Contents) (path : List ℕ) (answer : FileAnswer) → IsReadOf files path most_file_bytes answer → IsTrueOf (value_at files path) answer
 as_true files path (Bytes bytes) h = h
 as_true files path Missing h = h
 as_true files path Longer h = h

@@ -1,8 +1,9 @@
 -- The digests of files that tell what they hold.
 use Rattle.std.specs.Prelude.{◌≡◌, ◌⊎◌, ℕ, List, [], ◌∷◌, Option, Some, None, Result, Ok, Err, if◌then◌else◌, length, nat_lt}
+use Rattle.tree_base.specs.Limits.{most_file_bytes}
 use Rattle.compose_words.specs.declared.Command.{Command}
 use Rattle.engine_types.specs.declared.declared.Kind.{Kind}
-use Rattle.file_digests.specs.Digests.{Given, behind, digest_read, empty_digests, file_limit}
+use Rattle.file_digests.specs.Digests.{Given, behind, digest_read, empty_digests}
 use Rattle.file_digests.specs.declared.DigestRefusal.{DigestRefusal}
 use Rattle.outside_files.specs.Files.{Contents}
 use Rattle.outside_files.specs.declared.files.FileAnswer.{FileAnswer}
@@ -16,7 +17,7 @@ use Rattle.typed_project.specs.declared.project.Project.{Project}
 -- what the read of a file answers that holds these bytes, or isn't there
 abbrev pub answer_of : Option (List ℕ) → FileAnswer
 answer_of None = Missing
-answer_of (Some bytes) = if nat_lt file_limit (length bytes) then Longer else Bytes bytes
+answer_of (Some bytes) = if nat_lt most_file_bytes (length bytes) then Longer else Bytes bytes
 
 -- the digest of an item's file
 abbrev pub digest_in : Contents → Kind → FileItem → Result FileDigest DigestRefusal

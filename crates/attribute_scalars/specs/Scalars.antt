@@ -1,8 +1,9 @@
 -- What a scalar writes, by its form (Compose Specification, each attribute's own section).
-use Rattle.std.specs.Prelude.{ℕ, ℤ, pos, negsuc, ◌-◌, ◌^◌, ◌==◌, ◌&&◌, ◌||◌, Bool, true, false, not, List, [], ◌∷◌, Option, Some, None, codes, drop, is_some, nat_eq, nat_lt, length, if◌then◌else◌}
+use Rattle.std.specs.Prelude.{ℕ, ℤ, pos, negsuc, ◌-◌, ◌==◌, ◌&&◌, ◌||◌, Bool, true, false, not, List, [], ◌∷◌, Option, Some, None, codes, drop, is_some, nat_eq, nat_lt, length, if◌then◌else◌}
 use Rattle.std.specs.List.{list_all, list_any, starts_with}
 use Rattle.std.specs.Option.{ok_or, option_and_then, option_map}
 use Rattle.std.specs.Str.{bytes_eq, str_to_ascii_lowercase}
+use Rattle.tree_base.specs.Limits.{greatest_number}
 use Rattle.short_forms.specs.Cuts.{cut_once}
 use Rattle.short_forms.specs.Digits.{number_up_to}
 use Rattle.short_forms.specs.PortLaws.{target_in}
@@ -38,7 +39,7 @@ bool_of text =
 
 -- the number that digits write, at most 9,223,372,036,854,775,807
 abbrev pub num_of : List ℕ → Option ℕ
-num_of text = number_up_to (2 ^ 63 - 1) text
+num_of text = number_up_to greatest_number text
 
 -- a number, or -1
 abbrev pub int_of : List ℕ → Option ℤ

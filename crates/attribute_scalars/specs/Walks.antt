@@ -2,6 +2,7 @@
 use Rattle.std.specs.Prelude.{ℕ, ◌+◌, Bool, true, false, List, [], ◌∷◌, ◌++◌, Option, Some, None, Result, Ok, min, take, codes, is_some, not, filter, if◌then◌else◌}
 use Rattle.std.specs.List.{list_any}
 use Rattle.std.specs.Str.{bytes_eq}
+use Rattle.tree_base.specs.Limits.{greatest_place}
 use Rattle.tree_base.specs.Answers.{◌>>=◌}
 use Rattle.tree_base.specs.ByteOrder.{by_key}
 use Rattle.tree_base.specs.Entries.{value_at}
@@ -44,7 +45,7 @@ each_entry read (entry ∷ entries) =
 
 -- a place as a number of 32 bits, or the greatest of these
 abbrev pub place : ℕ → ℕ
-place at = min at 4294967295
+place at = min at greatest_place
 
 -- what the items give, each under its place, which are counted from a number
 abbrev pub each_item : {X : Type 0} → (Tree → Read X) → ℕ → List Tree → Read (List X)

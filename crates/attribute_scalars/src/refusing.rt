@@ -6,6 +6,7 @@ ghost use Rattle.attribute_scalars.specs.Walks.{place};
 
 use attribute_types::{AttributeRefusal, Fault};
 use std::alloc::Global;
+use tree_base::limits::GREATEST_PLACE;
 use tree_base::{List, Memory, Path, Step, Text};
 
 /// The refusal of what stands here. No memory.
@@ -39,7 +40,7 @@ pub fn under_place(at: usize, refusal: AttributeRefusal) -> AttributeRefusal
 fn place(at: usize) -> u32
     ensures { result ≡ place at }
 {
-    at.min(4_294_967_295) as u32
+    at.min(GREATEST_PLACE) as u32
 }
 
 /// A refusal with a step in front of its path, or for want of memory.

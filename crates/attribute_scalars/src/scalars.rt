@@ -2,6 +2,7 @@ ghost use Rattle.std.specs.Prelude.{◌≡◌, ◌≤◌, ◌==◌, IfSome};
 ghost use Rattle.std.specs.List.{list_all, list_any};
 ghost use Rattle.std.specs.Option.{option_copied, option_map};
 ghost use Rattle.std.specs.Str.{bytes_eq, str_to_ascii_lowercase};
+ghost use Rattle.tree_base.specs.Limits.{greatest_number};
 ghost use Rattle.short_forms.specs.Decimals.{decimal_of};
 ghost use Rattle.short_forms.specs.Durations.{duration_of};
 ghost use Rattle.short_forms.specs.Cuts.{cut_once};
@@ -17,13 +18,12 @@ ghost use Rattle.attribute_scalars.specs.Walks.{is_in, is_null};
 
 use attribute_types::{ItemForm, WordSet};
 use short_forms::{cut_text, decimal, duration, number, port_number, size};
+use tree_base::limits::GREATEST_NUMBER;
 use tree_base::{Text, Tree};
 
 const YES: [&str; 4] = ["true", "yes", "on", "y"];
 
 const NO: [&str; 4] = ["false", "no", "off", "n"];
-
-const GREATEST: u64 = 9_223_372_036_854_775_807;
 
 /// The text of a scalar; None where a tree is none. No memory.
 pub fn text_of(tree: &Tree) -> Option<&Text>
@@ -84,9 +84,9 @@ fn is_same_word(text: &str, word: &str) -> bool
 /// The number that digits write.
 pub fn num_of(text: &str) -> Option<u64>
     ensures value { result ≡ num_of text.now }
-    ensures range { IfSome result (λ number. number ≤ 9223372036854775807) }
+    ensures range { IfSome result (λ number. number ≤ greatest_number) }
 {
-    number(text.as_bytes(), GREATEST)
+    number(text.as_bytes(), GREATEST_NUMBER)
 }
 
 /// A number, or -1. No memory.
@@ -189,7 +189,7 @@ fn is_counted_restart(text: &str) -> bool
     ensures { result ≡ is_counted_restart text.now }
 {
     match text.as_bytes().strip_prefix(b"on-failure:") {
-        Some(count) => number(count, GREATEST).is_some(),
+        Some(count) => number(count, GREATEST_NUMBER).is_some(),
         None => false,
     }
 }

@@ -3,6 +3,7 @@ use Rattle.std.specs.Prelude.{ℕ, Bool, true, false, ◌==◌, ◌&&◌, ◌||�
 use Rattle.std.specs.List.{list_any}
 use Rattle.std.specs.Option.{option_and_then, option_map, option_map_or}
 use Rattle.std.specs.Str.{bytes_eq}
+use Rattle.tree_base.specs.Limits.{most_containers}
 use Rattle.short_forms.specs.Decimals.{decimal_of}
 use Rattle.short_forms.specs.Digits.{number_up_to}
 use Rattle.short_forms.specs.Durations.{duration_of}
@@ -124,7 +125,7 @@ no_options tree = refused Fault.WrongKind
 
 -- a number of a service's containers, at most 100
 abbrev pub count_of : List ℕ → Option ℕ
-count_of text = number_up_to 100 text
+count_of text = number_up_to most_containers text
 
 -- the entries of a mapping, none of another tree
 abbrev pub entries_of : Tree-F Tree → Entries
@@ -144,7 +145,7 @@ same_count count other = option_map_or (λ replicas. replicas == count) other tr
 -- the number of a service's containers, which `deploy` doesn't say otherwise
 abbrev pub scale_among : Entries → ℕ → Read (Option Value)
 scale_among beside count =
-    if_right (nat_le count 100 && same_count count (replicas_among beside)) (Some (Value.Num count))
+    if_right (nat_le count most_containers && same_count count (replicas_among beside)) (Some (Value.Num count))
 
 -- null, or a text that writes what is asked; whatever else stands there is a bad value
 abbrev pub counted_or_null : {X : Type 0} → (List ℕ → Option X) → Tree-F Tree → Read (List Value)

@@ -16,10 +16,8 @@ use attribute_scalars::{
 use attribute_types::{AttributeRefusal, Fault, Value};
 use short_forms::number;
 use std::alloc::Global;
+use tree_base::limits::MOST_CONTAINERS;
 use tree_base::{Map, Text, Tree};
-
-/// The greatest number of a service's containers.
-const MOST_CONTAINERS: u64 = 100;
 
 /// The number of a service's containers, at most 100, which `deploy` doesn't say otherwise.
 pub(crate) fn scale_among(
@@ -35,7 +33,7 @@ pub(crate) fn scale_among(
     };
     match replicas_among(beside) {
         Some(replicas) if replicas != count => Err(refused(alloc, Fault::BadValue)),
-        _ if count > MOST_CONTAINERS => Err(refused(alloc, Fault::BadValue)),
+        _ if count > MOST_CONTAINERS as u64 => Err(refused(alloc, Fault::BadValue)),
         _ => Ok(Some(Value::Num(count))),
     }
 }
@@ -60,7 +58,7 @@ fn replicas_among(beside: &[Entry]) -> Option<u64>
 fn count_of(text: &Text) -> Option<u64>
     ensures { result ≡ count_of text.now }
 {
-    number(text.as_str().as_bytes(), MOST_CONTAINERS)
+    number(text.as_str().as_bytes(), MOST_CONTAINERS as u64)
 }
 
 /// How a service is deployed, as it is read.

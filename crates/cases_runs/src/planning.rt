@@ -1,9 +1,8 @@
 use case_files::{Answers, Fields, Lines, Reading};
 use cases_messages::purpose_of;
 use cases_values::{declared_of, plan_lines, seen_of};
-use engine_types::{Declared, Plan, Purpose, Seen, Slot};
+use engine_types::{Aim, Declared, Plan, Purpose, Seen, Slot};
 use plan_core::{PlanRefusal, plan_down, plan_up};
-use project_run::Aim;
 use run_lookups::kept_of;
 use std::alloc::Global;
 use tree_base::{List, Memory, Text};

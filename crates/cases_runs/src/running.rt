@@ -9,9 +9,9 @@ use case_files::{Answers, Fields, Reading};
 use cases_messages::exchange_lines;
 use cases_values::{engine_lines, journal_lines};
 use engine_hand::MemoryHand;
-use engine_types::Declared;
+use engine_types::{Aim, Declared, RunOptions};
 use outside_api::Hand;
-use project_run::{Aim, Ran, RunOptions, run_project};
+use project_run::{Ran, run_project};
 use std::alloc::Global;
 use world_laws::exact;
 

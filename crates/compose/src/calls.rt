@@ -8,13 +8,8 @@ use outside_files::{DiskFiles, OutSink};
 use refusals::{Refusal, say_if_any, status_of};
 use std::thread;
 use std::time::Duration;
+use tree_base::limits::{BEFORE_CALL_AGAIN, MOST_CALLS_AGAIN};
 use tree_base::{Env, List, Text};
-
-/// How often the top call is made again at most.
-const MOST_CALLS_AGAIN: u32 = 8;
-
-/// How many milliseconds later the top call is made again.
-const PAUSE: u64 = 250;
 
 /// The status with which the Engine refuses to create what there is by that name.
 const CONFLICT: u16 = 409;
@@ -42,7 +37,7 @@ pub(crate) fn status_of_calls(
         }
         // By a call, since the drop of each variant of a refusal would be proved at this place.
         drop(refusal);
-        thread::sleep(rt, Duration::from_millis(PAUSE));
+        thread::sleep(rt, Duration::from_millis(BEFORE_CALL_AGAIN));
     }
     end(rt, refusal_of_call(rt, words, variables, directory))
 }

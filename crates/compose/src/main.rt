@@ -15,6 +15,7 @@ use compose_words::{Notice, help_text, notice_of, version_text};
 use outside_files::{OutSink, write_all};
 use std::env;
 use std::process::ExitCode;
+use tree_base::limits::MOST_WORDS;
 use tree_base::{List, Memory, Text};
 use variables::variables;
 
@@ -23,9 +24,6 @@ const NO_MEMORY: u8 = 9;
 
 /// The exit status where the output fails.
 const NO_OUTPUT: u8 = 7;
-
-/// How many words the top call reads: their places count in 32 bits.
-const MOST_WORDS: usize = 4_294_967_295;
 
 fn main(rt: HostRuntime) -> ExitCode {
     match run(&rt) {

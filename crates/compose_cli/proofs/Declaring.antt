@@ -2,6 +2,8 @@
 use Rattle.std.proofs.Common.{◌≡◌, ◌<◌, ◌≤◌, ◌⊎◌, ◌∙◌, Bool, true, false, ℕ, List, Some, None, Ok, Err, arith, inl, inr, refl, subst, sym}
 use Rattle.std.proofs.lemmas.Bool.{cases_lt}
 use Rattle.std.specs.Prelude.{Option, Result, IfErr, IfOk, IfSome, IsTrue, ◌||◌}
+use Rattle.engine_types.specs.declared.RunOptions.{RunOptions}
+use Rattle.engine_types.specs.declared.Aim.{Aim}
 use Rattle.asked_project.specs.Asking.{Variables, command_of, options_asked}
 use Rattle.asked_project.specs.Meaning.{IsLoaded, IsSpelled, MeansAs, meaning}
 use Rattle.asked_project.specs.declared.Asked.{Asked}
@@ -25,8 +27,6 @@ use Rattle.refusals.specs.Refused.{is_failed_digest, is_failed_read, wants_memor
 use Rattle.refusals.specs.Saying.{IsSaid}
 use Rattle.refusals.specs.declared.Part.{Part}
 use Rattle.refusals.specs.declared.Refusal.{Refusal}
-use Rattle.run_model.specs.Plans.{Aim}
-use Rattle.run_model.specs.Runs.{RunOptions}
 use Rattle.tree_base.specs.Answers.{Unless}
 use Rattle.typed_project.specs.declared.project.Project.{Project}
 

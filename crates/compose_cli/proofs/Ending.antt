@@ -1,6 +1,7 @@
 -- How a call ends that is refused before its run, or that prints.
 use Rattle.std.proofs.Common.{◌≡◌, ◌+◌, Some, None, Ok, Err, ap, arith, length, refl, subst, sym}
 use Rattle.std.specs.Prelude.{ℕ, List, Option, Result, IfErr, IfSome, IsTrue}
+use Rattle.engine_types.specs.declared.Aim.{Aim}
 use Rattle.asked_project.specs.Asking.{Variables, command_of}
 use Rattle.asked_project.specs.Meaning.{IsFailedRead, MeansAs, meaning}
 use Rattle.compose_cli.specs.Ends.{CountsHands, IsRefusedWith, SendsNothing}
@@ -17,7 +18,6 @@ use Rattle.refusals.specs.Origins.{IsOfAsking, IsOfLoading, is_of_words}
 use Rattle.refusals.specs.Refused.{IsRefusal}
 use Rattle.refusals.specs.Saying.{IsSaid}
 use Rattle.refusals.specs.declared.Refusal.{Refusal}
-use Rattle.run_model.specs.Plans.{Aim}
 use Rattle.typed_project.specs.declared.project.Project.{Project}
 
 -- a fact beside others

@@ -1,10 +1,12 @@
 -- What a call leaves, by what its run left.
 use Rattle.std.proofs.Common.{◌≡◌, ℕ, zero, suc, ◌≤◌, Bool, true, false, List, [], ◌∷◌, ◌++◌, Option, Some, None, length, take, refl, sym, ap, ◌∙◌, subst, inl, inr, arith, append-nil}
-use Rattle.std.specs.Prelude.{IfSome, Ok, if◌then◌else◌, option_map, slice_get}
+use Rattle.std.specs.Prelude.{IfSome, Ok, if◌then◌else◌, slice_get}
 use Rattle.std.specs.Option.{option_map_or}
+use Rattle.engine_types.specs.declared.Aim.{Aim}
 use Rattle.engine_types.specs.declared.Engine.{Engine}
 use Rattle.engine_types.specs.declared.RunFault.{RunFault}
 use Rattle.engine_types.specs.declared.RunLimits.{RunLimits}
+use Rattle.engine_types.specs.declared.RunOptions.{RunOptions}
 use Rattle.asked_project.specs.Asking.{Variables, command_of}
 use Rattle.asked_project.specs.Meaning.{IsSpelled, MeansAs, meaning}
 use Rattle.asked_project.specs.declared.Asked.{Asked}
@@ -21,7 +23,6 @@ use Rattle.outside_api.specs.Accounts.{Account, account}
 use Rattle.outside_api.specs.Clock.{Clock, new_clock}
 use Rattle.outside_api.specs.Hands.{BeginsWith, Heard, HeardNothing}
 use Rattle.outside_files.specs.Sinks.{GrewBy}
-use Rattle.project_run.specs.Options.{aim_of, options_of}
 use Rattle.project_run.specs.Timing.{IsTimed}
 use Rattle.project_run.specs.Whole.{IfBegun, IsCaused, IsFault, IsReport, SparesKept, task_of}
 use Rattle.project_run.specs.Worlds.{EndsExact, EndsGone, GoesThrough, MakesOnce, RollsFew, SparesAgreeing}
@@ -33,12 +34,9 @@ use Rattle.run_model.specs.EngineRules.{Among}
 use Rattle.run_model.specs.Ending.{fault_status}
 use Rattle.run_model.specs.Logs.{GrowsBy}
 use Rattle.run_model.specs.Observation.{is_up}
-use Rattle.run_model.specs.Plans.{Aim}
 use Rattle.world_laws.specs.OwnSpecs.{HasOwnSpecs}
 use Rattle.run_model.specs.Runs.{IsLeftByAll, IsRun, IsWorldOfRun, Task, limits_of, run_exchanges, run_fault, run_report}
 use Rattle.run_model.specs.Worlds.{Move}
-use Rattle.project_run.specs.declared.plan_aim as given
-use Rattle.project_run.specs.declared.options as asked_options
 use Rattle.refusals.specs.Saying.{IsSaid, IsSaidIfAny}
 use Rattle.outside_files.specs.Writing.{Says, Wrote}
 use Rattle.refusals.proofs.Said.{said, unsaid}
@@ -284,29 +282,29 @@ said_not_zero refusal found status h e z =
 pub task_by : (words : List (List ℕ)) (env : Variables) (cwd : List ℕ) (told later : Option Contents) (workers first : ℕ) (aim : Aim) (asked : Asked) (Fact : Task → Type 0) → later ≡ told
     → command_of words env ≡ Some asked.options.command → aim_for asked.options.command ≡ Some aim
     → IfSome told (λ contents. MeansAs (meaning words env cwd contents) (Ok asked)) → IsSpelled words env cwd told asked.project
-    → ForDeclared later asked.options.command asked.project (λ declared. Fact (task_of declared aim (limits_of (options_for workers asked.options.command) first))) → ForTask workers words env cwd told first Fact
+    → ForDeclared later asked.options.command asked.project (λ declared. Fact (task_of declared aim (limits_of workers (options_for asked.options.command) first))) → ForTask workers words env cwd told first Fact
 task_by words env cwd told later workers first aim asked Fact same is runs means spelled fact =
-    rw is (rw runs (for_project words env cwd told asked (λ p. ForDeclared told asked.options.command p (λ declared. Fact (task_of declared aim (limits_of (options_for workers asked.options.command) first)))) means spelled
-    (subst (λ (t : Option Contents). ForDeclared t asked.options.command asked.project (λ declared. Fact (task_of declared aim (limits_of (options_for workers asked.options.command) first)))) same fact)))
+    rw is (rw runs (for_project words env cwd told asked (λ p. ForDeclared told asked.options.command p (λ declared. Fact (task_of declared aim (limits_of workers (options_for asked.options.command) first)))) means spelled
+    (subst (λ (t : Option Contents). ForDeclared t asked.options.command asked.project (λ declared. Fact (task_of declared aim (limits_of workers (options_for asked.options.command) first)))) same fact)))
 
 -- what a command's run is for, by the call that found it
-pub aims : (command : Command) (found : Option given.Aim.Aim) (aim : given.Aim.Aim) → option_map aim_of found ≡ aim_for command → found ≡ Some aim → aim_for command ≡ Some (aim_of aim)
-aims command found aim finds e = sym finds ∙ ap (option_map aim_of) e
+pub aims : (command : Command) (found : Option Aim) (aim : Aim) → found ≡ aim_for command → found ≡ Some aim → aim_for command ≡ Some aim
+aims command found aim finds e = sym finds ∙ e
 
 -- a fact within the limits that the only hand's first reading sets is one within those that all hands' do
-pub within : {H : Type 0} (clock : H → Clock) (options : asked_options.RunOptions.RunOptions) (hands : List H) (after : H) (Fact : RunLimits → Type 0) → hands ≡ after ∷ []
-    → Fact (limits_of (options_of options) (clock after).first) → Fact (limits_of (options_of options) (first_reading clock hands))
-within clock options hands after Fact one fact = subst (λ (hs : List _). Fact (limits_of (options_of options) (first_reading clock hs))) (sym one) fact
+pub within : {H : Type 0} (clock : H → Clock) (options : RunOptions) (hands : List H) (after : H) (Fact : RunLimits → Type 0) → hands ≡ after ∷ []
+    → Fact (limits_of 1 options (clock after).first) → Fact (limits_of 1 options (first_reading clock hands))
+within clock options hands after Fact one fact = subst (λ (hs : List _). Fact (limits_of 1 options (first_reading clock hs))) (sym one) fact
 
 -- what the words' run is for, by the calls that found it
-pub asked : (words : List (List ℕ)) (env : Variables) (command : Command) (found : Option given.Aim.Aim) (aim : given.Aim.Aim) → command_of words env ≡ Some command → option_map aim_of found ≡ aim_for command → found ≡ Some aim
-    → aim_asked (command_of words env) ≡ Some (aim_of aim)
-asked words env command found aim is finds e = ap aim_asked is ∙ (sym finds ∙ ap (option_map aim_of) e)
+pub asked : (words : List (List ℕ)) (env : Variables) (command : Command) (found : Option Aim) (aim : Aim) → command_of words env ≡ Some command → found ≡ aim_for command → found ≡ Some aim
+    → aim_asked (command_of words env) ≡ Some aim
+asked words env command found aim is finds e = ap aim_asked is ∙ (sym finds ∙ e)
 
 -- words whose command runs nothing, by the calls that found that
-pub unasked : (words : List (List ℕ)) (env : Variables) (command : Command) (found : Option given.Aim.Aim) → command_of words env ≡ Some command → option_map aim_of found ≡ aim_for command → found ≡ None
+pub unasked : (words : List (List ℕ)) (env : Variables) (command : Command) (found : Option Aim) → command_of words env ≡ Some command → found ≡ aim_for command → found ≡ None
     → aim_asked (command_of words env) ≡ None
-unasked words env command found is finds e = ap aim_asked is ∙ (sym finds ∙ ap (option_map aim_of) e)
+unasked words env command found is finds e = ap aim_asked is ∙ (sym finds ∙ e)
 
 -- a fact on what a run is for holds where nothing is run
 pub idle : (words : List (List ℕ)) (env : Variables) (Fact : Aim → Type 0) → aim_asked (command_of words env) ≡ None → IfRuns words env Fact

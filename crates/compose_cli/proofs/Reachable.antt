@@ -1,6 +1,7 @@
 -- A run asks for an Engine.
 use Rattle.std.proofs.Common.{◌≡◌, ℕ, Bool, true, false, not, List, Ok, Err, Some, None, refl, subst}
 use Rattle.std.specs.Prelude.{Option, Result, if◌then◌else◌}
+use Rattle.engine_types.specs.declared.Aim.{Aim}
 use Rattle.asked_project.specs.Asking.{Variables, are_built, asked_or_not, options_asked, read_or_refused, unless_refused}
 use Rattle.asked_target.proofs.Hosts.{good_hosts}
 use Rattle.asked_target.specs.Targets.{has_bad_host, makes_hands}
@@ -12,7 +13,6 @@ use Rattle.compose_words.specs.declared.Options.{Options}
 use Rattle.compose_words.specs.declared.WordsRefusal.{WordsRefusal}
 use Rattle.refusals.specs.declared.Refusal.{Refusal}
 use Rattle.refusals.specs.declared.Unbuilt.{Unbuilt}
-use Rattle.run_model.specs.Plans.{Aim}
 use Rattle.tree_base.specs.Answers.{◌>>=◌}
 
 -- a command that runs something speaks with an Engine

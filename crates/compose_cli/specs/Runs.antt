@@ -1,5 +1,7 @@
 -- What a call leaves that ran a project.
 use Rattle.std.specs.Prelude.{◌≡◌, ◌⊎◌, ◌≤◌, ◌||◌, ℕ, true, false, List, [], ◌∷◌, Option, Some, None, Result, Ok, IfOk, IfSome, length, option_map, slice_get, take}
+use Rattle.engine_types.specs.declared.RunOptions.{RunOptions}
+use Rattle.engine_types.specs.declared.Aim.{Aim}
 use Rattle.engine_types.specs.declared.Declared.{Declared}
 use Rattle.engine_types.specs.declared.Engine.{Engine}
 use Rattle.engine_types.specs.declared.Entry.{Entry}
@@ -32,8 +34,7 @@ use Rattle.run_model.specs.EngineRules.{Among}
 use Rattle.run_model.specs.Exact.{IsExact, IsGone}
 use Rattle.run_model.specs.Logs.{GrowsBy}
 use Rattle.run_model.specs.Observation.{is_up}
-use Rattle.run_model.specs.Plans.{Aim}
-use Rattle.run_model.specs.Runs.{IsLeftByAll, IsRun, IsWorldOfRun, RunOptions, Task, limits_of, run_exchanges, run_fault, run_report, run_status}
+use Rattle.run_model.specs.Runs.{IsLeftByAll, IsRun, IsWorldOfRun, Task, limits_of, run_exchanges, run_fault, run_report, run_status}
 use Rattle.run_model.specs.Worlds.{Move}
 use Rattle.outside_files.specs.Writing.{Says}
 use Rattle.tree_base.specs.Answers.{Unless}
@@ -55,15 +56,15 @@ aim_asked (Some command) = aim_for command
 abbrev pub IfRuns : List (List ℕ) → Variables → (Aim → Type 0) → Type 0
 IfRuns words env Fact = IfSome (aim_asked (command_of words env)) Fact
 
--- what a command's options bound of its run by so many workers: `up` may wait for goals, and be late; a stop of `down` may wait so
+-- what a command's options bound of its run: `up` may wait for goals, and be late; a stop of `down` may wait so
 -- many seconds in place of what each slot says
-abbrev pub options_for : ℕ → Command → RunOptions
-options_for workers (Command.Up orphans wait seconds scale) =
-    record { workers = workers; wait = wait; wait_seconds = seconds; stop_seconds = None }
-options_for workers (Command.Down orphans volumes seconds) =
-    record { workers = workers; wait = false; wait_seconds = None; stop_seconds = seconds }
-options_for workers _ =
-    record { workers = workers; wait = false; wait_seconds = None; stop_seconds = None }
+abbrev pub options_for : Command → RunOptions
+options_for (Command.Up orphans wait seconds scale) =
+    record { wait = wait; wait_seconds = seconds; stop_seconds = None }
+options_for (Command.Down orphans volumes seconds) =
+    record { wait = false; wait_seconds = None; stop_seconds = seconds }
+options_for _ =
+    record { wait = false; wait_seconds = None; stop_seconds = None }
 
 -- the first reading of the clock of hand 0; 0 where there is no hand, or it never read its clock
 abbrev pub first_reading : {H : Type 0} → (H → Clock) → List H → ℕ
@@ -84,7 +85,7 @@ abbrev pub ForTask :
     ℕ → List (List ℕ) → Variables → List ℕ → Option Contents → ℕ → (Task → Type 0) → Type 0
 ForTask workers words env cwd told first Fact =
     ForAsked words env cwd told (λ command aim declared.
-    Fact (task_of declared aim (limits_of (options_for workers command) first)))
+    Fact (task_of declared aim (limits_of workers (options_for command) first)))
 
 -- a fact on what a run's project is declared as, or refused with, where the files are told and a project is meant
 abbrev pub IfDeclared :

@@ -1,10 +1,8 @@
-ghost use Rattle.std.specs.Prelude.{◌≡◌, option_map};
+ghost use Rattle.std.specs.Prelude.{◌≡◌};
 ghost use Rattle.compose_cli.specs.Runs.{aim_for, options_for};
-ghost use Rattle.project_run.specs.Options.{aim_of, options_of};
 
 use asked_project::Command;
-use engine_types::Purpose;
-use project_run::{Aim, RunOptions};
+use engine_types::{Aim, Purpose, RunOptions};
 
 /// A run that waits for nothing, and is never late.
 const UNBOUND: RunOptions = RunOptions {
@@ -15,7 +13,7 @@ const UNBOUND: RunOptions = RunOptions {
 
 /// What a command's run is for; None for `config`, which runs nothing. No memory.
 pub(crate) fn aim_for(command: &Command) -> Option<Aim>
-    ensures { option_map aim_of result ≡ aim_for command.now }
+    ensures { result ≡ aim_for command.now }
 {
     match command {
         Command::Up { orphans, .. } => Some(Aim {
@@ -42,7 +40,7 @@ pub(crate) fn aim_for(command: &Command) -> Option<Aim>
 
 /// What a command's options bound of its run. No memory.
 pub(crate) fn options_for(command: &Command) -> RunOptions
-    ensures { options_of result ≡ options_for 1 command.now }
+    ensures { result ≡ options_for command.now }
 {
     match command {
         Command::Up {

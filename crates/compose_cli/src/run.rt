@@ -8,7 +8,6 @@ ghost use Rattle.outside_api.specs.Clock.{new_clock};
 ghost use Rattle.outside_api.specs.Hands.{BeginsWith, HeardNothing};
 ghost use Rattle.outside_files.specs.Counts.{Rose};
 ghost use Rattle.plan_core.specs.Order.{HasNoCycle};
-ghost use Rattle.project_run.specs.Options.{aim_of, options_of};
 ghost use Rattle.project_run.specs.Whole.{IfBegun, task_of};
 ghost use Rattle.refusals.specs.Origins.{IsOfLoading, IsOfRun};
 ghost use Rattle.refusals.specs.Statuses.{status_of};
@@ -24,10 +23,10 @@ ghost use Rattle.world_laws.specs.OwnSpecs.{HasOwnSpecs};
 
 use crate::ended::Ended;
 use crate::reaching::Place;
-use engine_types::{Declared, RunFault};
+use engine_types::{Aim, Declared, RunFault, RunOptions};
 use outside_api::{DialAnswer, Hand, Plug};
 use outside_files::{Sink, write_all};
-use project_run::{Aim, Ran, RunOptions, run_project};
+use project_run::{Ran, run_project};
 use refusals::{Part, Refusal, refusal_of, refusal_status, say, say_if_any, status_of};
 use std::alloc::Global;
 use tree_base::{List, Memory, Text};
@@ -59,7 +58,7 @@ pub(crate) fn run_declared<P: Plug, O: Sink, G: Sink>(
         → P.Hand.log hand ≡ [] }
     ensures ran { IfBegun result.journal (RanAlone (λ h. telling (P.Hand.log h) (P.Hand.heard h)
         (P.Hand.faults h) (P.Hand.clock h) (P.Hand.engine h)) (P.engine plug.old)
-        (task_of declared (aim_of aim) (limits_of (options_of options)
+        (task_of declared aim (limits_of 1 options
         (first_reading (λ h. P.Hand.clock h) result.hands))) result
         (O.written out.old) (O.written out.new) (O.faults out.old) (O.faults out.new)) }
     ensures status { result.status ≡ status_of result.refusal }
@@ -130,7 +129,7 @@ fn run_with<H: Hand, O: Sink, G: Sink>(
     ensures ran { IfBegun result.journal ((began : Option Engine)
         → BeginsWith began (H.engine hand) → RanAlone (λ h. telling (H.log h) (H.heard h)
         (H.faults h) (H.clock h) (H.engine h)) began
-        (task_of declared (aim_of aim) (limits_of (options_of options)
+        (task_of declared aim (limits_of 1 options
         (first_reading (λ h. H.clock h) result.hands))) result
         (O.written out.old) (O.written out.new) (O.faults out.old) (O.faults out.new)) }
     ensures status { result.status ≡ status_of result.refusal }

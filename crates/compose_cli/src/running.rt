@@ -8,7 +8,6 @@ ghost use Rattle.file_digests.specs.declared.DigestRefusal.{DigestRefusal};
 ghost use Rattle.ledger_run.specs.Tellings.{telling};
 ghost use Rattle.loaded_files.specs.declared.LoadRefusal.{LoadRefusal};
 ghost use Rattle.outside_files.specs.Counts.{Rose};
-ghost use Rattle.project_run.specs.Options.{aim_of};
 ghost use Rattle.project_run.specs.Whole.{IfBegun, task_of};
 ghost use Rattle.refusals.specs.Origins.{IsOfLoading, is_of_words};
 ghost use Rattle.refusals.specs.Saying.{SaysRefusal};
@@ -26,9 +25,9 @@ use crate::reaching::place_asked;
 use crate::run::{refused, run_declared};
 use asked_project::Asked;
 use asked_run::declared_asked;
+use engine_types::Aim;
 use outside_api::Plug;
 use outside_files::{Files, Sink};
-use project_run::Aim;
 use std::alloc::Global;
 use std::mem::forget;
 use tree_base::{Env, Text};
@@ -81,8 +80,8 @@ pub(crate) fn run_asked<F: Files, P: Plug, O: Sink, G: Sink>(
     ensures ran { IfBegun result.journal (ForDeclared (F.told files.old)
         asked.options.command asked.project (λ declared. RanAlone
         (λ h. telling (P.Hand.log h) (P.Hand.heard h) (P.Hand.faults h) (P.Hand.clock h)
-        (P.Hand.engine h)) (P.engine plug.old) (task_of declared (aim_of aim)
-        (limits_of (options_for 1 asked.options.command)
+        (P.Hand.engine h)) (P.engine plug.old) (task_of declared aim
+        (limits_of 1 (options_for asked.options.command)
         (first_reading (λ h. P.Hand.clock h) result.hands))) result
         (O.written out.old) (O.written out.new) (O.faults out.old) (O.faults out.new))) }
     ensures status { result.status ≡ status_of result.refusal }

@@ -1,6 +1,7 @@
 -- The numbers of a command line are within their bounds, and the places of refusals within the words.
 use Rattle.std.specs.Prelude.{◌≤◌, ◌<◌, ℕ, IfSome}
 use Rattle.std.specs.List.{AllByRecursion}
+use Rattle.tree_base.specs.Limits.{most_connections, most_containers, most_seconds, most_simulated, most_workers}
 use Rattle.compose_words.specs.declared.options.Command.{Command}
 use Rattle.compose_words.specs.declared.options.Options.{Options}
 use Rattle.compose_words.specs.declared.options.Scale.{Scale}
@@ -10,16 +11,16 @@ use Rattle.compose_words.specs.declared.refusal.WordsRefusal.{WordsRefusal}
 -- million connections are served
 abbrev pub CommandIsBounded : Command → Type 0
 CommandIsBounded (Command.Config json quiet) = Unit {0}
-CommandIsBounded (Command.Up orphans wait seconds scale) = IfSome seconds (λ s. s ≤ 1000000) × AllByRecursion (λ (s : Scale). s.number ≤ 100) scale
-CommandIsBounded (Command.Down orphans volumes seconds) = IfSome seconds (λ s. s ≤ 1000000)
-CommandIsBounded (Command.Simulate number) = (1 ≤ number) × (number ≤ 1000)
+CommandIsBounded (Command.Up orphans wait seconds scale) = IfSome seconds (λ s. s ≤ most_seconds) × AllByRecursion (λ (s : Scale). s.number ≤ most_containers) scale
+CommandIsBounded (Command.Down orphans volumes seconds) = IfSome seconds (λ s. s ≤ most_seconds)
+CommandIsBounded (Command.Simulate number) = (1 ≤ number) × (number ≤ most_simulated)
 CommandIsBounded Command.Wait = Unit {0}
 CommandIsBounded Command.Logs = Unit {0}
-CommandIsBounded (Command.EngineSim connections) = (1 ≤ connections) × (connections ≤ 1000000)
+CommandIsBounded (Command.EngineSim connections) = (1 ≤ connections) × (connections ≤ most_connections)
 
 -- the options of a run that can be made: with 1 to 16 workers
 pub record IsBounded (options : Options) : Type 0 where
-  pub workers : (1 ≤ options.parallel) × (options.parallel ≤ 16)
+  pub workers : (1 ≤ options.parallel) × (options.parallel ≤ most_workers)
   pub command : CommandIsBounded options.command
 
 -- the place of a refusal is that of one of so many words, where it has a place

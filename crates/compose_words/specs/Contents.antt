@@ -4,6 +4,7 @@ use Rattle.std.specs.List.{position_or_len, before_first, after_first}
 use Rattle.std.specs.Option.{option_map_or}
 use Rattle.std.specs.Str.{bytes_eq, all_ascii_digits}
 use Rattle.std.specs.Str.Parse.{digits_value}
+use Rattle.tree_base.specs.Limits.{most_containers, most_workers}
 use Rattle.compose_words.specs.declared.table.ValueKind.{ValueKind}
 use Rattle.compose_words.specs.declared.content.Content.{Content}
 
@@ -25,7 +26,7 @@ number_content least most text =
 
 -- a count of workers from 1 to 16, and -1 for 16
 abbrev pub workers_content : List ℕ → Content
-workers_content text = if bytes_eq (codes "-1") text then Content.Number 16 else number_content 1 16 text
+workers_content text = if bytes_eq (codes "-1") text then Content.Number most_workers else number_content 1 most_workers text
 
 -- whether a page is JSON
 abbrev pub format_content : List ℕ → Content
@@ -37,7 +38,7 @@ format_content text =
 abbrev pub scale_of : List ℕ → List ℕ → Content
 scale_of service number =
     if length service == 0 then Content.Wrong
-    else (if is_numeral number && nat_le (digits_value 10 number) 100
+    else (if is_numeral number && nat_le (digits_value 10 number) most_containers
     then Content.Scale (record { service = service; number = digits_value 10 number }) else Content.Wrong)
 
 -- a service and a number with `=` between them

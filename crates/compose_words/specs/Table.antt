@@ -2,6 +2,7 @@
 use Rattle.std.specs.Prelude.{ℕ, Bool, true, false, ◌||◌, ◌&&◌, List, [], ◌∷◌, Option, Some, None, codes, find, nat_eq}
 use Rattle.std.specs.Option.{option_map, option_map_or, option_copied}
 use Rattle.std.specs.Str.{bytes_eq}
+use Rattle.tree_base.specs.Limits.{most_connections, most_seconds, most_simulated}
 use Rattle.compose_words.specs.declared.table.OptionName.{OptionName}
 use Rattle.compose_words.specs.declared.table.OptionName.TheVariants.{File, ProjectName, ProjectDirectory, Profile, EnvFile, Parallel, Socket, Memory, StopFile, Format, Quiet, Detach, RemoveOrphans, Wait, WaitTimeout, Volumes, Timeout, Scale, Connections}
 use Rattle.compose_words.specs.declared.table.CommandName.{CommandName}
@@ -30,11 +31,11 @@ once long short name value users = record { long = long; short = short; rule = r
 
 -- a number of seconds
 abbrev pub seconds : ValueKind
-seconds = ValueKind.Number 0 1000000
+seconds = ValueKind.Number 0 most_seconds
 
 -- a number of connections
 abbrev pub connections : ValueKind
-connections = ValueKind.Number 1 1000000
+connections = ValueKind.Number 1 most_connections
 
 -- the table of options
 unfoldable pub option_table : List OptionNames
@@ -71,7 +72,7 @@ command_table =
     record { word = codes "config"; rule = record { name = Config; value = ValueKind.Flag } }
     ∷ record { word = codes "up"; rule = record { name = Up; value = ValueKind.Flag } }
     ∷ record { word = codes "down"; rule = record { name = Down; value = ValueKind.Flag } }
-    ∷ record { word = codes "simulate"; rule = record { name = Simulate; value = ValueKind.Number 1 1000 } }
+    ∷ record { word = codes "simulate"; rule = record { name = Simulate; value = ValueKind.Number 1 most_simulated } }
     ∷ record { word = codes "wait"; rule = record { name = CommandName.Wait; value = ValueKind.Flag } }
     ∷ record { word = codes "logs"; rule = record { name = Logs; value = ValueKind.Flag } }
     ∷ record { word = codes "enginesim"; rule = record { name = EngineSim; value = ValueKind.Flag } }

@@ -7,13 +7,8 @@ ghost use Rattle.compose_words.specs.Contents.{content_of, format_content, is_nu
 use crate::options::Scale;
 use crate::table::ValueKind;
 use std::alloc::Global;
+use tree_base::limits::{MOST_CONTAINERS, MOST_WORKERS};
 use tree_base::{Memory, Text};
-
-/// The most workers that there may be.
-const MOST_WORKERS: u32 = 16;
-
-/// The most containers that a service may have.
-const MOST_CONTAINERS: u32 = 100;
 
 /// What a value says.
 #[derive(Drop)]

@@ -6,10 +6,8 @@ use crate::lookup::{Taker, first_format, first_number, scales};
 use crate::refusal::is_given;
 use crate::table::{CommandName, OptionName};
 use std::alloc::Global;
+use tree_base::limits::USUAL_WORKERS;
 use tree_base::{List, Memory, Text};
-
-/// How many workers there are where nothing is said.
-const USUAL_WORKERS: u32 = 4;
 
 /// How many containers a service has: 0 to 100.
 #[derive(Drop)]

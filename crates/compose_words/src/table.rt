@@ -2,6 +2,8 @@ ghost use Rattle.std.specs.Prelude.{◌≡◌, map};
 ghost use Rattle.compose_words.specs.Table.{option_named, option_assigned, command_named, is_named, is_assignable, names_of, option_table, command_table, serves, takes_value, word_of, is_word};
 ghost use Rattle.compose_words.specs.Usage.{shown_command, shown_commands, shown_option, shown_options};
 
+use tree_base::limits::{MOST_CONNECTIONS, MOST_SECONDS, MOST_SIMULATED};
+
 /// What an option is for, whatever its names on the command line are.
 #[derive(Clone, Copy, PartialEq, Eq)]
 pub enum OptionName {
@@ -101,12 +103,12 @@ pub struct CommandLine {
 
 const SECONDS: ValueKind = ValueKind::Number {
     least: 0,
-    most: 1_000_000,
+    most: MOST_SECONDS,
 };
 
 const CONNECTIONS: ValueKind = ValueKind::Number {
     least: 1,
-    most: 1_000_000,
+    most: MOST_CONNECTIONS,
 };
 
 const UP: Users = Users::One(CommandName::Up);
@@ -187,7 +189,7 @@ static COMMANDS: [CommandLine; 7] = command_lines! {
     "config" Config: ValueKind::Flag; "" "print the project as one normalized page"
     "up" Up: ValueKind::Flag; "" "create and start what the project declares"
     "down" Down: ValueKind::Flag; "" "stop and remove the project's containers and networks"
-    "simulate" Simulate: ValueKind::Number { least: 1, most: 1000 }; "N" "run a project of N services, 1 to 1000, against an Engine in memory"
+    "simulate" Simulate: ValueKind::Number { least: 1, most: MOST_SIMULATED }; "N" "run a project of N services, 1 to 1000, against an Engine in memory"
     "wait" Wait: ValueKind::Flag; "" "wait until the services run, are healthy or have completed"
     "logs" Logs: ValueKind::Flag; "" "print what the project's containers wrote"
     "enginesim" EngineSim: ValueKind::Flag; "" "serve an Engine in memory at a socket"

@@ -2,16 +2,13 @@
 use Rattle.std.specs.Prelude.{ℕ, ℤ, ◌*◌, List, Option, min, pos}
 use Rattle.std.specs.Int.{div_ceil}
 use Rattle.std.specs.Option.{option_map}
+use Rattle.tree_base.specs.Limits.{greatest_number}
 use Rattle.attribute_types.specs.Lookups.{number_at}
 use Rattle.attribute_types.specs.declared.attribute.Attribute.{Attribute}
 
--- the greatest number of 64 bits with a sign
-abbrev pub greatest : ℕ
-greatest = 9223372036854775807
-
 -- a number, or the greatest where it is above that
 abbrev pub signed : ℕ → ℤ
-signed number = pos (min number greatest)
+signed number = pos (min number greatest_number)
 
 -- the number under a name
 abbrev pub number_of : List Attribute → List ℕ → Option ℤ

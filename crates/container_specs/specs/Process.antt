@@ -1,6 +1,7 @@
 -- What runs in a container, and how it is stopped and started again (Compose Specification, `environment`, `restart`, `logging`).
 use Rattle.std.specs.Prelude.{ℕ, List, [], ◌∷◌, ◌++◌, Option, Some, None, codes, flat_map}
 use Rattle.std.specs.Option.{option_map}
+use Rattle.tree_base.specs.Limits.{greatest_number}
 use Rattle.attribute_types.specs.declared.attribute.Attribute.{Attribute}
 use Rattle.attribute_types.specs.declared.rows.Logging.{Logging}
 use Rattle.engine_types.specs.declared.LogConfig.{LogConfig}
@@ -9,7 +10,7 @@ use Rattle.short_forms.specs.Cuts.{cut_once}
 use Rattle.short_forms.specs.Digits.{number_up_to}
 use Rattle.tree_base.specs.ByteOrder.{by_key}
 use Rattle.container_specs.specs.Lists.{named_pairs, unless_empty, vars_of}
-use Rattle.container_specs.specs.Numbers.{greatest, signed}
+use Rattle.container_specs.specs.Numbers.{signed}
 
 -- a variable as the Engine takes it; one without a value isn't sent
 abbrev pub setting_of : List ℕ → Option (List ℕ) → List (List ℕ)
@@ -27,7 +28,7 @@ env_of attributes =
 abbrev pub policy_of : List ℕ → Option (List ℕ × List ℕ) → RestartPolicy
 policy_of word None = record { name = word; maximum_retry_count = None }
 policy_of word (Some (name, tries)) =
-    record { name = name; maximum_retry_count = option_map signed (number_up_to greatest tries) }
+    record { name = name; maximum_retry_count = option_map signed (number_up_to greatest_number tries) }
 
 -- when the container is started again
 abbrev pub restart_policy_of : List ℕ → RestartPolicy

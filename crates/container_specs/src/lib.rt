@@ -9,7 +9,6 @@ mod health;
 mod host;
 mod laws;
 mod lists;
-mod maker;
 mod mounts;
 mod networks;
 mod numbers;

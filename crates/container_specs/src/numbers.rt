@@ -2,14 +2,13 @@ ghost use Rattle.std.specs.Prelude.{◌≡◌};
 ghost use Rattle.std.specs.Option.{option_map};
 ghost use Rattle.container_specs.specs.Numbers.{nanoseconds, seconds, signed};
 
-/// The greatest number of 64 bits with a sign.
-pub(crate) const GREATEST: u64 = 9_223_372_036_854_775_807;
+use tree_base::limits::GREATEST_NUMBER;
 
 /// A number of 64 bits with a sign, the greatest where the number is above that. No memory.
 pub(crate) fn signed(number: u64) -> i64
     ensures { result ≡ signed number }
 {
-    number.min(GREATEST) as i64
+    number.min(GREATEST_NUMBER) as i64
 }
 
 /// Such a number, where there is one. No memory.

@@ -4,11 +4,12 @@ ghost use Rattle.attribute_types.specs.Lookups.{logging_at, text_at};
 ghost use Rattle.container_specs.specs.Process.{env_of, log_config_of, restart_policy_of, setting_of};
 
 use crate::lists::{in_byte_order, joined, unless_empty, vars_of};
-use crate::numbers::{GREATEST, signed_option};
+use crate::numbers::signed_option;
 use attribute_types::{Logging, Pairs};
 use engine_types::{LogConfig, RestartPolicy};
 use short_forms::{cut_text, number};
 use std::alloc::Global;
+use tree_base::limits::GREATEST_NUMBER;
 use tree_base::{List, Memory, Text, TryCopy};
 use typed_project::Service;
 
@@ -90,7 +91,7 @@ fn policy_of(alloc: Global, word: &Text) -> Result<RestartPolicy, Memory>
         }),
         Some((name, tries)) => Ok(RestartPolicy {
             name: Text::from_str(alloc, name)?,
-            maximum_retry_count: signed_option(number(tries.as_bytes(), GREATEST)),
+            maximum_retry_count: signed_option(number(tries.as_bytes(), GREATEST_NUMBER)),
         }),
     }
 }

@@ -2,12 +2,12 @@ ghost use Rattle.std.specs.Prelude.{◌≡◌, false, codes, IfOk};
 ghost use Rattle.std.specs.Option.{option_map};
 ghost use Rattle.container_specs.specs.Specs.{container_spec};
 
-use crate::maker::Maker;
+use crate::fields;
 use crate::networks::networks_by_name;
 use crate::numbers::{seconds, signed_option};
 use engine_types::{ContainerSpec, Pairs};
 use std::alloc::Global;
-use tree_base::{Memory, Text};
+use tree_base::{Copier, Memory, Text};
 use typed_project::{Project, Service};
 
 /// What the Engine is sent of a service's container, with these labels and this image: each field from the attribute that gives it, None
@@ -24,56 +24,56 @@ pub fn container_spec(
 {
     let networks = networks_by_name(alloc, project, service)?;
     let image = Text::from_str(alloc, image)?;
-    let mut maker = Maker::new(alloc);
+    let mut copier = Copier::new(alloc);
     let spec = ContainerSpec {
         labels,
-        platform: maker.copy(service.platform()),
+        platform: copier.copy(service.platform()),
         image: Some(image),
-        cmd: maker.copy(service.command()),
-        entrypoint: maker.copy(service.entrypoint()),
-        env: maker.env(service),
-        hostname: maker.copy(service.hostname()),
-        domainname: maker.copy(service.domainname()),
-        user: maker.copy(service.user()),
-        working_dir: maker.copy(service.working_dir()),
-        stop_signal: maker.copy(service.stop_signal()),
+        cmd: copier.copy(service.command()),
+        entrypoint: copier.copy(service.entrypoint()),
+        env: fields::env(&mut copier, service),
+        hostname: copier.copy(service.hostname()),
+        domainname: copier.copy(service.domainname()),
+        user: copier.copy(service.user()),
+        working_dir: copier.copy(service.working_dir()),
+        stop_signal: copier.copy(service.stop_signal()),
         open_stdin: service.stdin_open(),
         tty: service.tty(),
         privileged: service.privileged(),
         readonly_rootfs: service.read_only(),
         init: service.init(),
-        cap_add: maker.texts(service.cap_add()),
-        cap_drop: maker.texts(service.cap_drop()),
-        security_opt: maker.texts(service.security_opt()),
-        group_add: maker.texts(service.group_add()),
-        dns: maker.texts(service.dns()),
-        dns_search: maker.texts(service.dns_search()),
-        dns_options: maker.texts(service.dns_opt()),
-        extra_hosts: maker.extra_hosts(service),
-        sysctls: maker.sysctls(service),
-        ipc_mode: maker.copy(service.ipc()),
-        pid_mode: maker.copy(service.pid()),
-        userns_mode: maker.copy(service.userns_mode()),
-        cpuset_cpus: maker.copy(service.cpuset()),
+        cap_add: fields::texts(&mut copier, service.cap_add()),
+        cap_drop: fields::texts(&mut copier, service.cap_drop()),
+        security_opt: fields::texts(&mut copier, service.security_opt()),
+        group_add: fields::texts(&mut copier, service.group_add()),
+        dns: fields::texts(&mut copier, service.dns()),
+        dns_search: fields::texts(&mut copier, service.dns_search()),
+        dns_options: fields::texts(&mut copier, service.dns_opt()),
+        extra_hosts: fields::extra_hosts(&mut copier, service),
+        sysctls: fields::sysctls(&mut copier, service),
+        ipc_mode: copier.copy(service.ipc()),
+        pid_mode: copier.copy(service.pid()),
+        userns_mode: copier.copy(service.userns_mode()),
+        cpuset_cpus: copier.copy(service.cpuset()),
         shm_size: signed_option(service.shm_size()),
         memory: signed_option(service.mem_limit()),
         memory_reservation: signed_option(service.mem_reservation()),
         nano_cpus: signed_option(service.cpus()),
         cpu_shares: signed_option(service.cpu_shares()),
         pids_limit: service.pids_limit(),
-        ulimits: maker.ulimits(service),
-        devices: maker.devices(service),
-        log_config: maker.log_config(service),
-        restart_policy: maker.restart_policy(service),
-        exposed_ports: maker.exposed_ports(service),
-        port_bindings: maker.port_bindings(service),
-        binds: maker.binds(project, service),
-        volumes: maker.volumes(service),
-        tmpfs: maker.tmpfs(service),
-        network_mode: maker.network_mode(&networks, service),
-        endpoints_config: maker.endpoints(&networks),
-        healthcheck: maker.healthcheck(service),
+        ulimits: fields::ulimits(&mut copier, service),
+        devices: fields::devices(&mut copier, service),
+        log_config: fields::log_config(&mut copier, service),
+        restart_policy: fields::restart_policy(&mut copier, service),
+        exposed_ports: fields::exposed_ports(&mut copier, service),
+        port_bindings: fields::port_bindings(&mut copier, service),
+        binds: fields::binds(&mut copier, project, service),
+        volumes: fields::volumes(&mut copier, service),
+        tmpfs: fields::tmpfs(&mut copier, service),
+        network_mode: fields::network_mode(&mut copier, &networks, service),
+        endpoints_config: fields::endpoints(&mut copier, &networks),
+        healthcheck: fields::healthcheck(&mut copier, service),
         stop_timeout: seconds(service.stop_grace_period()),
     };
-    maker.whole(spec)
+    copier.whole(spec)
 }

@@ -1,6 +1,7 @@
 -- A run may be cut off after each of its moves.
 use Rattle.std.proofs.Common.{◌≡◌, ℕ, true, false, List, [], ◌∷◌, ◌++◌, reverse, Some, is_some, refl, sym, ap, ◌∙◌, subst, inl, inr}
 use Rattle.std.proofs.lemmas.List.{reverse-append, reverse-reverse}
+use Rattle.engine_types.specs.declared.Aim.{Aim}
 use Rattle.engine_types.specs.declared.Declared.{Declared}
 use Rattle.engine_types.specs.declared.Engine.{Engine}
 use Rattle.engine_types.specs.declared.Entry.{Entry}
@@ -12,7 +13,6 @@ use Rattle.run_model.specs.Cuts.{IsCutJournal, IsCutSeeing, TellsImages}
 use Rattle.run_model.specs.Journals.{Setup, seen_in}
 use Rattle.run_model.specs.Legal.{IsLegal, MayStand}
 use Rattle.run_model.specs.Observation.{is_asked, observed}
-use Rattle.run_model.specs.Plans.{Aim}
 use Rattle.run_model.specs.Requests.{OfAction, OfPoll, OfSeen, Source, asked}
 use Rattle.run_model.specs.Worlds.{Changed, Did, Effect, Fits, FitsLast, FitsSeen, Move, Took, World, entries_of, seen_effects}
 use Rattle.cut_laws.specs.Once.{CutsAnywhere}

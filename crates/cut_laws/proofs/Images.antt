@@ -4,6 +4,7 @@ use Rattle.std.proofs.lemmas.List.{reverse-append}
 use Rattle.std.proofs.lemmas.Slice.Eq.{bytes_eq-Decides}
 use Rattle.std.specs.Prelude.{if◌then◌else◌}
 use Rattle.std.specs.Str.{bytes_eq}
+use Rattle.engine_types.specs.declared.Aim.{Aim}
 use Rattle.engine_types.specs.declared.Entry.{Entry}
 use Rattle.engine_types.specs.declared.Exchange.{Exchange}
 use Rattle.engine_types.specs.declared.Outcome.{Outcome}
@@ -15,7 +16,7 @@ use Rattle.run_model.specs.EngineRules.{Among}
 use Rattle.run_model.specs.Journals.{Setup, seen_in}
 use Rattle.run_model.specs.Legal.{IsLegal}
 use Rattle.run_model.specs.Observation.{is_up}
-use Rattle.run_model.specs.Plans.{Aim, seen_image}
+use Rattle.run_model.specs.Plans.{seen_image}
 use Rattle.run_model.specs.Told.{answered, id_after, id_told}
 use Rattle.world_laws.proofs.Looks.{from_reverse}
 use Rattle.world_laws.proofs.Observing.{IsSeenWell, good_end, told_by}

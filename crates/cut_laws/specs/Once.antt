@@ -3,6 +3,7 @@ use Rattle.std.specs.Prelude.{◌≡◌, ◌⊎◌, ℕ, ◌+◌, ◌≤◌, Boo
 use Rattle.std.specs.Option.{option_map_or}
 use Rattle.engine_types.specs.declared.ActionKind.{ActionKind}
 use Rattle.engine_types.specs.declared.ActionKind.TheVariants.{CreateSlot, RemoveContainer, StopContainer, StopKept}
+use Rattle.engine_types.specs.declared.Aim.{Aim}
 use Rattle.engine_types.specs.declared.ContainerRow.{ContainerRow}
 use Rattle.engine_types.specs.declared.Declared.{Declared}
 use Rattle.engine_types.specs.declared.Engine.{Engine}
@@ -14,7 +15,7 @@ use Rattle.run_model.specs.EngineRules.{Among, container_at}
 use Rattle.run_model.specs.Journals.{Setup, seen_in}
 use Rattle.run_model.specs.Labels.{agrees}
 use Rattle.run_model.specs.Observation.{is_up}
-use Rattle.run_model.specs.Plans.{Aim, IsWhole, kept, kind_of, slot_at}
+use Rattle.run_model.specs.Plans.{IsWhole, kept, kind_of, slot_at}
 use Rattle.run_model.specs.Requests.{OfAction}
 use Rattle.run_model.specs.Runs.{IsRun, IsWorldOfRun, Task}
 use Rattle.run_model.specs.Worlds.{Move, effect_of, entries_of, is_unsure, outcome_of}

@@ -6,7 +6,7 @@ use Rattle.declared_set.specs.Declaring.{declared_of}
 use Rattle.engine_types.specs.declared.Seen.{Seen}
 use Rattle.plan_core.specs.Order.{HasNoCycle}
 use Rattle.run_laws.specs.Orders.{NeedsDependencies}
-use Rattle.run_model.specs.Plans.{IsOrderly, down_basis, up_basis}
+use Rattle.run_model.specs.Plans.{IsOrderly, basis_of, down_aim, up_aim}
 use Rattle.run_model.specs.Rolling.{run_actions}
 use Rattle.service_graph.specs.Cycles.{cycle}
 use Rattle.service_hashes.specs.declared.digest.FileDigest.{FileDigest}
@@ -30,5 +30,5 @@ ProjectsCanBeRun =
     (project : Project) (scales : List Scale) (digests : List FileDigest) (seen : Seen) (orphans volumes : Bool)
     → IsInOrder project.services → AreNumbered scales project.services → cycle project.services ≡ None
     → let declared = declared_of project scales digests in
-    IsOrderly declared (run_actions (up_basis declared seen orphans))
-    × IsOrderly declared (run_actions (down_basis declared seen orphans volumes))
+    IsOrderly declared (run_actions (basis_of declared seen (up_aim orphans)))
+    × IsOrderly declared (run_actions (basis_of declared seen (down_aim orphans volumes)))

@@ -2,6 +2,7 @@
 use Rattle.std.specs.Prelude.{ℕ, nat_le, List, Option, Some, None, flat_map, if◌then◌else◌, map}
 use Rattle.std.specs.List.{range_with_len}
 use Rattle.std.specs.Option.{option_map, option_or}
+use Rattle.tree_base.specs.Limits.{most_needs}
 use Rattle.compose_words.specs.declared.options.Scale.{Scale}
 use Rattle.declared_slots.specs.Counts.{ranges_of, scale_of}
 use Rattle.declared_slots.specs.Named.{name_of}
@@ -10,10 +11,6 @@ use Rattle.declared_slots.specs.Refusing.{twice_named, unknown_scale}
 use Rattle.typed_project.specs.declared.project.Project.{Project}
 use Rattle.typed_project.specs.declared.service.Service.{Service}
 use Rattle.declared_set.specs.declared.refusal.IdentityRefusal.{IdentityRefusal}
-
--- the most needs that the slots of a project have together
-abbrev pub most_needs : ℕ
-most_needs = 4000000
 
 -- too many needs
 abbrev pub too_many : ℕ → Option IdentityRefusal

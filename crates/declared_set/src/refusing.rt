@@ -11,11 +11,9 @@ ghost use Rattle.declared_set.specs.Refusing.{names_of, refusal_of, too_many};
 use crate::refusal::IdentityRefusal;
 use declared_slots::{Range, Scale, name, need_count, scale, twice_named, unknown_scale};
 use std::alloc::Global;
+use tree_base::limits::MOST_NEEDS;
 use tree_base::{Memory, Text, TextMap};
 use typed_project::{Project, Service};
-
-/// The most needs that the slots of a project have together.
-const MOST_NEEDS: u64 = 4_000_000;
 
 /// For what a project's declared set is refused, where these are the slots of its services. Memory where there is no memory to find out.
 pub(crate) fn refusal_of(

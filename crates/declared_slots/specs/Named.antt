@@ -1,6 +1,7 @@
 -- What a slot is called, what its image is and when that is pulled, and how long its stop waits (Compose Specification: services).
 use Rattle.std.specs.Prelude.{ℕ, ◌+◌, ◌/◌, Bool, if◌then◌else◌, List, [], ◌∷◌, ◌++◌, Option, Some, None, codes, decimal, is_some, unwrap_or}
 use Rattle.std.specs.Str.{bytes_eq}
+use Rattle.tree_base.specs.Limits.{usual_stop_seconds}
 use Rattle.attribute_types.specs.Lookups.{kept_at, number_at, text_at}
 use Rattle.engine_types.specs.declared.declared.Policy.{Policy}
 use Rattle.typed_project.specs.declared.service.Service.{Service}
@@ -37,4 +38,4 @@ in_seconds micros = (micros + 999999) / 1000000
 -- how many seconds a stop waits before it kills
 abbrev pub stop_seconds : Service → ℕ
 stop_seconds service =
-    in_seconds (unwrap_or (number_at service.attributes (codes "stop_grace_period")) 10000000)
+    in_seconds (unwrap_or (number_at service.attributes (codes "stop_grace_period")) (usual_stop_seconds * 1000000))

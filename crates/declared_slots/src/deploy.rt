@@ -7,11 +7,9 @@ ghost use Rattle.attribute_scalars.specs.Scalars.{num_of, text_in};
 
 use attribute_scalars::{num_of, text_of};
 use short_forms::number;
+use tree_base::limits::MOST_CONTAINERS;
 use tree_base::{Map, Text, Tree};
 use typed_project::Service;
-
-/// The most containers of a service.
-const MOST_CONTAINERS: u64 = 100;
 
 /// `replicas` of a service's `deploy`. No memory.
 pub(crate) fn replicas_of(service: &Service) -> Option<u64>
@@ -34,7 +32,7 @@ fn text_in<'a>(key: &str, tree: &'a Tree) -> Option<&'a Text>
 fn count_of(text: &Text) -> Option<u64>
     ensures { result ≡ count_of text.now }
 {
-    number(text.as_str().as_bytes(), MOST_CONTAINERS)
+    number(text.as_str().as_bytes(), MOST_CONTAINERS as u64)
 }
 
 /// How many containers of a service a rolling update replaces at a time: at least one. None where it replaces all at once.

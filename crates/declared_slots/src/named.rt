@@ -3,14 +3,12 @@ ghost use Rattle.declared_slots.specs.Named.{has_build, image_of, in_seconds, na
 
 use engine_types::Policy;
 use std::alloc::Global;
+use tree_base::limits::USUAL_STOP_SECONDS;
 use tree_base::{Memory, Text};
 use typed_project::Service;
 
 /// How many microseconds a second has.
 const SECOND: u64 = 1_000_000;
-
-/// How long a stop waits where no attribute says so, in microseconds.
-const USUAL_WAIT: u64 = 10_000_000;
 
 /// The name of a service's container with a number, in a project of this name. Memory where there is no memory for it.
 pub fn name(alloc: Global, project: &Text, service: &Service, number: u32) -> Result<Text, Memory>
@@ -82,6 +80,6 @@ pub fn stop_seconds(service: &Service) -> u64
 {
     service
         .stop_grace_period()
-        .unwrap_or(USUAL_WAIT)
+        .unwrap_or(USUAL_STOP_SECONDS * SECOND)
         .div_ceil(SECOND)
 }

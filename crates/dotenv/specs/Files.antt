@@ -2,6 +2,7 @@
 use Rattle.std.specs.Prelude.{ℕ, ◌+◌, List, [], ◌∷◌, Bool, true, false, Option, Some, None, Result, Ok, Err, min, ◌==◌, if◌then◌else◌}
 use Rattle.std.specs.Str.{is_utf8, chars}
 use Rattle.std.specs.Str.Lines.{lines}
+use Rattle.tree_base.specs.Limits.{greatest_place}
 use Rattle.tree_base.specs.Answers.{◌>>=◌}
 use Rattle.tree_base.specs.Answers as answers
 use Rattle.tree_base.specs.Entries.{value_at, with_entry}
@@ -24,7 +25,7 @@ feed_len (c ∷ cs) = if c == 10 then 0 else feed_len cs + 1
 
 -- the number of a line as a `u32`, where one past the greatest is that
 abbrev pub line_number : ℕ → ℕ
-line_number n = min n 4294967295
+line_number n = min n greatest_place
 
 -- why a line isn't read, with its number
 abbrev pub numbered : ℕ → LineRefusal → EnvRefusal

@@ -9,6 +9,7 @@ use crate::line::{Line, read_line};
 use crate::refusal::{EnvRefusal, LineRefusal};
 use interpolate::{SubstRefusal, subst};
 use std::alloc::Global;
+use tree_base::limits::GREATEST_PLACE;
 use tree_base::{Env, Memory, Text, TryCopy};
 
 /// The variables that an env file gives, in the order in which their keys first come.
@@ -65,7 +66,7 @@ fn put_lines(
 fn line_number(number: usize) -> u32
     ensures { result ≡ line_number number }
 {
-    number.min(4_294_967_295) as u32
+    number.min(GREATEST_PLACE) as u32
 }
 
 /// How many bytes stand before the first line feed.

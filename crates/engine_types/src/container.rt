@@ -1,10 +1,9 @@
 ghost use Rattle.std.specs.Prelude.{◌≡◌, IfOk};
 ghost use Rattle.engine_types.specs.Specs.{empty_spec};
 
-use crate::copier::Copier;
 use crate::resource::Pairs;
 use std::alloc::Global;
-use tree_base::{List, Memory, Text, TryCopy};
+use tree_base::{Copier, List, Memory, Text, TryCopy};
 
 /// A container as the Engine API's `POST /containers/create` takes it: one field for each member of the
 /// body, named as the member with `_` between its words. A member under `HostConfig` or `NetworkingConfig`

@@ -1,9 +1,8 @@
 ghost use Rattle.std.specs.Prelude.{◌≡◌, IfOk};
 
-use crate::copier::Copier;
 use crate::resource::Pairs;
 use std::alloc::Global;
-use tree_base::{List, Memory, Text, TryCopy};
+use tree_base::{Copier, List, Memory, Text, TryCopy};
 
 /// What the Engine answers.
 #[derive(Drop)]

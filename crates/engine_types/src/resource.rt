@@ -2,9 +2,8 @@ ghost use Rattle.std.specs.Prelude.{◌≡◌, IfOk};
 ghost use Rattle.std.specs.Option.{option_copied};
 ghost use Rattle.engine_types.specs.Labels.{label};
 
-use crate::copier::Copier;
 use std::alloc::Global;
-use tree_base::{List, Memory, Text, TryCopy, Var};
+use tree_base::{Copier, List, Memory, Text, TryCopy, Var};
 
 /// Names with their values, in byte order of the distinct names, as of labels.
 pub type Pairs = List<Var>;

@@ -1,12 +1,11 @@
 ghost use Rattle.std.specs.Prelude.{◌≡◌, IfOk};
 
-use crate::copier::Copier;
 use crate::declared::Kind;
 use crate::exchange::{Exchange, WireEnd};
 use crate::reply::{ImageRow, Listed, NetRow};
 use crate::request::Request;
 use std::alloc::Global;
-use tree_base::{List, Memory, Text, TryCopy};
+use tree_base::{Copier, List, Memory, Text, TryCopy};
 
 /// What an observation saw of the Engine.
 #[derive(Drop)]

@@ -1,5 +1,6 @@
 -- The digests of the files of a project's configs and secrets, by what the reads of these files answer.
 use Rattle.std.specs.Prelude.{◌≡◌, ℕ, List, [], ◌∷◌, ◌++◌, Option, IfSome, Result, Ok, Err, map}
+use Rattle.tree_base.specs.Limits.{most_file_bytes}
 use Rattle.sha2.specs.Sha256.{sha256}
 use Rattle.hex.specs.Hex.{encode_lower}
 use Rattle.engine_types.specs.declared.declared.Kind.{Kind}
@@ -12,10 +13,6 @@ use Rattle.typed_project.specs.declared.project.FileItem.{FileItem}
 use Rattle.typed_project.specs.declared.project.Project.{Project}
 use Rattle.file_digests.specs.declared.refusal.DigestRefusal.{DigestRefusal}
 use Rattle.file_digests.specs.declared.refusal.DigestRefusal.TheVariants as refusals
-
--- the greatest number of bytes of a file
-abbrev pub file_limit : ℕ
-file_limit = 4194304
 
 -- the digest of an item whose file has these bytes: their SHA-256 (FIPS 180-4) in lower hexadecimal
 abbrev pub digest_of : Kind → FileItem → List ℕ → FileDigest
@@ -31,7 +28,7 @@ digest_read kind item Memory = Err refusals.Memory
 
 -- an answer that the read of an item's file may give
 abbrev pub MayAnswer : Option Contents → FileItem → FileAnswer → Type 0
-MayAnswer told item answer = IfSome told (λ files. IsReadOf files item.file file_limit answer)
+MayAnswer told item answer = IfSome told (λ files. IsReadOf files item.file most_file_bytes answer)
 
 -- digests, or the refusal of the first that there is none of
 abbrev pub Given : Type 0

@@ -9,11 +9,9 @@ use outside_files::{FileAnswer, Files};
 use service_hashes::FileDigest;
 use sha2::{Digest, Sha256};
 use std::alloc::Global;
+use tree_base::limits::MOST_FILE_BYTES;
 use tree_base::{List, Memory, Text};
 use typed_project::{FileItem, Project};
-
-/// The greatest number of bytes of a file.
-const FILE_LIMIT: u64 = 4_194_304;
 
 /// The digests of the files of a project's configs and then of its secrets, in the order of their keys, or the refusal of the first
 /// file that there is none of. A file has at most 4,194,304 bytes.
@@ -71,7 +69,7 @@ fn digest_of<F: Files>(
     ensures counted { F.faults files.old ≤ F.faults files.new }
     ensures kept { F.told files.new ≡ F.told files.old }
 {
-    let answer = files.read(alloc, &item.file, FILE_LIMIT);
+    let answer = files.read(alloc, &item.file, MOST_FILE_BYTES);
     digest_read(alloc, kind, item, answer)
 }
 

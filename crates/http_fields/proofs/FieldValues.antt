@@ -8,12 +8,12 @@ use Rattle.std.specs.List.{filter, list_all, list_any}
 use Rattle.std.specs.Prelude.{IsTrue, ◌↔◌, Result}
 use Rattle.std.specs.Str.{str_eq_ignore_ascii_case}
 use Rattle.std.specs.Str.Parse.{digits_value}
+use Rattle.tree_base.specs.Limits.{most_body_bytes}
 use Rattle.engine_types.specs.declared.WireEnd.{WireEnd}
 use Rattle.httparse.specs.Grammar.{Field, field_value}
 use Rattle.httparse.specs.Spans.{IsHeaderWithin, header_bytes, name_and_value, span_bytes}
 use Rattle.httparse.specs.declared.spans.HeaderSpan.{HeaderSpan}
 use Rattle.response_rules.specs.Heads.{Framing, chunked, fault_by, framing, framing_of, is_encoded, is_length, sized, to_end, values}
-use Rattle.response_rules.specs.Lines.{body_limit}
 use Rattle.http_fields.specs.Fields.{AreWithin, Cover, FramingBy, IsFirst, capped, framing_told, is_past_limit, named, values_at}
 use Rattle.http_fields.specs.declared.fields.Framing.{Framing as ReadFraming}
 
@@ -125,12 +125,12 @@ pub encoded_fault : (at : ℕ) (found : Option Framing) (f : ReadFraming) → So
 encoded_fault at None f e = absurd (cc e)
 encoded_fault at (Some g) f e = refl
 
-past_cap : (n : ℕ) → nat_lt body_limit (min n 18446744073709551615) ≡ nat_lt body_limit n
-past_cap n = at (cases_lt body_limit n)
+past_cap : (n : ℕ) → nat_lt most_body_bytes (min n 18446744073709551615) ≡ nat_lt most_body_bytes n
+past_cap n = at (cases_lt most_body_bytes n)
   where
-    at : (body_limit < n) ⊎ (n ≤ body_limit) → nat_lt body_limit (min n 18446744073709551615) ≡ nat_lt body_limit n
-    at (inl over) = lt-ltb body_limit (min n 18446744073709551615) (omega (arith, over)) ∙ sym (lt-ltb body_limit n over)
-    at (inr under) = le-ltb body_limit (min n 18446744073709551615) (omega (arith, under)) ∙ sym (le-ltb body_limit n under)
+    at : (most_body_bytes < n) ⊎ (n ≤ most_body_bytes) → nat_lt most_body_bytes (min n 18446744073709551615) ≡ nat_lt most_body_bytes n
+    at (inl over) = lt-ltb most_body_bytes (min n 18446744073709551615) (omega (arith, over)) ∙ sym (lt-ltb most_body_bytes n over)
+    at (inr under) = le-ltb most_body_bytes (min n 18446744073709551615) (omega (arith, under)) ∙ sym (le-ltb most_body_bytes n under)
 
 pub long_fault : (at : ℕ) (found : Option Framing) (f : ReadFraming) → Some f ≡ capped found → is_past_limit f ≡ true → fault_by at found false ≡ Some WireEnd.TooLarge
 long_fault at None f e past = absurd (cc e)
@@ -147,8 +147,8 @@ sound_framing at (Some to_end) f e short = let same : f ≡ ReadFraming.ToEnd = 
 sound_framing at (Some chunked) f e short = let same : f ≡ ReadFraming.Chunked = cc e in (ap (λ (g : ReadFraming). Some (framing_told g)) (sym same), refl)
 sound_framing at (Some (sized n)) f e short =
     let same : f ≡ ReadFraming.Sized (min n 18446744073709551615) = cc e in
-    let plain : nat_lt body_limit n ≡ false = sym (past_cap n) ∙ sym (ap is_past_limit same) ∙ short in
-    let small : n ≤ body_limit = ltb-false body_limit n plain in
+    let plain : nat_lt most_body_bytes n ≡ false = sym (past_cap n) ∙ sym (ap is_past_limit same) ∙ short in
+    let small : n ≤ most_body_bytes = ltb-false most_body_bytes n plain in
     let kept : min n 18446744073709551615 ≡ n = omega (arith, small) in (
       sym (ap (λ (g : ReadFraming). Some (framing_told g)) same ∙ ap (λ (m : ℕ). Some (sized m)) kept),
       ap (λ (v : Bool). if v then Some WireEnd.TooLarge else None) plain,

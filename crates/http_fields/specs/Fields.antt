@@ -1,12 +1,12 @@
 -- The fields of a head by the spans that the parser answers.
 use Rattle.std.specs.Prelude.{◌≡◌, ℕ, ◌<◌, min, nat_lt, Bool, false, List, ◌∷◌, length, map, filter, Option, Some, None, Result, Ok, Err, All}
 use Rattle.std.specs.Str.{str_eq_ignore_ascii_case}
+use Rattle.tree_base.specs.Limits.{most_body_bytes}
 use Rattle.engine_types.specs.declared.WireEnd.{WireEnd}
 use Rattle.httparse.specs.Grammar.{Field}
 use Rattle.httparse.specs.Spans.{IsHeaderWithin, header_bytes, name_and_value}
 use Rattle.httparse.specs.declared.spans.HeaderSpan.{HeaderSpan}
 use Rattle.response_rules.specs.Heads.{Framing, chunked, fault_by, sized, to_end}
-use Rattle.response_rules.specs.Lines.{body_limit}
 use Rattle.http_fields.specs.declared.fields.Framing.{Framing as ReadFraming}
 
 -- the values with a name, in whatever case it is written (RFC 9110, section 5.1)
@@ -49,7 +49,7 @@ capped (Some chunked) = Some ReadFraming.Chunked
 
 -- whether a length is past the limit of a body
 abbrev pub is_past_limit : ReadFraming → Bool
-is_past_limit (ReadFraming.Sized n) = nat_lt body_limit n
+is_past_limit (ReadFraming.Sized n) = nat_lt most_body_bytes n
 is_past_limit _ = false
 
 -- what is read of a framing and of a coding of the content: the framing without a fault, or their

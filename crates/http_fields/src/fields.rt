@@ -11,9 +11,7 @@ ghost use Rattle.http_fields.specs.Fields.{AreWithin, Cover, FramingBy, IsFirst,
 
 use engine_types::WireEnd;
 use httparse::spans::HeaderSpan;
-
-/// The most bytes of a body.
-pub const BODY_LIMIT: u64 = 16777216;
+use tree_base::limits::MOST_BODY_BYTES;
 
 /// Where a body ends (RFC 9112, section 6.3).
 #[derive(Clone, Copy, PartialEq, Eq)]
@@ -60,7 +58,7 @@ fn is_too_long(framing: Framing) -> bool
     ensures { result ≡ is_past_limit framing }
 {
     match framing {
-        Framing::Sized(length) => length > BODY_LIMIT,
+        Framing::Sized(length) => length > MOST_BODY_BYTES,
         Framing::ToEnd => false,
         Framing::Chunked => false,
     }

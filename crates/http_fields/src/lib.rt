@@ -4,4 +4,4 @@
 
 mod fields;
 
-pub use fields::{BODY_LIMIT, Framing, framing_or_fault};
+pub use fields::{Framing, framing_or_fault};

@@ -12,11 +12,9 @@ use crate::speaking::speak;
 use engine_types::{Exchange, Outcome, Request};
 use outside_api::{Hand, Wire};
 use std::alloc::Global;
+use tree_base::limits::MOST_EXCHANGES;
 use tree_base::{ReservedList, TryCopy};
 use wires::EvenWire;
-
-/// The most exchanges that a hand makes; there is no room for more.
-const MOST_EXCHANGES: usize = 4_611_686_018_427_387_904;
 
 /// A hand over a wire. It tells what it heard where its wire tells what was said, and no Engine. Its clock and its count of
 /// faults are the wire's.

@@ -4,9 +4,7 @@ ghost use Rattle.http_heads.specs.Feeds.{HasNoFeed};
 ghost use Rattle.http_heads.specs.Searches.{part_told};
 
 use crate::line_search::SearchAnswer;
-
-/// The most bytes of a chunk line.
-const LINE_LIMIT: usize = 65536;
+use tree_base::limits::MOST_HEAD_BYTES;
 
 /// A search for the line feed that ends a chunk line (RFC 9112, section 7.1). Each byte is looked at once, however the
 /// bytes are cut.
@@ -32,9 +30,9 @@ impl ChunkLineSearch {
         ensures followed { result ≡ SearchAnswer.Unfinished → HasNoFeed self.new bytes.now }
     {
         self.follow(bytes);
-        if self.at < bytes.len() && self.at < LINE_LIMIT {
+        if self.at < bytes.len() && self.at < MOST_HEAD_BYTES {
             SearchAnswer::Ends(self.at + 1)
-        } else if bytes.len() > LINE_LIMIT {
+        } else if bytes.len() > MOST_HEAD_BYTES {
             SearchAnswer::Passed
         } else {
             SearchAnswer::Unfinished

@@ -3,12 +3,13 @@ use Rattle.std.proofs.Common.{◌≡◌, ℕ, ◌+◌, ◌<◌, ◌≤◌, ◌||
 use Rattle.std.proofs.Math.Seq.{drop-append_seam}
 use Rattle.std.proofs.lemmas.List.{append-nil, length-append, length-take-le, take-append-drop, take-append-le}
 use Rattle.std.specs.Prelude.{Err, Ok}
+use Rattle.tree_base.specs.Limits.{most_head_bytes}
 use Rattle.engine_types.specs.declared.WireEnd.{WireEnd}
 use Rattle.httparse.specs.Grammar.{ChunkLine, HasNoChunkLine, NeverHasChunkLine, print_chunk_line}
 use Rattle.httparse.specs.Spans.{IsChunkLineAt}
 use Rattle.outside_api.specs.Pipes.{Talk}
 use Rattle.response_rules.specs.Chunks.{BreaksChunk, line_bad, line_cut, line_long}
-use Rattle.response_rules.specs.Lines.{Part, chunk_line_part, ends, head_limit}
+use Rattle.response_rules.specs.Lines.{Part, chunk_line_part, ends}
 use Rattle.http_heads.specs.Feeds.{HasNoFeed}
 use Rattle.http_heads.specs.Searches.{IsLine, part_told}
 use Rattle.http_heads.specs.declared.chunk_line_search.ChunkLineSearch.{ChunkLineSearch}
@@ -73,7 +74,7 @@ module _ (old mid : Stock) (a b : Option Talk) (f g end : ℕ) (found : Hears a 
   abbrev tail : List ℕ
   tail = left old ++ found.more
 
-  fits : (end ≤ head_limit) × (end ≤ length tail)
+  fits : (end ≤ most_head_bytes) × (end ≤ length tail)
   fits = line_within tail end found.comes.1
 
   pub end_fits : (bytes : List ℕ) → bytes ≡ left mid → end ≤ length bytes

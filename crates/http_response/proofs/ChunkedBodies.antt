@@ -4,13 +4,13 @@ use Rattle.std.proofs.Math.Seq.{drop-append_seam}
 use Rattle.std.proofs.lemmas.List.{append-nil, length-append, take-append-drop}
 use Rattle.std.proofs.lemmas.List.Elements.{All-push}
 use Rattle.std.specs.Prelude.{Err, Ok}
+use Rattle.tree_base.specs.Limits.{most_body_bytes}
 use Rattle.engine_types.specs.declared.WireEnd.{WireEnd}
 use Rattle.httparse.specs.Ascii.{crlf_bytes}
 use Rattle.httparse.specs.Grammar.{ChunkLine, chunk_size, print_chunk_line}
 use Rattle.outside_api.specs.Pipes.{Talk}
 use Rattle.response_rules.specs.Chunks.{BeginsWithLine, BeginsWithTrailer, BreaksChunk, BreaksTrailer, Chunk, IsChunk, body_long, body_of, bytes_cut, end_bad, print_chunk, print_chunks, trailer}
 use Rattle.response_rules.specs.Heads.{chunked}
-use Rattle.response_rules.specs.Lines.{body_limit}
 use Rattle.response_rules.specs.Responses.{Breaks, IsResponse}
 use Rattle.http_response.specs.Bodies.{Continues, IsInChunk, IsOpen}
 use Rattle.http_response.specs.ChunksRead.{BreaksEnd, IsPastEnd, IsPastLine, ReadsEndBy, ReadsSizeBy, ReadsTrailerBy}
@@ -280,7 +280,7 @@ module _ (body : OpenBody) (most at room : ℕ) (read given : List ℕ) (ended :
         breaks = subst (λ (p : ℕ). BreaksChunk p (length (body_of now.chunks)) (tail m) (ended || d) cause) now.place_is broken;
       })
 
-  in_limit : length (body_of now.chunks) + chunk_size now.line ≤ body_limit
+  in_limit : length (body_of now.chunks) + chunk_size now.line ≤ most_body_bytes
   in_limit = let r = now.room_is in omega (arith, r)
 
   cut_at : (m : List ℕ) (d : Bool) → length (now.part ++ (left body.stock ++ m)) < chunk_size now.line + 2 → (ended || d) ≡ true → Breaks (read ++ m) (ended || d) WireEnd.Ended

@@ -3,11 +3,12 @@ use Rattle.std.proofs.Common.{◌≡◌, ◌⊎◌, ℕ, ◌+◌, ◌<◌, ◌�
 use Rattle.std.proofs.lemmas.List.{append-nil, length-append, take-append-drop}
 use Rattle.std.proofs.lemmas.List.Elements.{All-push}
 use Rattle.std.specs.Prelude.{Err}
+use Rattle.tree_base.specs.Limits.{most_body_bytes, most_head_bytes, most_header_lines}
 use Rattle.engine_types.specs.declared.WireEnd.{WireEnd}
 use Rattle.httparse.specs.Grammar.{HasNoResponse, IsResponseHead, NeverHasResponse, ResponseHead, print_response}
 use Rattle.httparse.specs.Spans.{ResponseExceeds}
 use Rattle.response_rules.specs.Heads.{Framing, chunked, fault_by, framing_of, head_fault, is_encoded, sized, to_end}
-use Rattle.response_rules.specs.Lines.{Part, body_limit, ends, head_limit, head_part, line_limit, passed}
+use Rattle.response_rules.specs.Lines.{Part, ends, head_part, passed}
 use Rattle.response_rules.specs.Responses.{BeginsWithHead, Breaks, IsSkipped, Skips, bad_fields, bad_head, long_head, no_head, print_heads}
 use Rattle.http_response.specs.Found.{BreaksBehind, ParsedBy}
 use Rattle.http_response.specs.Stocks.{MissesEnd}
@@ -30,7 +31,7 @@ pub skips_nothing : (read : List ℕ) → Skips read [] read
 skips_nothing read = record { each = λ (k : ℕ) (d : ResponseHead) (l : k < 0). absurd (omega arith); within = omega arith; reads = refl }
 
 pub skips_on : (read tail rest : List ℕ) (heads : List ResponseHead) (h : ResponseHead) → Skips read heads tail → IsSkipped h → tail ≡ print_response h ++ rest
-    → length (print_heads heads) + length (print_response h) ≤ head_limit
+    → length (print_heads heads) + length (print_response h) ≤ most_head_bytes
     → Skips read (heads ++ h ∷ []) rest × (length (print_heads (heads ++ h ∷ [])) ≡ length (print_heads heads) + length (print_response h))
 skips_on read tail rest heads h s is e within =
     let long : length (print_heads (heads ++ h ∷ [])) ≡ length (print_heads heads) + length (print_response h) =
@@ -47,7 +48,7 @@ skips_on read tail rest heads h s is e within =
 
 -- the head stands behind the skipped ones
 pub begins : (read tail rest : List ℕ) (heads : List ResponseHead) (h : ResponseHead) (before : ℕ) → Skips read heads tail → length (print_heads heads) ≡ before
-    → IsResponseHead h → tail ≡ print_response h ++ rest → length h.fields ≤ line_limit → before + length (print_response h) ≤ head_limit
+    → IsResponseHead h → tail ≡ print_response h ++ rest → length h.fields ≤ most_header_lines → before + length (print_response h) ≤ most_head_bytes
     → BeginsWithHead read heads h rest
 begins read tail rest heads h before s l is e few within = record {
   skips = subst (λ (t : List ℕ). Skips read heads t) e s;
@@ -87,7 +88,7 @@ ends_passed : (part : Part) (n : ℕ) → part ≡ ends n → part ≡ passed �
 ends_passed part n e f = let other : ends n ≡ passed = sym e ∙ f in cc other
 
 -- more header lines than there is room for never come
-pub not_too_many : (tail bytes : List ℕ) (before n : ℕ) → head_part before tail ≡ ends n → bytes ≡ take n tail → ResponseExceeds line_limit bytes → ⊥
+pub not_too_many : (tail bytes : List ℕ) (before n : ℕ) → head_part before tail ≡ ends n → bytes ≡ take n tail → ResponseExceeds most_header_lines bytes → ⊥
 not_too_many tail bytes before n part is (front, rest, cut, h, reads, many) =
     let whole : tail ≡ (front ++ rest) ++ drop n tail = sym (take-append-drop n tail) ∙ ap (λ (b : List ℕ). b ++ drop n tail) (sym is ∙ cut) in
     ends_passed (head_part before tail) n part (ap (head_part before) whole ∙ head_over h front rest (drop n tail) before reads.0 many reads.1)
@@ -112,10 +113,10 @@ no_such_fault at (Some g) true cause (inl c) e = let f : Some WireEnd.Encoded �
 no_such_fault at (Some g) true cause (inr c) e = let f : Some WireEnd.Encoded ≡ Some WireEnd.BadBody = e ∙ ap Some c in cc f
 no_such_fault at (Some to_end) false cause c e = cc e
 no_such_fault at (Some chunked) false cause c e = cc e
-no_such_fault at (Some (sized n)) false cause (inl c) e = let f : WireEnd.Fault ≡ WireEnd.TooLarge = sym c ∙ long_by (nat_lt body_limit n) cause e in cc f
-no_such_fault at (Some (sized n)) false cause (inr c) e = let f : WireEnd.BadBody ≡ WireEnd.TooLarge = sym c ∙ long_by (nat_lt body_limit n) cause e in cc f
+no_such_fault at (Some (sized n)) false cause (inl c) e = let f : WireEnd.Fault ≡ WireEnd.TooLarge = sym c ∙ long_by (nat_lt most_body_bytes n) cause e in cc f
+no_such_fault at (Some (sized n)) false cause (inr c) e = let f : WireEnd.BadBody ≡ WireEnd.TooLarge = sym c ∙ long_by (nat_lt most_body_bytes n) cause e in cc f
 
-module _ (tail rest : List ℕ) (before : ℕ) (h : ResponseHead) (is : IsResponseHead h) (e : tail ≡ print_response h ++ rest) (few : length h.fields ≤ line_limit) (within : before + length (print_response h) ≤ head_limit) where
+module _ (tail rest : List ℕ) (before : ℕ) (h : ResponseHead) (is : IsResponseHead h) (e : tail ≡ print_response h ++ rest) (few : length h.fields ≤ most_header_lines) (within : before + length (print_response h) ≤ most_head_bytes) where
   faulty : (cause : WireEnd) → head_fault before h.fields ≡ Some cause → (ended : Bool) → BreaksBehind before tail ended cause
   faulty cause f ended = λ (read : List ℕ) (heads : List ResponseHead) (s : Skips read heads tail) (l : length (print_heads heads) ≡ before).
       bad_fields read rest ended heads h cause (begins read tail rest heads h before s l is e few within)

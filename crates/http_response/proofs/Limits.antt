@@ -2,9 +2,10 @@
 use Rattle.std.proofs.Common.{◌≡◌, ℕ, zero, suc, ◌+◌, ◌-◌, ◌<◌, ◌≤◌, Bool, true, false, ◌&&◌, ◌==◌, if◌then◌else◌, nat_lt, nat_le, List, [], ◌∷◌, ◌++◌, length, take, refl, sym, subst, arith}
 use Rattle.std.proofs.lemmas.Bool.{leb-true, ltb-false, ltb-true}
 use Rattle.std.proofs.lemmas.List.{length-append}
+use Rattle.tree_base.specs.Limits.{most_head_bytes}
 use Rattle.httparse.specs.Ascii.{line_feed}
 use Rattle.response_laws.proofs.Cutting.{sent}
-use Rattle.response_rules.specs.Lines.{before_line_feed, chunk_line_part, ends, first_lines, head_limit, lines, part_of, passed, unfinished, whole_lines, with_byte}
+use Rattle.response_rules.specs.Lines.{before_line_feed, chunk_line_part, ends, first_lines, lines, part_of, passed, unfinished, whole_lines, with_byte}
 
 -- ---- lines that were read whole stand in the bytes
 
@@ -115,15 +116,15 @@ line_decided_open false b true k e = absurd (cc e)
 line_decided_open false b false k e = refl
 
 module _ (bytes : List ℕ) where
-  pub line_within : (n : ℕ) → chunk_line_part bytes ≡ ends n → (n ≤ head_limit) × (n ≤ length bytes)
+  pub line_within : (n : ℕ) → chunk_line_part bytes ≡ ends n → (n ≤ most_head_bytes) × (n ≤ length bytes)
   line_within n e =
-      let d = line_decided_ends (nat_lt (before_line_feed bytes) (length bytes)) (nat_lt (before_line_feed bytes) head_limit) (nat_lt head_limit (length bytes)) (before_line_feed bytes + 1) n e in
+      let d = line_decided_ends (nat_lt (before_line_feed bytes) (length bytes)) (nat_lt (before_line_feed bytes) most_head_bytes) (nat_lt most_head_bytes (length bytes)) (before_line_feed bytes + 1) n e in
       let a : before_line_feed bytes < length bytes = ltb-true (before_line_feed bytes) (length bytes) d.0 in
-      let b : before_line_feed bytes < head_limit = ltb-true (before_line_feed bytes) head_limit d.1 in
+      let b : before_line_feed bytes < most_head_bytes = ltb-true (before_line_feed bytes) most_head_bytes d.1 in
       let i : n ≡ before_line_feed bytes + 1 = d.2 in
       (omega (arith, b, i), omega (arith, a, i))
 
-  pub line_open : chunk_line_part bytes ≡ unfinished → length bytes ≤ head_limit
+  pub line_open : chunk_line_part bytes ≡ unfinished → length bytes ≤ most_head_bytes
   line_open e =
-      ltb-false head_limit (length bytes)
-      (line_decided_open (nat_lt (before_line_feed bytes) (length bytes)) (nat_lt (before_line_feed bytes) head_limit) (nat_lt head_limit (length bytes)) (before_line_feed bytes + 1) e)
+      ltb-false most_head_bytes (length bytes)
+      (line_decided_open (nat_lt (before_line_feed bytes) (length bytes)) (nat_lt (before_line_feed bytes) most_head_bytes) (nat_lt most_head_bytes (length bytes)) (before_line_feed bytes + 1) e)

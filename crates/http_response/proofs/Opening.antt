@@ -2,12 +2,12 @@
 use Rattle.std.proofs.Common.{◌≡◌, ℕ, ◌+◌, ◌<◌, ◌||◌, ◌==◌, ◌^◌, Bool, true, false, if◌then◌else◌, List, [], ◌++◌, length, Option, Some, refl, sym, ap, ◌∙◌, subst, inl, arith, true≢false}
 use Rattle.std.proofs.lemmas.List.{length-append}
 use Rattle.std.specs.Prelude.{Err, IsTrue, Ok}
+use Rattle.tree_base.specs.Limits.{most_body_bytes}
 use Rattle.engine_types.specs.declared.WireEnd.{WireEnd}
 use Rattle.httparse.specs.Grammar.{print_response, status_code}
 use Rattle.outside_api.specs.Pipes.{Talk}
 use Rattle.response_rules.specs.Chunks.{AreChunks, Chunk}
 use Rattle.response_rules.specs.Heads.{framing_of, has_no_body, sized}
-use Rattle.response_rules.specs.Lines.{body_limit}
 use Rattle.response_rules.specs.Responses.{Breaks, print_heads}
 use Rattle.http_response.specs.Bodies.{IsGiven, IsOpen, Opens, is_done, opening, opening_framed}
 use Rattle.http_fields.specs.Fields.{framing_told}
@@ -98,10 +98,10 @@ module _ (old new : Stock) (found : Head) (more : List ℕ) (found_end : Bool) (
   }
 
   by_framing : (f : ReadFraming) → framing_of p.head.fields ≡ Some (framing_told f) → has_no_body (status_code p.head) ≡ false → IsOpen (opened (opening_framed f)) more found_end []
-  by_framing ReadFraming.ToEnd e body = with_rest (Rest.ToEnd body_limit) refl body (e, refl, refl)
+  by_framing ReadFraming.ToEnd e body = with_rest (Rest.ToEnd most_body_bytes) refl body (e, refl, refl)
   by_framing (ReadFraming.Sized n) e body =
       with_rest (Rest.Sized n) refl body (e ∙ ap (λ (m : ℕ). Some (sized m)) (let z : n ≡ 0 + n = omega arith in z), refl)
-  by_framing ReadFraming.Chunked e body = with_rest (Rest.Chunks body_limit) refl body (e, refl, ([], no_chunks, refl, refl))
+  by_framing ReadFraming.Chunked e body = with_rest (Rest.Chunks most_body_bytes) refl body (e, refl, ([], no_chunks, refl, refl))
 
   pub is_opened : IsOpen (opened (opening found.status found.framing)) more found_end []
   is_opened = by (found.status == 204 || found.status == 304) refl

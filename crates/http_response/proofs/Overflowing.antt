@@ -8,12 +8,13 @@ use Rattle.std.specs.Char.{is_ascii_digit}
 use Rattle.std.specs.List.{prefix_len}
 use Rattle.std.specs.Prelude.{All, IsTrue}
 use Rattle.std.specs.Str.{bytes_eq}
+use Rattle.tree_base.specs.Limits.{most_head_bytes, most_header_lines}
 use Rattle.httparse.proofs.OnLiterals.{httparse_on_literals}
 use Rattle.httparse.specs.Ascii.{line_feed, carriage_return}
 use Rattle.httparse.specs.Grammar.{AllPass, Field, IsField, IsResponseHead, LineEnd, crlf, lf, ResponseHead, is_token_byte, is_value_byte, print_end, print_reason, print_response, print_section, print_version, reason_phrase}
 use Rattle.response_laws.proofs.Cutting.{AreTexts, IsText, one_more, sent, sent-append, text-append, text-pass, texts-append, whole_sent}
 use Rattle.response_laws.proofs.Printed.{end_text, field_text, head_lines, head_sent, section_sent, start_text}
-use Rattle.response_rules.specs.Lines.{blank_lines, filled_lines, head_limit, head_part, is_empty_line, line_limit, part_of, passed, trailer_part, whole_lines}
+use Rattle.response_rules.specs.Lines.{blank_lines, filled_lines, head_part, is_empty_line, part_of, passed, trailer_part, whole_lines}
 
 -- ---- lines are texts
 
@@ -115,7 +116,7 @@ front_is ls last front printed e s =
     ∙ sym (append_assoc (sent ls) (end_text last) (line_feed ∷ [])))
 
 -- header lines past the limit
-pub section_over : (fields : List Field) (last : LineEnd) (front rest more : List ℕ) → All IsField fields → line_limit < length fields
+pub section_over : (fields : List Field) (last : LineEnd) (front rest more : List ℕ) → All IsField fields → most_header_lines < length fields
     → front ++ print_end lf ≡ print_section fields last ++ [] → trailer_part ((front ++ rest) ++ more) ≡ passed
 section_over fields last front rest more all many e =
     let ls = map field_text fields in
@@ -126,10 +127,10 @@ section_over fields last front rest more all many e =
     ap whole_lines cut ∙ whole_sent ls (end_text last ++ (rest ++ more)) (fields_are_texts fields all) in
     let count : length fields ≤ filled_lines (whole_lines ((front ++ rest) ++ more)) =
     subst (λ (w : List (List ℕ)). length fields ≤ filled_lines w) (sym whole) (fields_at_least fields (whole_lines (end_text last ++ (rest ++ more))) all) in
-    over head_limit line_limit 0 (filled_lines (whole_lines ((front ++ rest) ++ more))) ((front ++ rest) ++ more) (omega (arith, count, many))
+    over most_head_bytes most_header_lines 0 (filled_lines (whole_lines ((front ++ rest) ++ more))) ((front ++ rest) ++ more) (omega (arith, count, many))
 
 -- a head past the limit
-pub head_over : (h : ResponseHead) (front rest more : List ℕ) (before : ℕ) → IsResponseHead h → line_limit < length h.fields
+pub head_over : (h : ResponseHead) (front rest more : List ℕ) (before : ℕ) → IsResponseHead h → most_header_lines < length h.fields
     → front ++ print_end lf ≡ print_response h ++ [] → head_part before ((front ++ rest) ++ more) ≡ passed
 head_over h front rest more before is many e =
     let blanks = map end_text h.blank in
@@ -150,4 +151,4 @@ head_over h front rest more before is many e =
     let some : length h.fields ≤ filled_lines (fields ++ whole_lines behind) = fields_at_least h.fields (whole_lines behind) is.fields in
     let count : 1 + length h.fields ≤ filled_lines (drop (blank_lines (whole_lines bytes)) (whole_lines bytes)) =
     subst (λ (w : List (List ℕ)). 1 + length h.fields ≤ filled_lines w) (sym dropped) (omega (arith, some)) in
-    over (head_limit - before) (line_limit + 1) (blank_lines (whole_lines bytes)) (filled_lines (drop (blank_lines (whole_lines bytes)) (whole_lines bytes))) bytes (omega (arith, count, many))
+    over (most_head_bytes - before) (most_header_lines + 1) (blank_lines (whole_lines bytes)) (filled_lines (drop (blank_lines (whole_lines bytes)) (whole_lines bytes))) bytes (omega (arith, count, many))

@@ -2,6 +2,7 @@
 use Rattle.std.proofs.Common.{◌≡◌, ◌≢◌, ℕ, ◌+◌, ◌-◌, ◌<◌, ◌≤◌, List, ◌++◌, length, map, take, drop, refl, sym, ap, ◌∙◌, arith, append_assoc}
 use Rattle.std.proofs.lemmas.List.{length-map, length-take-le, take-append-drop}
 use Rattle.std.specs.Prelude.{All, Err, Ok}
+use Rattle.tree_base.specs.Limits.{most_head_bytes, most_header_lines}
 use Rattle.engine_types.specs.declared.WireEnd.{WireEnd}
 use Rattle.httparse.specs.Grammar.{Field, HasNoResponse, NeverHasResponse, ResponseHead, print_response}
 use Rattle.httparse.specs.Spans.{IsHeaderWithin, IsResponseAt, IsResponseWithin, ResponseExceeds, header_bytes, name_and_value}
@@ -9,7 +10,7 @@ use Rattle.httparse.specs.declared.Error.{Error}
 use Rattle.httparse.specs.declared.spans.HeaderSpan.{HeaderSpan}
 use Rattle.httparse.specs.declared.spans.ResponseSpans.{ResponseSpans}
 use Rattle.response_rules.specs.Heads.{framing_of, is_encoded}
-use Rattle.response_rules.specs.Lines.{blank_lines, ends, filled_lines, head_limit, head_part, line_limit, whole_lines}
+use Rattle.response_rules.specs.Lines.{blank_lines, ends, filled_lines, head_part, whole_lines}
 use Rattle.http_fields.specs.Fields.{Cover, FramingBy}
 use Rattle.http_response.specs.Found.{ParsedBy}
 use Rattle.http_fields.specs.declared.fields.Framing.{Framing as ReadFraming}
@@ -27,23 +28,23 @@ are_within_more n m headers le all = λ (k : ℕ) (d : HeaderSpan) (l : k < leng
 
 module _ (tail bytes : List ℕ) (before n : ℕ) (headers front : List HeaderSpan) (spans : ResponseSpans) (h : ResponseHead)
     (part : head_part before tail ≡ ends n) (is : bytes ≡ take n tail) (found : IsResponseAt bytes headers spans h) (within : IsResponseWithin bytes headers spans)
-    (room : length headers ≡ line_limit) (cut : front ≡ take spans.headers headers) where
+    (room : length headers ≡ most_header_lines) (cut : front ≡ take spans.headers headers) where
   reads : tail ≡ print_response h ++ (drop spans.len bytes ++ drop n tail)
   reads =
       sym (take-append-drop n tail) ∙ ap (λ (b : List ℕ). b ++ drop n tail) (sym is ∙ found.reads.1)
       ∙ append_assoc (print_response h) (drop spans.len bytes) (drop n tail)
 
-  few : length h.fields ≤ line_limit
+  few : length h.fields ≤ most_header_lines
   few =
       let many = as_many bytes (take spans.headers headers) h.fields found.fields in
       let fit = within.section.count_fits in
       let short : length (take spans.headers headers) ≡ spans.headers = length-take-le spans.headers headers fit in
       omega (arith, many, short, fit, room)
 
-  ending : EndsWithin (head_limit - before) (line_limit + 1) (filled_lines (drop (blank_lines (whole_lines tail)) (whole_lines tail))) n tail
-  ending = ends_within (head_limit - before) (line_limit + 1) (blank_lines (whole_lines tail)) (filled_lines (drop (blank_lines (whole_lines tail)) (whole_lines tail))) tail n part
+  ending : EndsWithin (most_head_bytes - before) (most_header_lines + 1) (filled_lines (drop (blank_lines (whole_lines tail)) (whole_lines tail))) n tail
+  ending = ends_within (most_head_bytes - before) (most_header_lines + 1) (blank_lines (whole_lines tail)) (filled_lines (drop (blank_lines (whole_lines tail)) (whole_lines tail))) tail n part
 
-  limited : before + length (print_response h) ≤ head_limit
+  limited : before + length (print_response h) ≤ most_head_bytes
   limited =
       let fit = within.section.len_fits in
       let len = found.len in
@@ -84,7 +85,7 @@ module _ (tail bytes : List ℕ) (before n : ℕ) (part : head_part before tail 
   other e fails never = no_head_there tail bytes before n part is (never_there bytes (never fails))
 
   pub refused_there : (e : Error) → (e ≢ Error.TooManyHeaders → NeverHasResponse bytes)
-      → (e ≡ Error.TooManyHeaders → ResponseExceeds line_limit bytes) → ParsedBy tail before (Err (WireEnd.Malformed before))
+      → (e ≡ Error.TooManyHeaders → ResponseExceeds most_header_lines bytes) → ParsedBy tail before (Err (WireEnd.Malformed before))
   refused_there Error.TooManyHeaders never many = absurd (not_too_many tail bytes before n part is (many refl))
   refused_there Error.HeaderName never many = other Error.HeaderName (λ (e : Error.HeaderName ≡ Error.TooManyHeaders). cc e) never
   refused_there Error.HeaderValue never many = other Error.HeaderValue (λ (e : Error.HeaderValue ≡ Error.TooManyHeaders). cc e) never

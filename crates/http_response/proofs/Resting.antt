@@ -2,9 +2,9 @@
 use Rattle.std.proofs.Common.{◌≡◌, ℕ, ◌<◌, ◌≤◌, ◌||◌, Bool, true, false, List, [], ◌++◌, length, Option, sym, ap, subst, arith, append_assoc}
 use Rattle.std.proofs.lemmas.List.{append-nil, length-append}
 use Rattle.std.specs.Prelude.{Err, Ok}
+use Rattle.tree_base.specs.Limits.{most_body_bytes}
 use Rattle.engine_types.specs.declared.WireEnd.{WireEnd}
 use Rattle.outside_api.specs.Pipes.{Talk}
-use Rattle.response_rules.specs.Lines.{body_limit}
 use Rattle.response_rules.specs.Responses.{Breaks, IsResponse}
 use Rattle.http_response.specs.Bodies.{Continues, IsOpen, Opens, ReadsRestBy}
 use Rattle.http_response.specs.Hearing.{ComesTo, Hears}
@@ -98,7 +98,7 @@ module _ (now new : OpenBody) (body body_new read : List ℕ) (ended : Bool) (a 
         (ends_from (there ++ k.more) (over || k.now_ended) f g h cause low high k.gives.1)));
   }
 
-pub put_within : (now : OpenBody) (body read : List ℕ) (ended : Bool) (a b : Option Talk) → Hears a b (HasPut now body read ended) → length body ≤ body_limit
+pub put_within : (now : OpenBody) (body read : List ℕ) (ended : Bool) (a b : Option Talk) → Hears a b (HasPut now body read ended) → length body ≤ most_body_bytes
 put_within now body read ended a b h = given_within now (read ++ h.more) (ended || h.found_end) body h.comes
 
 -- ---- the response

@@ -2,9 +2,10 @@
 use Rattle.std.proofs.Common.{◌≡◌, ℕ, ◌+◌, ◌-◌, ◌<◌, ◌≤◌, ◌||◌, Bool, true, false, cond, List, [], ◌++◌, length, drop, Option, refl, sym, ap, ◌∙◌, subst, arith}
 use Rattle.std.proofs.lemmas.List.{append-nil, drop-append-le, length-append, length-drop, take-append-le}
 use Rattle.std.specs.Prelude.{Err, IsTrue, Ok}
+use Rattle.tree_base.specs.Limits.{most_head_bytes, most_header_lines}
 use Rattle.engine_types.specs.declared.WireEnd.{WireEnd}
 use Rattle.outside_api.specs.Pipes.{Talk}
-use Rattle.response_rules.specs.Lines.{Part, blank_lines, ends, filled_lines, head_limit, head_part, line_limit, passed, unfinished, whole_lines}
+use Rattle.response_rules.specs.Lines.{Part, blank_lines, ends, filled_lines, head_part, passed, unfinished, whole_lines}
 use Rattle.http_heads.specs.Searches.{HasFollowed, IsFollowed, part_told, searched_part}
 use Rattle.http_heads.specs.declared.line_search.LineSearch.{LineSearch}
 use Rattle.http_heads.specs.declared.line_search.SearchAnswer.{SearchAnswer}
@@ -100,14 +101,14 @@ told_head answer leading skipped bytes now exact front is =
 
 pub small_left : (skipped : ℕ) (now : List ℕ) → skipped ≤ length now → skipped ≤ 65536 → head_part skipped (drop skipped now) ≡ unfinished → length now ≤ 65536
 small_left skipped now within small going =
-    let w = open_within (head_limit - skipped) (line_limit + 1) (blank_lines (whole_lines (drop skipped now)))
+    let w = open_within (most_head_bytes - skipped) (most_header_lines + 1) (blank_lines (whole_lines (drop skipped now)))
     (filled_lines (drop (blank_lines (whole_lines (drop skipped now))) (whole_lines (drop skipped now)))) (drop skipped now) going in
     let l = length-drop skipped now in
     omega (arith, w, l)
 
 pub end_within : (skipped n : ℕ) (bytes : List ℕ) → head_part skipped bytes ≡ ends n → n ≤ length bytes
 end_within skipped n bytes e =
-    (ends_within (head_limit - skipped) (line_limit + 1) (blank_lines (whole_lines bytes)) (filled_lines (drop (blank_lines (whole_lines bytes)) (whole_lines bytes))) bytes n e).within
+    (ends_within (most_head_bytes - skipped) (most_header_lines + 1) (blank_lines (whole_lines bytes)) (filled_lines (drop (blank_lines (whole_lines bytes)) (whole_lines bytes))) bytes n e).within
 
 -- the search goes on in more
 pub followed_on : (search : LineSearch) (skipped : ℕ) (now new : Stock) (bytes n : List ℕ) (e : Bool) → skipped ≤ length (left now) → bytes ≡ drop skipped (left now)

@@ -2,6 +2,7 @@
 use Rattle.std.proofs.Common.{◌≡◌, ◌≢◌, ℕ, ◌<◌, ◌≤◌, ◌||◌, ◌^◌, Bool, false, List, [], ◌++◌, length, take, drop, Option, refl, sym, ap, ◌∙◌, subst, arith, append_assoc}
 use Rattle.std.proofs.lemmas.List.{append-nil, length-map, length-take-le, take-append-drop}
 use Rattle.std.specs.Prelude.{Err, Ok}
+use Rattle.tree_base.specs.Limits.{most_head_bytes, most_header_lines}
 use Rattle.engine_types.specs.declared.WireEnd.{WireEnd}
 use Rattle.httparse.specs.Grammar.{Field, HasNoSection, LineEnd, NeverHasSection, lf, print_section}
 use Rattle.httparse.specs.Spans.{IsSectionAt, IsSectionWithin, SectionExceeds, header_bytes, name_and_value}
@@ -9,7 +10,7 @@ use Rattle.httparse.specs.declared.Error.{Error}
 use Rattle.httparse.specs.declared.spans.HeaderSpan.{HeaderSpan}
 use Rattle.outside_api.specs.Pipes.{Talk}
 use Rattle.response_rules.specs.Chunks.{BeginsWithTrailer, BreaksTrailer, bad, cut, long}
-use Rattle.response_rules.specs.Lines.{Part, ends, filled_lines, head_limit, line_limit, passed, trailer_part, unfinished, whole_lines}
+use Rattle.response_rules.specs.Lines.{Part, ends, filled_lines, passed, trailer_part, unfinished, whole_lines}
 use Rattle.http_heads.specs.Searches.{HasFollowed, part_told, searched_part}
 use Rattle.http_heads.specs.declared.line_search.LineSearch.{LineSearch}
 use Rattle.http_heads.specs.declared.line_search.SearchAnswer.{SearchAnswer}
@@ -38,7 +39,7 @@ told_trailer answer leading bytes now exact behind is =
     sym (exact ∙ ap (λ (l : Bool). searched_part l 65536 100 bytes) behind ∙ ap (λ (b : List ℕ). searched_part false 65536 100 b) is)
 
 pub trailer_open : (bytes : List ℕ) → trailer_part bytes ≡ unfinished → length bytes ≤ 65536
-trailer_open bytes going = open_within head_limit line_limit 0 (filled_lines (whole_lines bytes)) bytes going
+trailer_open bytes going = open_within most_head_bytes most_header_lines 0 (filled_lines (whole_lines bytes)) bytes going
 
 trailer_misses : (at : ℕ) (bytes : List ℕ) (ended : Bool) (cause : WireEnd) → MissesEnd (trailer_part bytes) ended cause → BreaksTrailer at bytes ended cause
 trailer_misses at bytes ended WireEnd.Ended m = cut at bytes ended m.0 m.1
@@ -62,8 +63,8 @@ module _ (old mid : Stock) (a b : Option Talk) (f g end : ℕ) (found : Hears a 
   abbrev tail : List ℕ
   tail = left old ++ found.more
 
-  ending : EndsWithin head_limit line_limit (filled_lines (whole_lines tail)) end tail
-  ending = ends_within head_limit line_limit 0 (filled_lines (whole_lines tail)) tail end found.comes.1
+  ending : EndsWithin most_head_bytes most_header_lines (filled_lines (whole_lines tail)) end tail
+  ending = ends_within most_head_bytes most_header_lines 0 (filled_lines (whole_lines tail)) tail end found.comes.1
 
   pub trailer_end_fits : (bytes : List ℕ) → bytes ≡ left mid → end ≤ length bytes
   trailer_end_fits bytes is = subst (λ (l : List ℕ). end ≤ length l) (sym (is ∙ found.comes.0.left_is)) ending.within
@@ -76,7 +77,7 @@ module _ (old mid : Stock) (a b : Option Talk) (f g end : ℕ) (found : Hears a 
     as_long = ap length bytes_are ∙ length-take-le end tail ending.within
 
     module _ (headers : List HeaderSpan) (len count : ℕ) (fields : List Field) (last : LineEnd) (at : IsSectionAt bytes 0 headers len count fields last)
-        (inside : IsSectionWithin bytes headers len count) (room : length headers ≡ line_limit) where
+        (inside : IsSectionWithin bytes headers len count) (room : length headers ≡ most_header_lines) where
       pub trailer_fits : len ≤ length (left mid)
       trailer_fits =
           let e = ap length found.comes.0.left_is in
@@ -85,7 +86,7 @@ module _ (old mid : Stock) (a b : Option Talk) (f g end : ℕ) (found : Hears a 
           let w = ending.within in
           omega (arith, e, l, s, w)
 
-      few : length fields ≤ line_limit
+      few : length fields ≤ most_header_lines
       few =
           let many : length fields ≡ length (take count headers) =
           sym (length-map fields name_and_value) ∙ sym (ap length at.fields_are) ∙ length-map (take count headers) (header_bytes bytes) in
@@ -134,7 +135,7 @@ module _ (old mid : Stock) (a b : Option Talk) (f g end : ℕ) (found : Hears a 
     }
 
     -- more lines than there is room for never come
-    too_many : SectionExceeds line_limit bytes → ⊥
+    too_many : SectionExceeds most_header_lines bytes → ⊥
     too_many (front, rest, split, fields, reads, many) =
         let whole : tail ≡ (front ++ rest) ++ drop end tail = sym (take-append-drop end tail) ∙ ap (λ (l : List ℕ). l ++ drop end tail) (sym bytes_are ∙ split) in
         ends_passed (trailer_part tail) end found.comes.1 (ap trailer_part whole ∙ section_over fields lf front rest (drop end tail) reads.0 many reads.1)
@@ -149,7 +150,7 @@ module _ (old mid : Stock) (a b : Option Talk) (f g end : ℕ) (found : Hears a 
     other e fails h = never (h fails)
 
     -- what the parser refuses are no such lines
-    pub trailer_refused : (e : Error) → (e ≢ Error.TooManyHeaders → NeverHasSection bytes) → (e ≡ Error.TooManyHeaders → SectionExceeds line_limit bytes) → HasNoSection bytes
+    pub trailer_refused : (e : Error) → (e ≢ Error.TooManyHeaders → NeverHasSection bytes) → (e ≡ Error.TooManyHeaders → SectionExceeds most_header_lines bytes) → HasNoSection bytes
     trailer_refused Error.TooManyHeaders h many = absurd (too_many (many refl))
     trailer_refused Error.HeaderName h many = other Error.HeaderName (λ (e : Error.HeaderName ≡ Error.TooManyHeaders). cc e) h
     trailer_refused Error.HeaderValue h many = other Error.HeaderValue (λ (e : Error.HeaderValue ≡ Error.TooManyHeaders). cc e) h

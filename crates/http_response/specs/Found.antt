@@ -1,8 +1,8 @@
 -- What is read of the heads of a response (RFC 9112, sections 2 to 4, and RFC 9110, section 15.2).
 use Rattle.std.specs.Prelude.{◌≡◌, ℕ, ◌+◌, ◌<◌, ◌≤◌, ◌^◌, ◌||◌, Bool, List, ◌++◌, length, drop, Some, None, Result, Ok, Err, IsFalse}
+use Rattle.tree_base.specs.Limits.{most_head_bytes, most_header_lines}
 use Rattle.engine_types.specs.declared.WireEnd.{WireEnd}
 use Rattle.httparse.specs.Grammar.{IsResponseHead, ResponseHead, print_response, status_code}
-use Rattle.response_rules.specs.Lines.{head_limit, line_limit}
 use Rattle.response_rules.specs.Heads.{framing_of, head_fault, is_interim}
 use Rattle.response_rules.specs.Responses.{BeginsWithHead, Breaks, Skips, print_heads}
 use Rattle.http_fields.specs.Fields.{framing_told}
@@ -19,8 +19,8 @@ pub record IsHead (bytes : List ℕ) (before : ℕ) (found : Head) : Type 0 wher
   pub rest : List ℕ
   pub is_head : IsResponseHead head
   pub reads : bytes ≡ print_response head ++ rest
-  pub few : length head.fields ≤ line_limit
-  pub within : before + length (print_response head) ≤ head_limit
+  pub few : length head.fields ≤ most_header_lines
+  pub within : before + length (print_response head) ≤ most_head_bytes
   pub sound : head_fault 0 head.fields ≡ None
   pub status_is : found.status ≡ status_code head
   pub framing_is : framing_of head.fields ≡ Some (framing_told found.framing)

@@ -9,10 +9,11 @@ use crate::heads::{Head, read_head};
 use crate::response::{Response, ResponseEnd};
 use crate::stock::Stock;
 use engine_types::WireEnd;
-use http_fields::{BODY_LIMIT, Framing};
+use http_fields::Framing;
 use outside_api::Pipe;
 use std::alloc::Global;
 use tree_base::List;
+use tree_base::limits::MOST_BODY_BYTES;
 
 /// What is still to come of a body.
 #[derive(Clone, Copy)]
@@ -61,8 +62,8 @@ fn rest_of(head: Head) -> Rest
     }
     match head.framing {
         Framing::Sized(length) => Rest::Sized(length),
-        Framing::ToEnd => Rest::ToEnd(BODY_LIMIT),
-        Framing::Chunked => Rest::Chunks(BODY_LIMIT),
+        Framing::ToEnd => Rest::ToEnd(MOST_BODY_BYTES),
+        Framing::Chunked => Rest::Chunks(MOST_BODY_BYTES),
     }
 }
 

@@ -4,7 +4,6 @@ ghost use Rattle.http_response.specs.ChunksRead.{ReadsEndBy, ReadsSizeBy, ReadsT
 ghost use Rattle.http_response.specs.Hearing.{Hears};
 ghost use Rattle.http_response.specs.Stocks.{FindsEndBy};
 
-use crate::heads::{HEAD_LIMIT, LINE_LIMIT};
 use crate::response::ResponseEnd;
 use crate::stock::Stock;
 use engine_types::WireEnd;
@@ -13,6 +12,7 @@ use httparse::spans::{EMPTY_HEADER_SPAN, parse_headers};
 use httparse::{Status, parse_chunk_size};
 use outside_api::Pipe;
 use std::alloc::Global;
+use tree_base::limits::{MOST_HEAD_BYTES, MOST_HEADER_LINES};
 
 /// Reads the line of the next chunk, and how many bytes the chunk has (RFC 9112, section 7.1).
 pub(crate) fn read_size<P: Pipe>(
@@ -86,7 +86,7 @@ pub(crate) fn read_trailer<P: Pipe>(
 {
     let end = trailer_end(alloc, pipe, stock)?;
     let at = stock.place();
-    let mut headers = [EMPTY_HEADER_SPAN; LINE_LIMIT];
+    let mut headers = [EMPTY_HEADER_SPAN; MOST_HEADER_LINES];
     match parse_headers(stock.left().split_at(end).0, &mut headers) {
         Ok(Status::Complete((length, _))) => {
             stock.use_up(length);
@@ -109,7 +109,7 @@ fn trailer_end<P: Pipe>(
 {
     let mut search = LineSearch::of_trailer();
     'reading: loop {
-        match search.part(stock.left(), HEAD_LIMIT, LINE_LIMIT) {
+        match search.part(stock.left(), MOST_HEAD_BYTES, MOST_HEADER_LINES) {
             SearchAnswer::Ends(end) => return Ok(end),
             SearchAnswer::Passed => return Err(ResponseEnd::Wire(WireEnd::TooLarge)),
             SearchAnswer::Unfinished => stock.read_on(alloc, pipe)?,

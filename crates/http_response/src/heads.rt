@@ -1,6 +1,7 @@
 ghost use Rattle.std.specs.Prelude.{◌≡◌, ℕ, ◌≤◌, List, drop, length, take, true};
+ghost use Rattle.tree_base.specs.Limits.{most_head_bytes};
 ghost use Rattle.response_rules.specs.Heads.{is_interim};
-ghost use Rattle.response_rules.specs.Lines.{ends, head_limit, head_part};
+ghost use Rattle.response_rules.specs.Lines.{ends, head_part};
 ghost use Rattle.http_response.specs.Found.{IsSkipping, NextHeadBy, ParsedBy, ReadHeadBy};
 ghost use Rattle.http_response.specs.Hearing.{Hears};
 ghost use Rattle.http_response.specs.Stocks.{FindsEndBy, left};
@@ -14,12 +15,7 @@ use httparse::Status;
 use httparse::spans::{EMPTY_HEADER_SPAN, parse_response};
 use outside_api::Pipe;
 use std::alloc::Global;
-
-/// The most bytes of a response's heads together, of one chunk line, and of the lines behind the last chunk.
-pub(crate) const HEAD_LIMIT: usize = 65536;
-
-/// The most header lines of one head, and the most lines behind the last chunk.
-pub(crate) const LINE_LIMIT: usize = 100;
+use tree_base::limits::{MOST_HEAD_BYTES, MOST_HEADER_LINES};
 
 /// What a head says.
 #[derive(Clone, Copy)]
@@ -59,7 +55,7 @@ fn next_head<P: Pipe>(
     skipped: usize,
 ) -> Result<Head, ResponseEnd>
     requires within { skipped ≤ length (left stock.old) }
-    requires small { skipped ≤ head_limit }
+    requires small { skipped ≤ most_head_bytes }
     ensures counted { P.faults pipe.old ≤ P.faults pipe.new }
     ensures reads { Hears (P.talk pipe.old) (P.talk pipe.new)
         (NextHeadBy stock.old stock.new skipped (P.faults pipe.old) (P.faults pipe.new) result) }
@@ -80,7 +76,7 @@ fn head_end<P: Pipe>(
     skipped: usize,
 ) -> Result<usize, ResponseEnd>
     requires within { skipped ≤ length (left stock.old) }
-    requires small { skipped ≤ head_limit }
+    requires small { skipped ≤ most_head_bytes }
     ensures counted { P.faults pipe.old ≤ P.faults pipe.new }
     ensures finds { Hears (P.talk pipe.old) (P.talk pipe.new)
         (FindsEndBy (λ bytes. head_part skipped (drop skipped bytes)) stock.old stock.new
@@ -89,7 +85,7 @@ fn head_end<P: Pipe>(
     let mut search = LineSearch::of_head();
     'reading: loop {
         let bytes = stock.left().split_at(skipped).1;
-        match search.part(bytes, HEAD_LIMIT - skipped, LINE_LIMIT + 1) {
+        match search.part(bytes, MOST_HEAD_BYTES - skipped, MOST_HEADER_LINES + 1) {
             SearchAnswer::Ends(end) => return Ok(end),
             SearchAnswer::Passed => return Err(ResponseEnd::Wire(WireEnd::TooLarge)),
             SearchAnswer::Unfinished => stock.read_on(alloc, pipe)?,
@@ -102,7 +98,7 @@ fn parsed(bytes: &[u8], at: u64) -> Result<Head, WireEnd>
     ensures { (tail : List ℕ) → head_part at tail ≡ ends (length bytes.now)
         → bytes.now ≡ take (length bytes.now) tail → ParsedBy tail at result }
 {
-    let mut headers = [EMPTY_HEADER_SPAN; LINE_LIMIT];
+    let mut headers = [EMPTY_HEADER_SPAN; MOST_HEADER_LINES];
     match parse_response(bytes, &mut headers) {
         Ok(Status::Complete(spans)) => {
             let framing = framing_or_fault(bytes, headers.split_at(spans.headers).0, at)?;

@@ -1,7 +1,8 @@
 -- What the places of a request give: the default file under its names, and then the model that is loaded there.
 use Rattle.std.proofs.Common.{◌≡◌, ℕ, suc, List, [], ◌∷◌, None, Option, Some, Result, Ok, Err, refl, sym, subst}
+use Rattle.tree_base.specs.Limits.{most_files}
 use Rattle.include_extends.specs.Includes.{model}
-use Rattle.include_extends.specs.Loading.{default_file, files_found, found_or, loaded_at, loaded_of, loading, most_files, with_files}
+use Rattle.include_extends.specs.Loading.{default_file, files_found, found_or, loaded_at, loaded_of, loading, with_files}
 use Rattle.loaded_files.specs.Refusing.{of_path}
 use Rattle.loaded_files.specs.declared.outcome.Loaded.{Loaded}
 use Rattle.include_extends.specs.declared.model.Model.{Model}

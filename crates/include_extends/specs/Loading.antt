@@ -2,6 +2,7 @@
 -- environments, and all that it includes (the Compose Specification, "Merge", "Extend", "Include", "Interpolation"; its
 -- tools' `-f`, `--project-directory`, `--env-file`, `.env`).
 use Rattle.std.specs.Prelude.{ℕ, suc, List, [], ◌∷◌, Option, Some, None, codes}
+use Rattle.tree_base.specs.Limits.{most_files}
 use Rattle.include_extends.specs.Includes.{model}
 use Rattle.include_extends.specs.Requests.{default_names, places_of}
 use Rattle.loaded_files.specs.declared.outcome.Loaded.{Loaded}
@@ -13,10 +14,6 @@ use Rattle.loaded_files.specs.Refusing.{of_path}
 use Rattle.loaded_files.specs.declared.reads.Seen.{Seen}
 use Rattle.loaded_files.specs.declared.reads.Seen.TheVariants.{Missing}
 use Rattle.loaded_files.specs.declared.refusal.LoadRefusal.TheVariants.{NotFound}
-
--- the files that are read in one load
-abbrev pub most_files : ℕ
-most_files = 64
 
 -- what was found at a path, or what follows where nothing is there
 abbrev pub found_or : List ℕ → Load (List ℕ × Seen) → Seen → Load (List ℕ × Seen)

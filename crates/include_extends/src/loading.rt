@@ -11,9 +11,7 @@ use loaded_files::{LoadRefusal, Loaded, Seen};
 use outside_files::Files;
 use std::alloc::Global;
 use tree_base::Env;
-
-/// How many files are read in one load.
-const MOST_FILES: u32 = 64;
+use tree_base::limits::MOST_FILES;
 
 /// Loads the Compose files of a request, merged in their order, with all that their services extend, with the
 /// environments of their services, and with all that they include, under the variables of the caller and of the env

@@ -1,5 +1,6 @@
 -- The parts of a text: bytes that stand for themselves, `$$`, variables, and forms whose tails are parts again.
 use Rattle.std.specs.Prelude.{ℕ, zero, suc, ◌+◌, ◌-◌, List, [], ◌∷◌, Bool, take, drop, min, Result, Ok, Err}
+use Rattle.tree_base.specs.Limits.{greatest_place}
 use Rattle.tree_base.specs.Answers.{◌>>=◌}
 use Rattle.interpolate.specs.declared.part.Action.{Action}
 use Rattle.interpolate.specs.declared.refusal.SubstRefusal.{SubstRefusal}
@@ -16,7 +17,7 @@ pub data Parts : Type 0 where
 
 -- a place as a `u32`, where one past the greatest is that
 abbrev pub place : ℕ → ℕ
-place at = min at 4294967295
+place at = min at greatest_place
 
 -- a reader of the parts of a text that stands at a place
 abbrev pub Reader : Type 0

@@ -1,5 +1,6 @@
 -- The value of a text: the values of its parts, by the table of the Compose Specification's chapter on interpolation.
 use Rattle.std.specs.Prelude.{ℕ, ◌+◌, List, [], ◌∷◌, ◌++◌, Bool, true, false, Option, Some, None, unwrap_or, length, take, drop, Result, Ok, Err, ◌==◌, ◌&&◌, if◌then◌else◌}
+use Rattle.tree_base.specs.Limits.{most_form_levels}
 use Rattle.tree_base.specs.Answers.{◌>>=◌}
 use Rattle.tree_base.specs.Answers as answers
 use Rattle.interpolate.specs.declared.part.Action.{Action}
@@ -42,7 +43,7 @@ substituted_within levels env text = parts levels 0 text >>= value env
 
 -- the value of a text: forms stand in one another at most 32 deep, and a wrong one is refused before a missing variable
 unfoldable pub substituted : Variables → List ℕ → Result (List ℕ) SubstRefusal
-substituted = substituted_within 32
+substituted = substituted_within most_form_levels
 
 -- a refusal for want of memory
 abbrev pub wants_memory : SubstRefusal → Bool

@@ -2,6 +2,7 @@
 use Rattle.std.specs.Prelude.{◌≡◌, ℕ, ◌+◌, Bool, true, false, List, [], ◌∷◌, ◌++◌, length, reverse, Result, Ok, Err, nat_le, if◌then◌else◌}
 use Rattle.std.specs.List.{zip}
 use Rattle.std.specs.Map.{keys_of}
+use Rattle.tree_base.specs.Limits.{most_text}
 use Rattle.tree_base.specs.Answers.{◌>>=◌}
 use Rattle.tree_base.specs.Answers as answers
 use Rattle.tree_base.specs.declared.Tree.{Tree, fold-Tree, Null, Scalar, Map, Seq, Reset, Override}
@@ -21,7 +22,7 @@ Walk = ℕ → Result (Tree × ℕ) SubstTreeRefusal
 
 -- so many bytes more, of which there may be 16,777,216
 abbrev pub with_bytes : ℕ → ℕ → Result ℕ SubstTreeRefusal
-with_bytes size more = if nat_le (size + more) 16777216 then Ok (size + more) else Err TooMuchText
+with_bytes size more = if nat_le (size + more) most_text then Ok (size + more) else Err TooMuchText
 
 -- the refusal of a tree, by that of the scalar that it is
 abbrev pub root_refusal : SubstRefusal → SubstTreeRefusal

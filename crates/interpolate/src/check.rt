@@ -7,12 +7,13 @@ use crate::part::{Head, first_head, tail_start};
 use crate::piece::rest_from;
 use crate::refusal::SubstRefusal;
 use crate::scan::ends;
+use tree_base::limits::GREATEST_PLACE;
 
 /// A place as a `u32`, where one past the greatest is that.
 pub fn place(at: usize) -> u32
     ensures { result ≡ place at }
 {
-    at.min(4_294_967_295) as u32
+    at.min(GREATEST_PLACE) as u32
 }
 
 /// Whether each `$` of a text is well formed, those of tails too; else the first that isn't. A text that stands in a

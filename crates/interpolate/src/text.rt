@@ -6,10 +6,8 @@ use crate::check::check;
 use crate::join::join;
 use crate::refusal::SubstRefusal;
 use std::alloc::Global;
+use tree_base::limits::MOST_FORM_LEVELS;
 use tree_base::{Env, Text};
-
-/// How many forms may stand in one another.
-const LEVELS: u32 = 32;
 
 /// The value of a text under variables.
 ///
@@ -21,7 +19,7 @@ const LEVELS: u32 = 32;
 pub fn subst(alloc: Global, text: &Text, env: &Env) -> Result<Text, SubstRefusal>
     ensures { Gives result (substituted (value_at env.now) text.now) }
 {
-    subst_within(alloc, text.as_str(), LEVELS, env)
+    subst_within(alloc, text.as_str(), MOST_FORM_LEVELS, env)
 }
 
 fn subst_within(alloc: Global, text: &str, levels: u32, env: &Env) -> Result<Text, SubstRefusal>

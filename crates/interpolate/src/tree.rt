@@ -10,8 +10,9 @@ ghost use Rattle.interpolate.specs.Walking.{with_bytes, root_refusal, scalar_wal
 use crate::check::place;
 use crate::refusal::{SubstRefusal, SubstTreeRefusal};
 use crate::text::subst;
-use crate::unchanged::{MOST_BYTES, plain_size};
+use crate::unchanged::plain_size;
 use std::alloc::Global;
+use tree_base::limits::MOST_TEXT;
 use tree_base::{Boxed, Env, List, Map, Memory, Step, Text, Tree};
 
 /// A tree with the values of its scalars under variables. Keys and marks stay.
@@ -91,10 +92,10 @@ fn at_root(alloc: Global, cause: SubstRefusal) -> SubstTreeRefusal
 fn with_bytes(size: usize, more: usize) -> Result<usize, SubstTreeRefusal>
     ensures { result ≡ with_bytes size more }
 {
-    if size > MOST_BYTES {
+    if size > MOST_TEXT as usize {
         return Err(SubstTreeRefusal::TooMuchText);
     }
-    if more > MOST_BYTES - size {
+    if more > MOST_TEXT as usize - size {
         return Err(SubstTreeRefusal::TooMuchText);
     }
     Ok(size + more)

@@ -5,10 +5,8 @@ ghost use Rattle.interpolate.specs.Laws.{HasNoDollar};
 ghost use Rattle.interpolate.specs.Substitution.{Variables, substituted};
 ghost use Rattle.interpolate.specs.Walking.{Stays, entries_walk, entry_walk, items_walk, scalar_walk, tree_walk, with_bytes};
 
+use tree_base::limits::MOST_TEXT;
 use tree_base::{Text, Tree};
-
-/// How many bytes the keys and the scalars of a tree may have.
-pub const MOST_BYTES: usize = 16_777_216;
 
 /// How many bytes there are with a tree that has no `$`, and so keeps its scalars whatever the variables are. None
 /// comes at the first `$`, and where the bytes pass the limit. No memory.
@@ -49,9 +47,9 @@ fn has_dollar(text: &str) -> bool
 fn counted(size: usize, more: usize) -> Option<usize>
     ensures { IfSome result (λ all. with_bytes size more ≡ Ok all) }
 {
-    if size > MOST_BYTES {
+    if size > MOST_TEXT as usize {
         None
-    } else if more > MOST_BYTES - size {
+    } else if more > MOST_TEXT as usize - size {
         None
     } else {
         Some(size + more)

@@ -3,14 +3,15 @@ use Rattle.std.proofs.Common.{◌≡◌, ◌⊎◌, ℕ, ◌<◌, ◌≤◌, tru
 use Rattle.std.proofs.lemmas.Bool.{true≢false}
 use Rattle.std.proofs.lemmas.List.{reverse-append}
 use Rattle.std.specs.Prelude.{is_some, IsSomeAnd}
+use Rattle.engine_types.specs.declared.Aim.{Aim}
+use Rattle.tree_base.specs.Limits.{most_entries}
 use Rattle.engine_types.specs.declared.Entry.{Entry}
 use Rattle.engine_types.specs.declared.LateWhy.{LateWhy}
 use Rattle.engine_types.specs.declared.Outcome.{Outcome}
 use Rattle.engine_types.specs.declared.Seen.{Seen}
 use Rattle.run_model.specs.Journals.{Setup, holding, is_open, seen_in}
-use Rattle.run_model.specs.Legal.{Decision, Full, Go, IsLegal, IsReady, Look, MayStand, Pause, Take, decision, entries_limit}
+use Rattle.run_model.specs.Legal.{Decision, Full, Go, IsLegal, IsReady, Look, MayStand, Pause, Take, decision}
 use Rattle.run_model.specs.Logs.{asker}
-use Rattle.run_model.specs.Plans.{Aim}
 use Rattle.journal_laws.specs.Courses.{Course, MayAsk, MayStop, entries, first_seen, grown, setup_of}
 use Rattle.journal_laws.specs.Laws.{IsLegalRun, decided, decided_entry}
 
@@ -61,7 +62,7 @@ decided_stands aim setup past w Pause ready e = (ready, e)
 pub answers : (aim : Aim) (run : Course) (w : ℕ) → IsLegalRun aim run → MayAsk run w → IsLegalRun aim (grown run (decided_entry w (decided run w)))
 answers aim run w legal ready = legal_grown aim run (decided_entry w (decided run w)) (some_of run w ready) legal (decided_stands aim (setup_of run) (entries run) w (decided run w) ready refl)
 
-pub shorts : (aim : Aim) (run : Course) (w : ℕ) → IsLegalRun aim run → MayAsk run w → length (entries run) < entries_limit → IsLegalRun aim (grown run (Entry.Short w))
+pub shorts : (aim : Aim) (run : Course) (w : ℕ) → IsLegalRun aim run → MayAsk run w → length (entries run) < most_entries → IsLegalRun aim (grown run (Entry.Short w))
 shorts aim run w legal ready below = legal_grown aim run (Entry.Short w) (some_of run w ready) legal (ready, below)
 
 pub ends : (aim : Aim) (run : Course) (w : ℕ) (outcome : Outcome) → IsLegalRun aim run → is_open (holding (entries run) w) ≡ true → IsLegalRun aim (grown run (Entry.Ended w outcome))

@@ -3,13 +3,15 @@ use Rattle.std.proofs.Common.{◌≡◌, ◌⊎◌, ℕ, zero, suc, ◌+◌, ◌
 use Rattle.std.proofs.lemmas.Bool.{and_parts, cases_eq, eq-eqb, eqb-true, true≢false}
 use Rattle.std.specs.List.{list_any}
 use Rattle.std.specs.Prelude.{nat_le}
+use Rattle.engine_types.specs.declared.Aim.{Aim}
+use Rattle.tree_base.specs.Limits.{most_entries}
 use Rattle.engine_types.specs.declared.Entry.{Entry}
 use Rattle.engine_types.specs.declared.Reply.{Reply}
 use Rattle.run_model.specs.Conditions.{counts, is_goal_open, is_needed, is_watched}
 use Rattle.run_model.specs.Journals.{Holding, Nothing, Out, Setup, Watch, Well, Work, ended_as, holding, is_ending, is_free, is_watch_of, standing}
-use Rattle.run_model.specs.Legal.{IsLegal, Look, answer_to, decision, entries_limit, has_fewest_polls, is_looked_at, is_other_out, may_poll, next_action, next_poll}
+use Rattle.run_model.specs.Legal.{IsLegal, Look, answer_to, decision, has_fewest_polls, is_looked_at, is_other_out, may_poll, next_action, next_poll}
 use Rattle.run_model.specs.Numbers.{numbers_from, places}
-use Rattle.run_model.specs.Plans.{Aim, kind_of}
+use Rattle.run_model.specs.Plans.{kind_of}
 use Rattle.run_model.proofs.LegalLaws.{claim_allowed, found_passes}
 use Rattle.run_model.proofs.PlanLaws.{both}
 
@@ -141,7 +143,7 @@ answers_look false false None None false s e = absurd (cc e)
 poll_free : (setup : Setup) (past : List Entry) (w s : ℕ) → decision setup past w ≡ Look s → is_looked_at setup past s ≡ false
 poll_free setup past w s e = by (is_watched setup past s) (is_looked_at setup past s) (and_parts (may_poll setup past s) (has_fewest_polls setup past s)
     (found_passes (λ t. may_poll setup past t && has_fewest_polls setup past t) (places setup.declared.slots) s
-    (answers_look (nat_le entries_limit (length past)) (is_ending past) (next_action setup past) (next_poll setup past) (is_other_out setup past w) s e))).0
+    (answers_look (nat_le most_entries (length past)) (is_ending past) (next_action setup past) (next_poll setup past) (is_other_out setup past w) s e))).0
   where
     by : (t u : Bool) → (t && not u) ≡ true → u ≡ false
     by true false h = refl
@@ -214,4 +216,4 @@ pub polled_counts : (setup : Setup) (past : List Entry) (w s : ℕ) → decision
 polled_counts setup past w s e = (and_parts (counts setup past s) (is_needed setup past s || is_goal_open setup past s) (and_parts (is_watched setup past s) (not (is_looked_at setup past s))
     (and_parts (may_poll setup past s) (has_fewest_polls setup past s)
     (found_passes (λ t. may_poll setup past t && has_fewest_polls setup past t) (places setup.declared.slots) s
-    (answers_look (nat_le entries_limit (length past)) (is_ending past) (next_action setup past) (next_poll setup past) (is_other_out setup past w) s e))).0).0).0
+    (answers_look (nat_le most_entries (length past)) (is_ending past) (next_action setup past) (next_poll setup past) (is_other_out setup past w) s e))).0).0).0

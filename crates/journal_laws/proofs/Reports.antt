@@ -2,13 +2,14 @@
 use Rattle.std.proofs.Common.{◌≡◌, ◌⊎◌, ℕ, Bool, true, false, not, ◌&&◌, ◌||◌, ◌==◌, List, [], ◌∷◌, Option, Some, None, if◌then◌else◌, refl, sym, ap, subst, inl, inr}
 use Rattle.std.proofs.lemmas.Bool.{eqb-true, true≢false}
 use Rattle.std.specs.Option.{option_map_or}
+use Rattle.engine_types.specs.declared.Aim.{Aim}
 use Rattle.engine_types.specs.declared.Condition.{Condition}
 use Rattle.engine_types.specs.declared.Entry.{Entry}
 use Rattle.engine_types.specs.declared.Reply.{Reply}
 use Rattle.run_model.specs.Conditions.{counts, fails, has_failed, is_started, meets, poll_counts, was_met}
 use Rattle.run_model.specs.Journals.{Free, Holding, Nothing, Out, Setup, Standing, Watch, Well, Work, Badly, holding, is_watch_of, is_well, standing}
 use Rattle.run_model.specs.Legal.{IsLegal}
-use Rattle.run_model.specs.Plans.{Aim, start_of}
+use Rattle.run_model.specs.Plans.{start_of}
 use Rattle.journal_laws.proofs.Holders.{polled_counts, stays_well}
 
 well_of : (st : Standing) → is_well st ≡ true → (reply : Reply) × (st ≡ Well reply)

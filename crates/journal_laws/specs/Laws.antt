@@ -1,5 +1,7 @@
 -- What holds of every legal journal, and which entries may follow it.
 use Rattle.std.specs.Prelude.{◌≡◌, ◌⊎◌, ◌<◌, ◌≤◌, ℕ, true, false, Some, IsSomeAnd, List, ◌∷◌, length}
+use Rattle.engine_types.specs.declared.Aim.{Aim}
+use Rattle.tree_base.specs.Limits.{most_entries}
 use Rattle.engine_types.specs.declared.Condition.{Condition}
 use Rattle.engine_types.specs.declared.Entry.{Entry}
 use Rattle.engine_types.specs.declared.LateWhy.{LateWhy}
@@ -7,9 +9,8 @@ use Rattle.engine_types.specs.declared.Outcome.{Outcome}
 use Rattle.engine_types.specs.declared.Reply.{Reply}
 use Rattle.run_model.specs.Conditions.{counts, has_failed, poll_counts, was_met}
 use Rattle.run_model.specs.Journals.{Out, Setup, Watch, Well, Work, holding, is_open, standing}
-use Rattle.run_model.specs.Legal.{Decision, Full, Go, IsLegal, Look, Pause, Take, decision, entries_limit}
+use Rattle.run_model.specs.Legal.{Decision, Full, Go, IsLegal, Look, Pause, Take, decision}
 use Rattle.run_model.specs.Logs.{asker}
-use Rattle.run_model.specs.Plans.{Aim}
 use Rattle.journal_laws.specs.Courses.{Course, MayAsk, MayStop, entries, grown, setup_of}
 
 -- the entry of a decision on a worker's ask
@@ -33,7 +34,7 @@ pub record DecisionsAreLegal : Type 0 where
   pub answers : (aim : Aim) (run : Course) (w : ℕ) → IsLegalRun aim run → MayAsk run w
       → IsLegalRun aim (grown run (decided_entry w (decided run w)))
   pub shorts : (aim : Aim) (run : Course) (w : ℕ) → IsLegalRun aim run → MayAsk run w
-      → length (entries run) < entries_limit
+      → length (entries run) < most_entries
       → IsLegalRun aim (grown run (Entry.Short w))
 
 -- what is legal is granted, and nothing else: an entry that answers a worker's ask may follow only where it is that of the

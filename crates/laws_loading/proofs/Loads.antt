@@ -3,6 +3,7 @@ use Rattle.std.proofs.Common.{◌≡◌, ◌∙◌, ◌⊎◌, ℕ, suc, Bool, t
 use Rattle.std.proofs.lemmas.Bool.{le-ltb}
 use Rattle.std.specs.Prelude.{IsTrue, nat_lt}
 use Rattle.std.specs.Option.{option_map, option_or}
+use Rattle.tree_base.specs.Limits.{most_file_bytes, most_files}
 use Rattle.laws_attributes.proofs.Declaring.{declares}
 use Rattle.laws_attributes.proofs.LongTrees.{accepted_trees_long}
 use Rattle.laws_attributes.proofs.ShapedTrees.{accepted_trees_shaped}
@@ -14,7 +15,7 @@ use Rattle.file_paths.specs.Resolving.{resolved}
 use Rattle.file_paths.specs.Shapes.{entries_in}
 use Rattle.file_paths.specs.declared.refusal.PathRefusal.{PathRefusal}
 use Rattle.include_extends.specs.Includes.{model}
-use Rattle.include_extends.specs.Loading.{default_file, found_or, loaded_of, loading, most_files}
+use Rattle.include_extends.specs.Loading.{default_file, found_or, loaded_of, loading}
 use Rattle.include_extends.specs.Merged.{merged_model, model_under, placed}
 use Rattle.include_extends.specs.declared.model.Model.{Model}
 use Rattle.include_extends.specs.declared.request.Places.{Places}
@@ -27,7 +28,7 @@ use Rattle.loaded_files.proofs.Winning.{wins}
 use Rattle.loaded_files.specs.EnvFiles.{env_file_if, with_all}
 use Rattle.loaded_files.specs.FileTrees.{file_tree, files_laid, over_laid, unless_shaped}
 use Rattle.loaded_files.specs.Paths.{Variables, joined}
-use Rattle.loaded_files.specs.Reads.{◌>>=◌, Load, after, file_limit, give, loaded_from, seen_of, taken_if}
+use Rattle.loaded_files.specs.Reads.{◌>>=◌, Load, after, give, loaded_from, seen_of, taken_if}
 use Rattle.loaded_files.specs.Refusing.{of_merge, of_path, of_subst, of_yaml}
 use Rattle.loaded_files.specs.declared.Loaded.{Loaded}
 use Rattle.loaded_files.specs.declared.reads.Seen.{Seen}
@@ -148,7 +149,7 @@ module _ (profiles : Profiles) (project : Project) (tree : Tree) (bytes : List �
 
   there : seen_of (value_at held path) ≡ page
   there =
-      let short : nat_lt file_limit (length bytes) ≡ false = le-ltb file_limit (length bytes) has.short in
+      let short : nat_lt most_file_bytes (length bytes) ≡ false = le-ltb most_file_bytes (length bytes) has.short in
       ap seen_of has.file ∙ rw short refl
 
   merged_there : loaded_from held (merged_model (path ∷ []) directory None caller (Some page) most_files) ≡ Ok own

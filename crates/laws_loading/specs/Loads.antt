@@ -1,6 +1,7 @@
 -- Files that are loaded as the projects that their trees mean.
 use Rattle.std.specs.Prelude.{◌≡◌, ◌⊎◌, ◌≤◌, ℕ, true, IsTrue, List, [], All, Option, None, Some, Ok, codes, length}
 use Rattle.std.specs.List.{list_all}
+use Rattle.tree_base.specs.Limits.{most_file_bytes}
 use Rattle.laws_attributes.specs.Accepted.{AreLongIfLoose, services_in}
 use Rattle.active_services.specs.Laws.{services_of}
 use Rattle.active_services.specs.Profiles.{Profiles, is_enabled}
@@ -12,7 +13,7 @@ use Rattle.interpolate.specs.Walking.{substituted_tree}
 use Rattle.loaded_files.specs.EnvFiles.{with_all}
 use Rattle.loaded_files.specs.FileTrees.{tree_in}
 use Rattle.loaded_files.specs.Paths.{Variables, joined}
-use Rattle.loaded_files.specs.Reads.{file_limit, loaded_from}
+use Rattle.loaded_files.specs.Reads.{loaded_from}
 use Rattle.loaded_files.specs.declared.Loaded.{Loaded}
 use Rattle.merge_rules.specs.Alone.{no_twins}
 use Rattle.merge_tables.specs.Answers.{within}
@@ -52,7 +53,7 @@ pub record IsLoadable (profiles : Profiles) (project : Project) (tree : Tree) : 
 -- files in which these bytes are the Compose file of a directory, without a `.env` beside it
 pub record HasFile (files : Contents) (directory bytes : List ℕ) : Type 0 where
   pub file : value_at files (joined directory (codes "compose.yaml")) ≡ Some bytes
-  pub short : length bytes ≤ file_limit
+  pub short : length bytes ≤ most_file_bytes
   pub lone : value_at files (joined directory (codes ".env")) ≡ None
 
 -- bytes that spell a tree, by the values that its scalars have under variables

@@ -2,13 +2,14 @@
 use Rattle.std.proofs.Common.{◌≡◌, ◌∙◌, ◌≤◌, ℕ, suc, false, List, [], ◌∷◌, Option, None, Some, Result, Ok, codes, length, refl, ap, arith}
 use Rattle.std.proofs.lemmas.Bool.{le-ltb}
 use Rattle.std.specs.Prelude.{nat_lt}
+use Rattle.tree_base.specs.Limits.{most_file_bytes, most_files}
 use Rattle.dotenv.specs.Variables.{or_else}
 use Rattle.file_paths.specs.Resolving.{resolved}
 use Rattle.file_paths.specs.declared.refusal.PathRefusal.{PathRefusal}
 use Rattle.loaded_files.specs.EnvFiles.{env_file_if, with_all}
 use Rattle.loaded_files.specs.FileTrees.{file_tree, files_laid, over_laid, unless_shaped}
 use Rattle.include_extends.specs.Includes.{model}
-use Rattle.include_extends.specs.Loading.{default_file, found_or, loaded_of, loading, most_files}
+use Rattle.include_extends.specs.Loading.{default_file, found_or, loaded_of, loading}
 use Rattle.include_extends.specs.Merged.{merged_model, model_under, placed}
 use Rattle.include_extends.specs.declared.request.Places.{Places}
 use Rattle.include_extends.proofs.PlainModels.{plain_models}
@@ -16,7 +17,7 @@ use Rattle.loaded_files.proofs.Runs.{loaded_on}
 use Rattle.laws_pages.proofs.Plain.{page_plain}
 use Rattle.loaded_files.specs.Refusing.{of_merge, of_path, of_subst, of_yaml}
 use Rattle.loaded_files.specs.Paths.{Variables, joined}
-use Rattle.loaded_files.specs.Reads.{◌>>=◌, Load, after, file_limit, give, loaded_from, seen_of, taken_if}
+use Rattle.loaded_files.specs.Reads.{◌>>=◌, Load, after, give, loaded_from, seen_of, taken_if}
 use Rattle.loaded_files.proofs.Winning.{wins}
 use Rattle.loaded_files.specs.declared.Loaded.{Loaded}
 use Rattle.include_extends.specs.declared.model.Model.{Model}
@@ -157,7 +158,7 @@ module _ (project : PlainProject) (caller : Variables) (cwd : List ℕ) (held : 
 
   there : seen_of (value_at held path) ≡ page
   there =
-      let short : nat_lt file_limit (length (project_page project)) ≡ false = le-ltb file_limit (length (project_page project)) is.page in
+      let short : nat_lt most_file_bytes (length (project_page project)) ≡ false = le-ltb most_file_bytes (length (project_page project)) is.page in
       ap seen_of has.page ∙ rw short refl
 
   merged_there : loaded_from held (merged_model (path ∷ []) directory None caller (Some page) most_files) ≡ Ok own

@@ -1,6 +1,7 @@
 -- Pages of projects, and what is read where a page is the Compose file.
 use Rattle.std.specs.Prelude.{◌≡◌, ◌≤◌, ℕ, Bool, true, IsTrue, List, [], Option, Ok, codes, is_some, length, unwrap_or}
 use Rattle.std.specs.List.{list_all}
+use Rattle.tree_base.specs.Limits.{most_file_bytes}
 use Rattle.laws_attributes.specs.Accepted.{AreLongIfLoose}
 use Rattle.active_services.specs.Laws.{services_of}
 use Rattle.attribute_types.specs.Lookups.{pairs_at}
@@ -9,7 +10,7 @@ use Rattle.file_paths.specs.Resolving.{resolved}
 use Rattle.include_extends.specs.Loading.{loading}
 use Rattle.laws_loading.specs.Loads.{HasFile, NamesNoOther, plain_request}
 use Rattle.loaded_files.specs.Paths.{Variables, joined}
-use Rattle.loaded_files.specs.Reads.{file_limit, loaded_from}
+use Rattle.loaded_files.specs.Reads.{loaded_from}
 use Rattle.loaded_files.specs.declared.Loaded.{Loaded}
 use Rattle.merge_rules.specs.Alone.{no_twins}
 use Rattle.merge_tables.specs.Attributes.{overlay_rules}
@@ -52,7 +53,7 @@ pub record IsReadable (profiles : Profiles) (project : Project) : Type 0 where
   pub meant : IsMeant project
   pub held : is_held (project_node project) ≡ true
   pub tree : IsWithinLimits (tree_of (project_node project))
-  pub short : length (page project) ≤ file_limit
+  pub short : length (page project) ≤ most_file_bytes
   pub alone : no_twins overlay_rules (page_tree project) ≡ true
   pub long : AreLongIfLoose (page_tree project)
   pub placed : (directory : List ℕ) (env : Variables) → resolved directory env (page_tree project) ≡ Ok (page_tree project)

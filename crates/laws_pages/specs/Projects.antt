@@ -2,9 +2,10 @@
 use Rattle.std.specs.Prelude.{◌≡◌, ◌≤◌, ℕ, true, IsTrue, List, [], None, Some, Ok, codes, length, map}
 use Rattle.std.specs.List.{list_all}
 use Rattle.std.specs.Str.{is_utf8}
+use Rattle.tree_base.specs.Limits.{most_file_bytes, most_services}
 use Rattle.include_extends.specs.Loading.{loading}
 use Rattle.loaded_files.specs.Paths.{Variables, joined}
-use Rattle.loaded_files.specs.Reads.{file_limit, loaded_from}
+use Rattle.loaded_files.specs.Reads.{loaded_from}
 use Rattle.include_extends.specs.declared.LoadRequest.{LoadRequest}
 use Rattle.loaded_files.specs.declared.Loaded.{Loaded}
 use Rattle.outside_files.specs.Files.{Contents}
@@ -23,13 +24,13 @@ use Rattle.laws_yaml.specs.Printed.{tree_of}
 -- are UTF-8, and its page and the page's tree are within the limits
 pub record IsReadable (project : PlainProject) : Type 0 where
   pub named : IsTrue (is_name project.name)
-  pub few : length project.services ≤ 1000
+  pub few : length project.services ≤ most_services
   pub order : AreInOrder project.services
   pub are_keys : list_all is_key (map (λ service. service.key) project.services) ≡ true
   pub keys : list_all is_utf8 (map (λ service. service.key) project.services) ≡ true
   pub images : list_all is_utf8 (map (λ service. service.image) project.services) ≡ true
   pub tree : IsWithinLimits (tree_of (node_of project))
-  pub page : length (project_page project) ≤ file_limit
+  pub page : length (project_page project) ≤ most_file_bytes
 
 -- files in which the page of a project is the Compose file of a directory, without a `.env` beside it
 pub record HasPage (files : Contents) (directory : List ℕ) (project : PlainProject) : Type 0 where

@@ -4,13 +4,14 @@ use Rattle.std.specs.Option.{option_map_or}
 use Rattle.engine_types.specs.declared.Action.{Action}
 use Rattle.engine_types.specs.declared.ActionKind.{ActionKind}
 use Rattle.engine_types.specs.declared.ActionKind.TheVariants.{MakeVolume, MakeNetwork, StopContainer, RemoveContainer, CreateSlot, ConnectSlot, StopKept, StartSlot, RemoveNetwork, RemoveVolume}
+use Rattle.engine_types.specs.declared.Aim.{Aim}
 use Rattle.engine_types.specs.declared.Declared.{Declared}
 use Rattle.engine_types.specs.declared.Purpose.{Purpose}
 use Rattle.engine_types.specs.declared.Seen.{Seen}
 use Rattle.plan_core.specs.Order.{HasNoCycle, PlansAreOrderly}
 use Rattle.run_laws.specs.Orders.{HasSmallNumbers, NeedsDependencies, RunsAreOrderly}
 use Rattle.run_model.specs.Numbers.{places}
-use Rattle.run_model.specs.Plans.{Aim, Basis, IsOrderly, IsWhole, is_needed_by, is_wanted, planned, possible, up_basis}
+use Rattle.run_model.specs.Plans.{Basis, IsOrderly, IsWhole, basis_of, is_needed_by, is_wanted, planned, possible, up_aim}
 use Rattle.run_model.specs.Rolling.{is_added, is_awaited, run_actions}
 
 abbrev pub basis_with : Declared → Seen → Aim → Basis
@@ -26,7 +27,7 @@ listed_by kinds wanted needs =
 
 module _ (declared : Declared) (seen : Seen) (orphans volumes : Bool) where
   abbrev up : Basis
-  up = up_basis declared seen orphans
+  up = basis_of declared seen (up_aim orphans)
 
   abbrev other_up : Basis
   other_up = basis_with declared seen (aim_of Purpose.Up orphans volumes)

@@ -3,6 +3,8 @@ use Rattle.std.proofs.Common.{◌≡◌, ◌⊎◌, ℕ, Bool, true, false, ◌&
 use Rattle.std.proofs.lemmas.Bool.{eq-eqb, eqb-true, or_cases}
 use Rattle.std.specs.List.{list_all, list_any}
 use Rattle.std.specs.Prelude.{is_some, nat_le, option_map}
+use Rattle.engine_types.specs.declared.Aim.{Aim}
+use Rattle.tree_base.specs.Limits.{most_entries}
 use Rattle.engine_types.specs.declared.Action.{Action}
 use Rattle.engine_types.specs.declared.ActionKind.{ActionKind}
 use Rattle.engine_types.specs.declared.ActionKind.TheVariants.{CreateSlot, StartSlot}
@@ -15,10 +17,10 @@ use Rattle.engine_types.specs.declared.Slot.{Slot}
 use Rattle.run_model.specs.Conditions.{asks_for, counts, is_allowed, is_goal_open, is_needed, is_pending, is_watched, lets}
 use Rattle.run_model.specs.EngineRules.{Among}
 use Rattle.run_model.specs.Journals.{Setup, is_ending, is_free, is_well, seen_in, standing}
-use Rattle.run_model.specs.Legal.{IsLegal, Look, Take, answer_to, decision, entries_limit, has_fewest_polls, is_other_out, may_poll, next_action, next_poll}
+use Rattle.run_model.specs.Legal.{IsLegal, Look, Take, answer_to, decision, has_fewest_polls, is_other_out, may_poll, next_action, next_poll}
 use Rattle.run_model.specs.Numbers.{places}
 use Rattle.run_model.specs.Observation.{is_up, listing_fault}
-use Rattle.run_model.specs.Plans.{Aim, Basis, CarriesOut, is_start_of, kept_of, kind_of, needs_of, slot_at, slot_needs, start_of}
+use Rattle.run_model.specs.Plans.{Basis, CarriesOut, is_start_of, kept_of, kind_of, needs_of, slot_at, slot_needs, start_of}
 use Rattle.run_model.specs.Requests.{action_request, poll_request, slot_id}
 use Rattle.run_model.proofs.DistinctLists.{from_numbers}
 use Rattle.run_model.proofs.KeptLaws.{any_from_list}
@@ -57,7 +59,7 @@ answers_look false false None None true s e = absurd (cc e)
 answers_look false false None None false s e = absurd (cc e)
 
 decision_look : (setup : Setup) (past : List Entry) (w s : ℕ) → decision setup past w ≡ Look s → next_poll setup past ≡ Some s
-decision_look setup past w s e = answers_look (nat_le entries_limit (length past)) (is_ending past) (next_action setup past) (next_poll setup past) (is_other_out setup past w) s e
+decision_look setup past w s e = answers_look (nat_le most_entries (length past)) (is_ending past) (next_action setup past) (next_poll setup past) (is_other_out setup past w) s e
 
 is_there : {X : Type 0} (o : Option X) (x : X) → o ≡ Some x → is_some o ≡ true
 is_there o x e = ap is_some e

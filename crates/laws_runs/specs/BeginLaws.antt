@@ -1,12 +1,13 @@
 -- Laws of the beginning of a run.
 use Rattle.std.specs.Prelude.{◌≡◌, ℕ, true, is_some}
+use Rattle.engine_types.specs.declared.Aim.{Aim}
 use Rattle.engine_types.specs.declared.Declared.{Declared}
 use Rattle.engine_types.specs.declared.Observed.{Observed}
 use Rattle.engine_types.specs.declared.Plan.{Plan}
 use Rattle.engine_types.specs.declared.RunLimits.{RunLimits}
 use Rattle.run_model.specs.Ending.{EveryWorkerLeft, IsRunOver}
 use Rattle.run_model.specs.Legal.{Look, Take}
-use Rattle.run_model.specs.Plans.{Aim, HasPlan}
+use Rattle.run_model.specs.Plans.{HasPlan}
 use Rattle.run_model.specs.Requests.{action_request, poll_request}
 use Rattle.journal_laws.specs.Courses.{Course, MayAsk, entries, setup_of}
 use Rattle.journal_laws.specs.Laws.{IsLegalRun, decided}

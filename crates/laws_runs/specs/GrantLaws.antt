@@ -1,10 +1,11 @@
 -- That whatever is granted has a request.
 use Rattle.std.specs.Prelude.{◌≡◌, ℕ, true, List, is_some}
+use Rattle.engine_types.specs.declared.Aim.{Aim}
 use Rattle.engine_types.specs.declared.Entry.{Entry}
 use Rattle.run_model.specs.Journals.{Setup, seen_in}
 use Rattle.run_model.specs.Legal.{IsLegal, Look, Take, decision}
 use Rattle.run_model.specs.Observation.{is_up}
-use Rattle.run_model.specs.Plans.{Aim, HasPlan, IsWhole}
+use Rattle.run_model.specs.Plans.{HasPlan, IsWhole}
 use Rattle.run_model.specs.Requests.{action_request, poll_request}
 
 -- a run with a plan for this aim: its declared set is whole, and it waits for goals only where it brings a project up

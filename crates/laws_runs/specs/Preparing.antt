@@ -1,5 +1,7 @@
 -- What a run is prepared with.
 use Rattle.std.specs.Prelude.{◌≡◌, ◌⊎◌, ◌≤◌, true, List}
+use Rattle.engine_types.specs.declared.Aim.{Aim}
+use Rattle.tree_base.specs.Limits.{most_workers}
 use Rattle.engine_types.specs.declared.Action.{Action}
 use Rattle.engine_types.specs.declared.Declared.{Declared}
 use Rattle.engine_types.specs.declared.Observed.{Observed}
@@ -9,7 +11,7 @@ use Rattle.engine_types.specs.declared.Seen.{Seen}
 use Rattle.engine_types.specs.declared.SeenEnd.{SeenEnd}
 use Rattle.run_model.specs.Legal.{IsObserved}
 use Rattle.run_model.specs.Observation.{is_up}
-use Rattle.run_model.specs.Plans.{Aim, AreKeptPlaces, Basis, IsWhole, planned}
+use Rattle.run_model.specs.Plans.{AreKeptPlaces, Basis, IsWhole, planned}
 use Rattle.run_model.specs.Rolling.{run_actions}
 use Rattle.plan_core.specs.Order.{HasNoCycle}
 use Rattle.run_laws.specs.Orders.{HasSmallNumbers, NeedsDependencies}
@@ -41,4 +43,4 @@ pub record IsPrepared (declared : Declared) (observed : Observed) (plan : Plan)
   pub kept : AreKeptPlaces declared seen plan.kept
   pub waits_up : limits.wait ≡ true → is_up aim.purpose ≡ true
   pub some_worker : 1 ≤ limits.workers
-  pub few_workers : limits.workers ≤ 16
+  pub few_workers : limits.workers ≤ most_workers

@@ -2,6 +2,7 @@
 use Rattle.std.specs.Prelude.{◌≡◌, ◌≤◌, ◌<◌, ◌≢◌, ℕ, ◌+◌, List, [], ◌∷◌, ◌++◌, Bool, true, false, Ok, All, length, map, sum_by, nat_le, ◌==◌, ◌&&◌, ◌||◌, not, if◌then◌else◌}
 use Rattle.std.specs.List.{IsDistinct}
 use Rattle.std.specs.Str.{bytes_eq, encode_utf8_all}
+use Rattle.tree_base.specs.Limits.{most_levels, most_nodes, most_text}
 use Rattle.tree_base.specs.Trees.{depth, node_count, text_size}
 use Rattle.tree_base.specs.declared.tree.Tree.{Tree}
 use Rattle.tree_base.specs.declared.tree.Tree.TheVariants.{Map, Scalar, Seq}
@@ -13,9 +14,9 @@ use Rattle.yaml_tree.specs.Reading.{reading}
 
 -- a tree within the limits: at most 64 levels, 200,000 nodes, and 16,777,216 bytes of keys and scalars
 pub record IsWithinLimits (tree : Tree) : Type 0 where
-  pub levels : depth tree ≤ 64
-  pub nodes : node_count tree ≤ 200000
-  pub text : text_size tree ≤ 16777216
+  pub levels : depth tree ≤ most_levels
+  pub nodes : node_count tree ≤ most_nodes
+  pub text : text_size tree ≤ most_text
 
 -- every tree that is read is within the limits, whatever aliases and merge keys copy
 abbrev pub TreesAreWithinLimits : Type 0
@@ -54,7 +55,7 @@ item_line word = 45 ∷ 32 ∷ word
 
 -- lines that are a dash, a space and a word each spell the sequence of the words
 abbrev pub SequencesReadBack : Type 0
-SequencesReadBack = (lines : Lines) (words : List (List ℕ)) → words ≢ [] → All IsWord words → length words < 200000 → bytes_of words ≤ 16777216
+SequencesReadBack = (lines : Lines) (words : List (List ℕ)) → words ≢ [] → All IsWord words → length words < most_nodes → bytes_of words ≤ most_text
     → chars_of lines ≡ map item_line words → reading lines ≡ Ok (Seq (map scalar_of words))
 
 -- a line of a mapping: a word, a colon, a space and a word
@@ -64,5 +65,5 @@ entry_line (key, value) = key ++ 58 ∷ 32 ∷ value
 -- lines that are a word, a colon, a space and a word each, with different keys, spell the mapping of the pairs
 abbrev pub MappingsReadBack : Type 0
 MappingsReadBack = (lines : Lines) (pairs : List (List ℕ × List ℕ)) → pairs ≢ [] → All (λ pair. IsWord pair.0 × IsWord pair.1) pairs
-    → IsDistinct bytes_eq (map (λ pair. encode_utf8_all pair.0) pairs) → length pairs < 200000 → bytes_of (map (λ pair. pair.0) pairs) + bytes_of (map (λ pair. pair.1) pairs) ≤ 16777216
+    → IsDistinct bytes_eq (map (λ pair. encode_utf8_all pair.0) pairs) → length pairs < most_nodes → bytes_of (map (λ pair. pair.0) pairs) + bytes_of (map (λ pair. pair.1) pairs) ≤ most_text
     → chars_of lines ≡ map entry_line pairs → reading lines ≡ Ok (Map (map (λ pair. (encode_utf8_all pair.0, scalar_of pair.1)) pairs))

@@ -1,10 +1,11 @@
 -- Each answer of a ledger keeps its journal legal.
 use Rattle.std.proofs.Common.{◌≡◌, ◌⊎◌, ℕ, ◌<◌, ◌≤◌, Bool, List, length, ap, inl, inr}
 use Rattle.std.proofs.lemmas.Bool.{cases_lt, le-leb}
+use Rattle.engine_types.specs.declared.Aim.{Aim}
+use Rattle.tree_base.specs.Limits.{most_entries}
 use Rattle.engine_types.specs.declared.Entry.{Entry}
 use Rattle.run_model.specs.Journals.{Setup, is_ending}
-use Rattle.run_model.specs.Legal.{Decision, Full, Go, Look, Pause, Take, answer_to, decision, entries_limit, is_other_out, next_action, next_poll}
-use Rattle.run_model.specs.Plans.{Aim}
+use Rattle.run_model.specs.Legal.{Decision, Full, Go, Look, Pause, Take, answer_to, decision, is_other_out, next_action, next_poll}
 use Rattle.journal_laws.specs.Courses.{Course, MayAsk, entries, grown, setup_of}
 use Rattle.journal_laws.specs.Laws.{IsLegalRun, decided}
 use Rattle.journal_laws.proofs.Following.{answers, shorts}
@@ -12,12 +13,12 @@ use Rattle.ledger_core.specs.Answers.{Answers, answer_entry}
 use Rattle.ledger_core.specs.declared.asked.Asked.{Asked}
 
 -- a journal that isn't full
-pub below : (setup : Setup) (past : List Entry) (w : ℕ) → (decision setup past w ≡ Full → ⊥) → length past < entries_limit
-below setup past w not_full = on (cases_lt (length past) entries_limit)
+pub below : (setup : Setup) (past : List Entry) (w : ℕ) → (decision setup past w ≡ Full → ⊥) → length past < most_entries
+below setup past w not_full = on (cases_lt (length past) most_entries)
   where
-    on : (length past < entries_limit) ⊎ (entries_limit ≤ length past) → length past < entries_limit
+    on : (length past < most_entries) ⊎ (most_entries ≤ length past) → length past < most_entries
     on (inl l) = l
-    on (inr l) = absurd (not_full (ap (λ (t : Bool). answer_to t (is_ending past) (next_action setup past) (next_poll setup past) (is_other_out setup past w)) (le-leb entries_limit (length past) l)))
+    on (inr l) = absurd (not_full (ap (λ (t : Bool). answer_to t (is_ending past) (next_action setup past) (next_poll setup past) (is_other_out setup past w)) (le-leb most_entries (length past) l)))
 
 not_full : (w : ℕ) (d : Decision) → Answers w d Asked.Short → d ≡ Full → ⊥
 not_full w Full h e = h

@@ -4,13 +4,14 @@ use Rattle.std.proofs.lemmas.Bool.{cases_eq, eq-eqb, eqb-true, leb-false}
 use Rattle.std.proofs.lemmas.Grind.{common_steps}
 use Rattle.std.proofs.lemmas.List.{get_or-set_other, get_or-set_same, set-get_or}
 use Rattle.std.specs.Prelude.{find, nat_le}
+use Rattle.engine_types.specs.declared.Aim.{Aim}
+use Rattle.tree_base.specs.Limits.{most_entries}
 use Rattle.tree_base.specs.Reserved.{Reserved}
 use Rattle.engine_types.specs.declared.Entry.{Entry}
 use Rattle.engine_types.specs.declared.LateWhy.{LateWhy}
 use Rattle.run_model.specs.Journals.{Holding, Nothing, Setup, Watch, Work, has_left, has_stopped, holding, is_ending, is_open, is_watch_of, polls, seen_in}
-use Rattle.run_model.specs.Legal.{IsLegal, IsReady, Look, MayStand, Pause, answer_to, decision, entries_limit, is_looked_at, is_other_out, next_action, next_poll}
+use Rattle.run_model.specs.Legal.{IsLegal, IsReady, Look, MayStand, Pause, answer_to, decision, is_looked_at, is_other_out, next_action, next_poll}
 use Rattle.run_model.specs.Numbers.{numbers_from}
-use Rattle.run_model.specs.Plans.{Aim}
 use Rattle.ledger_rows.specs.ActionRows.Values.{Actions}
 use Rattle.ledger_rows.specs.Laws.{is_quiet}
 use Rattle.ledger_rows.specs.Workers.{no_worker}
@@ -55,16 +56,16 @@ found_below p i (suc n) k e = by (p i) (found_below p (i + 1) n k) e
 -- where a decision is to poll, the slot is the next one, and the journal isn't full
 record IsLook (setup : Setup) (past : List Entry) (s : ℕ) : Type 0 where
   next : next_poll setup past ≡ Some s
-  short : length past < entries_limit
+  short : length past < most_entries
 
 look_is : (setup : Setup) (past : List Entry) (w s : ℕ) → decision setup past w ≡ Look s → IsLook setup past s
-look_is setup past w s d = on (nat_le entries_limit (length past)) (is_ending past) (next_action setup past) (next_poll setup past) (is_other_out setup past w) refl refl d
+look_is setup past w s d = on (nat_le most_entries (length past)) (is_ending past) (next_action setup past) (next_poll setup past) (is_other_out setup past w) refl refl d
   where
-    on : (t e : Bool) (a p : Option ℕ) (o : Bool) → nat_le entries_limit (length past) ≡ t → next_poll setup past ≡ p → answer_to t e a p o ≡ Look s → IsLook setup past s
+    on : (t e : Bool) (a p : Option ℕ) (o : Bool) → nat_le most_entries (length past) ≡ t → next_poll setup past ≡ p → answer_to t e a p o ≡ Look s → IsLook setup past s
     on true e a p o ht hp h = absurd (cc h)
     on false true a p o ht hp h = absurd (cc h)
     on false false (Some a) p o ht hp h = absurd (cc h)
-    on false false None (Some x) o ht hp h = let same : x ≡ s = cc h in record { next = hp ∙ ap (λ (k : ℕ). Some k) same; short = leb-false entries_limit (length past) ht }
+    on false false None (Some x) o ht hp h = let same : x ≡ s = cc h in record { next = hp ∙ ap (λ (k : ℕ). Some k) same; short = leb-false most_entries (length past) ht }
     on false false None None true ht hp h = absurd (cc h)
     on false false None None false ht hp h = absurd (cc h)
 

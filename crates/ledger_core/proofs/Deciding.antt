@@ -4,10 +4,11 @@ use Rattle.std.proofs.lemmas.Bool.{le-leb, lt-leb}
 use Rattle.std.proofs.lemmas.List.{length-reverse}
 use Rattle.std.specs.List.{list_any}
 use Rattle.std.specs.Prelude.{find, nat_le}
+use Rattle.tree_base.specs.Limits.{most_entries}
 use Rattle.tree_base.specs.Reserved.{Reserved}
 use Rattle.engine_types.specs.declared.Entry.{Entry}
 use Rattle.run_model.specs.Journals.{Setup, is_ending}
-use Rattle.run_model.specs.Legal.{Decision, Full, Go, Look, Take, answer_to, decision, entries_limit, is_other_out, next_action, next_poll}
+use Rattle.run_model.specs.Legal.{Decision, Full, Go, Look, Take, answer_to, decision, is_other_out, next_action, next_poll}
 use Rattle.run_model.specs.Numbers.{places}
 use Rattle.rank_rows.specs.Ranks.{least}
 use Rattle.ledger_rows.specs.ActionRows.{is_ready, numbers}
@@ -36,10 +37,10 @@ module _ (setup : Setup) (journal : Reserved Entry) (rows : Actions) (slots : Li
   pub out_is : (w : ℕ) → list_any (λ v. not (v == w) && (get_or workers v no_worker).out) (places workers) ≡ is_other_out setup (reverse journal.items) w
   out_is w = other_out setup (reverse journal.items) w workers is.workers_size is.each_worker
 
-  long : (t : Bool) → nat_le entries_limit (length journal.items) ≡ t → nat_le entries_limit (length (reverse journal.items)) ≡ t
-  long t h = ap (nat_le entries_limit) (length-reverse journal.items) ∙ h
+  long : (t : Bool) → nat_le most_entries (length journal.items) ≡ t → nat_le most_entries (length (reverse journal.items)) ≡ t
+  long t h = ap (nat_le most_entries) (length-reverse journal.items) ∙ h
 
-  answered : (w : ℕ) (t e : Bool) (a s : Option ℕ) (o : Bool) → nat_le entries_limit (length journal.items) ≡ t → is_ending (reverse journal.items) ≡ e → next_action setup (reverse journal.items) ≡ a
+  answered : (w : ℕ) (t e : Bool) (a s : Option ℕ) (o : Bool) → nat_le most_entries (length journal.items) ≡ t → is_ending (reverse journal.items) ≡ e → next_action setup (reverse journal.items) ≡ a
       → next_poll setup (reverse journal.items) ≡ s → is_other_out setup (reverse journal.items) w ≡ o → decision setup (reverse journal.items) w ≡ answer_to t e a s o
   answered w t e a s o ht he ha hs ho =
       ap (λ (x : Bool). answer_to x (is_ending (reverse journal.items)) (next_action setup (reverse journal.items)) (next_poll setup (reverse journal.items)) (is_other_out setup (reverse journal.items) w)) (long t ht)
@@ -49,17 +50,17 @@ module _ (setup : Setup) (journal : Reserved Entry) (rows : Actions) (slots : Li
       ∙ ap (λ (x : Bool). answer_to t e a s x) ho
 
   pub decides_full : (w : ℕ) → 1000000 ≤ length journal.items → Full ≡ decision setup (reverse journal.items) w
-  decides_full w l = sym (answered w true (is_ending (reverse journal.items)) _ _ _ (le-leb entries_limit (length journal.items) l) refl refl refl refl)
+  decides_full w l = sym (answered w true (is_ending (reverse journal.items)) _ _ _ (le-leb most_entries (length journal.items) l) refl refl refl refl)
 
   pub decides_end : (w : ℕ) → length journal.items < 1000000 → ending ≡ true → Go ≡ decision setup (reverse journal.items) w
-  decides_end w l e = sym (answered w false true _ _ _ (lt-leb entries_limit (length journal.items) l) (sym is.ending_is ∙ e) refl refl refl)
+  decides_end w l e = sym (answered w false true _ _ _ (lt-leb most_entries (length journal.items) l) (sym is.ending_is ∙ e) refl refl refl)
 
   pub decides_take : (w a : ℕ) → length journal.items < 1000000 → ending ≡ false → Some a ≡ find (is_ready rows) (numbers rows) → Take a ≡ decision setup (reverse journal.items) w
-  decides_take w a l e h = sym (answered w false false (Some a) _ _ (lt-leb entries_limit (length journal.items) l) (sym is.ending_is ∙ e) (sym action_is ∙ sym h) refl refl)
+  decides_take w a l e h = sym (answered w false false (Some a) _ _ (lt-leb most_entries (length journal.items) l) (sym is.ending_is ∙ e) (sym action_is ∙ sym h) refl refl)
 
   pub decides_look : (w s : ℕ) → length journal.items < 1000000 → ending ≡ false → None ≡ find (is_ready rows) (numbers rows) → Some s ≡ least (map slot_key slots) → Look s ≡ decision setup (reverse journal.items) w
-  decides_look w s l e h k = sym (answered w false false None (Some s) _ (lt-leb entries_limit (length journal.items) l) (sym is.ending_is ∙ e) (sym action_is ∙ sym h) (sym poll_is ∙ sym k) refl)
+  decides_look w s l e h k = sym (answered w false false None (Some s) _ (lt-leb most_entries (length journal.items) l) (sym is.ending_is ∙ e) (sym action_is ∙ sym h) (sym poll_is ∙ sym k) refl)
 
   pub decides_last : (w : ℕ) (t : Bool) (d : Decision) → length journal.items < 1000000 → ending ≡ false → None ≡ find (is_ready rows) (numbers rows) → None ≡ least (map slot_key slots)
       → list_any (λ v. not (v == w) && (get_or workers v no_worker).out) (places workers) ≡ t → d ≡ answer_to false false None None t → d ≡ decision setup (reverse journal.items) w
-  decides_last w t d l e h k o i = i ∙ sym (answered w false false None None t (lt-leb entries_limit (length journal.items) l) (sym is.ending_is ∙ e) (sym action_is ∙ sym h) (sym poll_is ∙ sym k) (sym (out_is w) ∙ o))
+  decides_last w t d l e h k o i = i ∙ sym (answered w false false None None t (lt-leb most_entries (length journal.items) l) (sym is.ending_is ∙ e) (sym action_is ∙ sym h) (sym poll_is ∙ sym k) (sym (out_is w) ∙ o))

@@ -5,6 +5,7 @@ use Rattle.std.proofs.lemmas.Grind.{common_steps}
 use Rattle.std.proofs.lemmas.List.{get_or-set_other, get_or-set_same}
 use Rattle.std.specs.Option.{option_map_or}
 use Rattle.std.specs.Prelude.{find}
+use Rattle.engine_types.specs.declared.Aim.{Aim}
 use Rattle.tree_base.specs.Reserved.{Reserved}
 use Rattle.engine_types.specs.declared.ActionKind.{ActionKind}
 use Rattle.engine_types.specs.declared.Entry.{Entry}
@@ -13,7 +14,7 @@ use Rattle.run_model.specs.Conditions.{counts, is_blocked, is_pending}
 use Rattle.run_model.specs.Journals.{Free, Nothing, Out, Setup, Standing, Watch, Well, Work, ended_as, holding, is_badly, is_free, is_open, is_watch_of, is_well, standing}
 use Rattle.run_model.specs.Legal.{IsLegal, is_looked_at}
 use Rattle.run_model.specs.Numbers.{numbers_from}
-use Rattle.run_model.specs.Plans.{Aim, is_start_of, kind_of, start_of}
+use Rattle.run_model.specs.Plans.{is_start_of, kind_of, start_of}
 use Rattle.journal_laws.proofs.Holders.{is_held}
 use Rattle.ledger_rows.specs.ActionRows.Values.{Actions}
 use Rattle.ledger_rows.specs.Entries.{IsDueTo, RowsSay}

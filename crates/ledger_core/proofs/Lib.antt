@@ -3,7 +3,6 @@ pub mod Asking
 pub mod Deciding
 pub mod Ending
 pub mod Entries
-pub mod FirstFaults
 pub mod Stopping
 pub mod Permits
 pub mod Seeing

@@ -2,12 +2,13 @@
 use Rattle.std.proofs.Common.{◌≡◌, ◌⊎◌, ℕ, zero, suc, ◌+◌, ◌<◌, ◌≤◌, Bool, true, false, cond, List, [], ◌∷◌, ◌++◌, length, reverse, get_or, set, Option, Some, None, if◌then◌else◌, refl, sym, ap, ◌∙◌, subst, inl, inr, arith}
 use Rattle.std.proofs.lemmas.Bool.{cases_lt, eq-eqb}
 use Rattle.std.specs.Prelude.{find, nat_le}
+use Rattle.tree_base.specs.Limits.{most_entries}
 use Rattle.tree_base.specs.Reserved.{Reserved}
 use Rattle.engine_types.specs.declared.ActionKind.{ActionKind}
 use Rattle.engine_types.specs.declared.Entry.{Entry}
 use Rattle.engine_types.specs.declared.Outcome.{Outcome}
 use Rattle.run_model.specs.Journals.{Free, Nothing, Out, Setup, Standing, Well, Work, ended_as, holding, is_ending, is_open, is_well, standing}
-use Rattle.run_model.specs.Legal.{IsReady, Take, answer_to, decision, entries_limit, is_other_out, next_action, next_poll}
+use Rattle.run_model.specs.Legal.{IsReady, Take, answer_to, decision, is_other_out, next_action, next_poll}
 use Rattle.ledger_rows.specs.ActionRows.{is_ready, numbers}
 use Rattle.ledger_rows.specs.ActionRows.Values.{Actions}
 use Rattle.ledger_rows.specs.Entries.{RowsSay}
@@ -27,7 +28,7 @@ use Rattle.ledger_core.proofs.Entries.{Enters, entered, room_of}
 
 -- where a decision is to take an action, it is the next one
 take_is : (setup : Setup) (past : List Entry) (w a : ℕ) → decision setup past w ≡ Take a → next_action setup past ≡ Some a
-take_is setup past w a d = on (nat_le entries_limit (length past)) (is_ending past) (next_action setup past) (next_poll setup past) (is_other_out setup past w) refl d
+take_is setup past w a d = on (nat_le most_entries (length past)) (is_ending past) (next_action setup past) (next_poll setup past) (is_other_out setup past w) refl d
   where
     on : (t e : Bool) (x p : Option ℕ) (o : Bool) → next_action setup past ≡ x → answer_to t e x p o ≡ Take a → next_action setup past ≡ Some a
     on true e x p o hx h = absurd (cc h)

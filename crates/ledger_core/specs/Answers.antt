@@ -1,9 +1,10 @@
 -- What an ask is answered, and the entry that each answer leaves.
 use Rattle.std.specs.Prelude.{◌≡◌, ℕ, ◌<◌, Some, List, length}
+use Rattle.tree_base.specs.Limits.{most_entries}
 use Rattle.engine_types.specs.declared.Entry.{Entry}
 use Rattle.engine_types.specs.declared.LateWhy.{LateWhy}
 use Rattle.run_model.specs.Journals.{Holding, Setup, Watch, Work}
-use Rattle.run_model.specs.Legal.{Decision, Full, Go, Look, Pause, Take, decision, entries_limit}
+use Rattle.run_model.specs.Legal.{Decision, Full, Go, Look, Pause, Take, decision}
 use Rattle.run_model.specs.Requests.{action_request, poll_request}
 use Rattle.journal_laws.specs.Laws.{decided_entry}
 use Rattle.ledger_core.specs.declared.asked.Asked.{Asked}
@@ -46,5 +47,5 @@ abbrev pub IsLastEntry : Setup → List Entry → ℕ → Entry → Type 0
 IsLastEntry setup past w (Entry.Leave v) = (v ≡ w) × (decision setup past w ≡ Go)
 IsLastEntry setup past w (Entry.Late v LateWhy.Entries) =
     (v ≡ w) × (decision setup past w ≡ Full)
-IsLastEntry setup past w (Entry.Short v) = (v ≡ w) × (length past < entries_limit)
+IsLastEntry setup past w (Entry.Short v) = (v ≡ w) × (length past < most_entries)
 IsLastEntry setup past w _ = ⊥

@@ -1,5 +1,7 @@
 -- What a run may begin with.
 use Rattle.std.specs.Prelude.{◌≡◌, ◌≤◌, true, List, [], ◌∷◌}
+use Rattle.engine_types.specs.declared.Aim.{Aim}
+use Rattle.tree_base.specs.Limits.{most_workers}
 use Rattle.engine_types.specs.declared.Declared.{Declared}
 use Rattle.engine_types.specs.declared.Entry.{Entry}
 use Rattle.engine_types.specs.declared.Observed.{Observed}
@@ -9,7 +11,7 @@ use Rattle.engine_types.specs.declared.Seen.{Seen}
 use Rattle.engine_types.specs.declared.SeenEnd.{SeenEnd}
 use Rattle.run_model.specs.Legal.{IsObserved}
 use Rattle.run_model.specs.Observation.{is_up}
-use Rattle.run_model.specs.Plans.{Aim, AreKeptPlaces, HasPlan, IsOrderly, IsWhole}
+use Rattle.run_model.specs.Plans.{AreKeptPlaces, HasPlan, IsOrderly, IsWhole}
 use Rattle.journal_laws.specs.Courses.{Course}
 
 -- what a run may begin with: an observation that ended well, and a plan for what it saw and for its aim, perhaps with more
@@ -26,7 +28,7 @@ pub record MayBegin (declared : Declared) (observed : Observed) (plan : Plan)
   pub kept : AreKeptPlaces declared seen plan.kept
   pub waits_up : limits.wait ≡ true → is_up aim.purpose ≡ true
   pub some_worker : 1 ≤ limits.workers
-  pub few_workers : limits.workers ≤ 16
+  pub few_workers : limits.workers ≤ most_workers
 
 -- a run by what it is of and its journal
 abbrev pub run_of : Declared → Plan → RunLimits → List Entry → Course

@@ -1,10 +1,11 @@
 -- The laws of a ledger.
 use Rattle.std.specs.Prelude.{◌≡◌, ℕ, ◌+◌, ◌≤◌, Bool, false, true, List, [], ◌∷◌, ◌++◌, get_or, reverse, set}
+use Rattle.engine_types.specs.declared.Aim.{Aim}
 use Rattle.tree_base.specs.Reserved.{Reserved}
 use Rattle.engine_types.specs.declared.Entry.{Entry}
 use Rattle.engine_types.specs.declared.Outcome.{Outcome}
 use Rattle.run_model.specs.Journals.{Setup, Work, ended_as, holding, is_well}
-use Rattle.run_model.specs.Plans.{Aim, kind_of}
+use Rattle.run_model.specs.Plans.{kind_of}
 use Rattle.journal_laws.specs.Courses.{Course, MayAsk, grown}
 use Rattle.journal_laws.specs.Laws.{IsLegalRun, decided}
 use Rattle.ledger_rows.specs.ActionRows.Values.{Actions}

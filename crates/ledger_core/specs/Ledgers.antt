@@ -1,12 +1,14 @@
 -- What holds of every ledger.
 use Rattle.std.specs.Prelude.{◌≡◌, ℕ, ◌+◌, ◌<◌, ◌≤◌, Bool, true, if◌then◌else◌, List, [], ◌∷◌, Option, None, Some, get_or, is_some, length, reverse, set, slice_get}
+use Rattle.engine_types.specs.declared.Aim.{Aim}
+use Rattle.tree_base.specs.Limits.{count_bound, most_workers}
 use Rattle.tree_base.specs.Reserved.{Reserved}
 use Rattle.engine_types.specs.declared.ActionKind.{ActionKind}
 use Rattle.engine_types.specs.declared.Entry.{Entry}
 use Rattle.engine_types.specs.declared.Listed.{Listed}
 use Rattle.run_model.specs.Journals.{Setup, is_ending, seen_in}
 use Rattle.run_model.specs.Legal.{Decision, Full, Go, IsLegal, Look, Pause, Take}
-use Rattle.run_model.specs.Plans.{Aim, AreKeptPlaces, IsOrderly, IsWhole, create_of, kind_of, make_of, needs_of, slot_needs, start_of}
+use Rattle.run_model.specs.Plans.{AreKeptPlaces, IsOrderly, IsWhole, create_of, kind_of, make_of, needs_of, slot_needs, start_of}
 use Rattle.run_model.specs.Requests.{stop_seconds}
 use Rattle.ledger_rows.specs.ActionRows.Values.{Actions}
 use Rattle.ledger_rows.specs.Entries.{RowsSay}
@@ -37,7 +39,7 @@ pub record IsLedger (setup : Setup) (journal : Reserved Entry) (rows : Actions)
   pub legal : IsLegal aim setup (reverse journal.items)
   pub begun : is_some (seen_in (reverse journal.items)) ≡ true
   pub orderly : IsOrderly setup.declared setup.actions
-  pub few : setup.limits.workers ≤ 16
+  pub few : setup.limits.workers ≤ most_workers
   pub actions : RowsSay setup journal.items rows
   pub watched : AreSlots setup (reverse journal.items) slots
   pub workers_size : length workers ≡ setup.limits.workers
@@ -60,7 +62,7 @@ pub record IsPlanned (setup : Setup) (kept_places : List (Option ℕ)) (rows : D
   pub whole : IsWhole setup.declared
   pub single : StartsAreSingle setup
   pub few_needs : (a : ℕ) → length (needs_of setup.actions a)
-      + length (slot_needs setup.declared (kind_of setup.actions a)) < 4294967296
+      + length (slot_needs setup.declared (kind_of setup.actions a)) < count_bound
   pub dependents : AreDependents setup rows
   pub kept : AreKeptPlaces setup.declared setup.seen kept_places
   pub creates : (s : ℕ) → get_or places.creates s None ≡ create_of setup.actions s

@@ -2,5 +2,4 @@ pub mod Answers
 pub mod Beginning
 pub mod Ledgers
 pub mod Laws
-pub mod Statuses
 pub mod Seeing

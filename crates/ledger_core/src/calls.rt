@@ -1,7 +1,8 @@
 ghost use Rattle.std.specs.Prelude.{◌≡◌, ◌<◌, Some, length};
+ghost use Rattle.tree_base.specs.Limits.{most_entries};
 ghost use Rattle.engine_types.specs.declared.Entry.{Entry as Entered};
 ghost use Rattle.run_model.specs.Journals.{Work, holding};
-ghost use Rattle.run_model.specs.Legal.{Look, Pause, Take, entries_limit};
+ghost use Rattle.run_model.specs.Legal.{Look, Pause, Take};
 ghost use Rattle.run_model.specs.Requests.{action_request, poll_request};
 ghost use Rattle.journal_laws.specs.Courses.{MayAsk, entries, grown, setup_of};
 ghost use Rattle.journal_laws.specs.Laws.{decided};
@@ -45,7 +46,7 @@ pub fn ask(ledger: &mut Ledger, alloc: Global, worker: u32) -> Asked
 fn take(ledger: &mut Ledger, alloc: Global, worker: u32, action: u32) -> Asked
     requires ready { MayAsk ledger.old worker }
     requires decided { decided ledger.old worker ≡ Take action }
-    requires room { length (entries ledger.old) < entries_limit }
+    requires room { length (entries ledger.old) < most_entries }
     ensures answers { Answers worker (Take action) result }
     ensures asks { AsksFor (setup_of ledger.old) (entries ledger.old) (Take action) result }
     ensures entered { ledger.new ≡ grown ledger.old (answer_entry worker (Take action) result) }
@@ -66,7 +67,7 @@ fn take(ledger: &mut Ledger, alloc: Global, worker: u32, action: u32) -> Asked
 fn claim(ledger: &mut Ledger, worker: u32, action: u32, request: Request) -> Asked
     requires ready { MayAsk ledger.old worker }
     requires decided { decided ledger.old worker ≡ Take action }
-    requires room { length (entries ledger.old) < entries_limit }
+    requires room { length (entries ledger.old) < most_entries }
     requires made { action_request (setup_of ledger.old) (entries ledger.old) action
         ≡ Some request }
     ensures answers { Answers worker (Take action) result }
@@ -90,7 +91,7 @@ fn claim(ledger: &mut Ledger, worker: u32, action: u32, request: Request) -> Ask
 fn look(ledger: &mut Ledger, alloc: Global, worker: u32, slot: u32) -> Asked
     requires ready { MayAsk ledger.old worker }
     requires decided { decided ledger.old worker ≡ Look slot }
-    requires room { length (entries ledger.old) < entries_limit }
+    requires room { length (entries ledger.old) < most_entries }
     ensures answers { Answers worker (Look slot) result }
     ensures asks { AsksFor (setup_of ledger.old) (entries ledger.old) (Look slot) result }
     ensures entered { ledger.new ≡ grown ledger.old (answer_entry worker (Look slot) result) }
@@ -111,7 +112,7 @@ fn look(ledger: &mut Ledger, alloc: Global, worker: u32, slot: u32) -> Asked
 fn poll(ledger: &mut Ledger, worker: u32, slot: u32, request: Request) -> Asked
     requires ready { MayAsk ledger.old worker }
     requires decided { decided ledger.old worker ≡ Look slot }
-    requires room { length (entries ledger.old) < entries_limit }
+    requires room { length (entries ledger.old) < most_entries }
     requires made { poll_request (setup_of ledger.old) (entries ledger.old) slot ≡ Some request }
     ensures answers { Answers worker (Look slot) result }
     ensures asks { AsksFor (setup_of ledger.old) (entries ledger.old) (Look slot) result }
@@ -134,7 +135,7 @@ fn poll(ledger: &mut Ledger, worker: u32, slot: u32, request: Request) -> Asked
 fn pause(ledger: &mut Ledger, worker: u32) -> Asked
     requires ready { MayAsk ledger.old worker }
     requires decided { decided ledger.old worker ≡ Pause }
-    requires room { length (entries ledger.old) < entries_limit }
+    requires room { length (entries ledger.old) < most_entries }
     ensures answers { Answers worker Pause result }
     ensures entered { ledger.new ≡ grown ledger.old (answer_entry worker Pause result) }
 {
@@ -150,7 +151,7 @@ fn pause(ledger: &mut Ledger, worker: u32) -> Asked
 /// Memory was wanted: the worker leaves. No memory.
 fn fall_short(ledger: &mut Ledger, worker: u32)
     requires ready { MayAsk ledger.old worker }
-    requires room { length (entries ledger.old) < entries_limit }
+    requires room { length (entries ledger.old) < most_entries }
     ensures { ledger.new ≡ grown ledger.old (Entered.Short worker) }
 {
     ledger.leave(worker, Entry::Short { worker });

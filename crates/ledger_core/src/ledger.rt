@@ -14,7 +14,6 @@ ghost use Rattle.ledger_requests.specs.Sources.{AreSources, past_in, setup_in};
 ghost use Rattle.ledger_core.specs.Beginning.{run_of};
 ghost use Rattle.ledger_core.specs.Ledgers.{IsLedger, IsPlanned, counting, decision_of};
 
-use crate::exit_status::ended_well;
 use crate::places::Places;
 use crate::seen::first_seen;
 use crate::started::Started;
@@ -26,10 +25,12 @@ use ledger_ends::{Dependents, Losses, RunSoFar, claim, end_badly, end_well};
 use ledger_polls::end_poll;
 use ledger_requests::{Sources, action_request, poll_request};
 use ledger_rows::{ActionRows, WorkerRow, is_other_out};
+use run_lookups::is_well;
 use run_requests::Run;
 use slot_rows::SlotRows;
 use std::alloc::Global;
 use std::marker::Model;
+use tree_base::limits::MOST_ENTRIES;
 use tree_base::{List, Memory, ReservedList};
 
 /// How many entries a grant or a pause takes room for: what 16 workers may still enter without memory, and its own.
@@ -123,7 +124,7 @@ impl Ledger {
         requires { MayAsk self.now worker }
         ensures { decision_of result ≡ decided self.now worker }
     {
-        if self.journal.len() >= 1_000_000 {
+        if self.journal.len() >= MOST_ENTRIES {
             return Step::Full;
         }
         if self.ending {
@@ -190,7 +191,10 @@ impl Ledger {
     pub(crate) fn ends_well(&self, action: u32, outcome: &Outcome) -> bool
         ensures { result ≡ is_well (ended_as (kind_of self.now.plan.actions action) outcome.now) }
     {
-        ended_well(&self.plan, action, outcome)
+        match self.plan.actions.get(action as usize) {
+            Some(action) => is_well(action.kind, outcome),
+            None => false,
+        }
     }
 
     /// A worker leaves, by its last entry. No memory.

@@ -2,13 +2,11 @@
 //! journal or the actions: an action that is allowed, a poll of a slot that is watched, a pause, or to leave.
 //!
 //! Contracts say that what is decided is what the definition of legal journals decides, that each change appends exactly one
-//! entry, and that the journal stays legal by any answer, for any number of workers. `status` gives the exit status of a journal.
+//! entry, and that the journal stays legal by any answer, for any number of workers.
 #![tactic(auto)]
 
 mod asked;
 mod calls;
-mod exit_status;
-mod held;
 mod laws;
 mod ledger;
 mod permit;
@@ -19,7 +17,6 @@ mod step;
 
 pub use asked::Asked;
 pub use calls::{ask, end};
-pub use exit_status::status;
 pub use laws::{answers_are_legal, good_ends_keep_ledgers};
 pub use ledger::Ledger;
 pub use permit::{Grant, Permit};

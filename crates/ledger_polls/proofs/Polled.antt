@@ -5,6 +5,7 @@ use Rattle.std.proofs.lemmas.Grind.{common_steps}
 use Rattle.std.proofs.lemmas.List.{get_or-set_other, get_or-set_same}
 use Rattle.std.specs.List.{list_any}
 use Rattle.std.specs.Option.{option_map_or}
+use Rattle.engine_types.specs.declared.Aim.{Aim}
 use Rattle.engine_types.specs.declared.Condition.{Condition}
 use Rattle.engine_types.specs.declared.Entry.{Entry}
 use Rattle.engine_types.specs.declared.Outcome.{Outcome}
@@ -12,7 +13,7 @@ use Rattle.run_model.specs.Conditions.{counts, has_failed, is_failed_verdict, is
 use Rattle.run_model.specs.Journals.{Holding, Nothing, Setup, Standing, Watch, holding, is_free, is_watch_of, is_well, standing}
 use Rattle.run_model.specs.Legal.{IsLegal, is_looked_at}
 use Rattle.run_model.specs.Numbers.{numbers_from}
-use Rattle.run_model.specs.Plans.{Aim, IsOrderly, IsWhole, is_running, start_of}
+use Rattle.run_model.specs.Plans.{IsOrderly, IsWhole, is_running, start_of}
 use Rattle.run_model.specs.declared.verdict.Verdict.{Verdict}
 use Rattle.journal_laws.proofs.Reports.{failed_counts, met_counts, never_fails_started, polled}
 use Rattle.ledger_rows.specs.ActionRows.Values.{Actions}

@@ -1,8 +1,10 @@
 ghost use Rattle.std.specs.Prelude.{◌≡◌, ◌+◌, ◌++◌, ◌∷◌, [], ◌<◌, ℕ, length, reverse};
+ghost use Rattle.engine_types.specs.declared.Aim.{Aim};
+ghost use Rattle.tree_base.specs.Limits.{count_bound};
 ghost use Rattle.engine_types.specs.declared.Entry.{Entry};
 ghost use Rattle.run_model.specs.Journals.{Watch, holding};
 ghost use Rattle.run_model.specs.Legal.{IsLegal};
-ghost use Rattle.run_model.specs.Plans.{Aim, IsOrderly, IsWhole, kind_of, needs_of, slot_needs};
+ghost use Rattle.run_model.specs.Plans.{IsOrderly, IsWhole, kind_of, needs_of, slot_needs};
 ghost use Rattle.ledger_rows.specs.Entries.{Ending, RowsSay};
 ghost use Rattle.slot_rows.specs.Slots.{AreSlots};
 ghost use Rattle.ledger_ends.specs.Dependents.{AreDependents};
@@ -33,7 +35,7 @@ pub fn end_poll(
     requires orderly { IsOrderly run.setup.declared run.setup.actions }
     requires whole { IsWhole run.setup.declared }
     requires few { (a : ℕ) → length (needs_of run.setup.actions a)
-        + length (slot_needs run.setup.declared (kind_of run.setup.actions a)) < 4294967296 }
+        + length (slot_needs run.setup.declared (kind_of run.setup.actions a)) < count_bound }
     requires said { RowsSay run.setup run.journal rows.old }
     requires watched { AreSlots run.setup (reverse run.journal) slots.old }
     requires no_losses { HasNoLosses run.setup losses.old }

@@ -1,4 +1,5 @@
 ghost use Rattle.std.specs.Prelude.{◌≡◌, ◌+◌, ◌<◌, ℕ, false, length, true};
+ghost use Rattle.tree_base.specs.Limits.{count_bound};
 ghost use Rattle.run_model.specs.Conditions.{is_reported};
 ghost use Rattle.run_model.specs.Plans.{kind_of, needs_of, slot_needs};
 ghost use Rattle.run_model.specs.declared.verdict.Verdict.{Verdict};
@@ -40,7 +41,7 @@ fn unmeet_met(rows: &mut ActionRows, asked: &Asking, slot: u32)
     requires there { news.slot < length news.setup.declared.slots }
     requires asked { AreAsked news.setup news.condition asked.now }
     requires few { (a : ℕ) → length (needs_of news.setup.actions a)
-        + length (slot_needs news.setup.declared (kind_of news.setup.actions a)) < 4294967296 }
+        + length (slot_needs news.setup.declared (kind_of news.setup.actions a)) < count_bound }
     ensures said { AreRows news.setup (facts_with news Verdict.NotYet) news.journal rows.new }
     ensures states { rows.new.states ≡ rows.old.states }
 {
@@ -104,7 +105,7 @@ fn fail_met(
     requires net { IsNet news.setup dependents.now.stopped dependents.now.freed }
     requires ready { AreReady news.setup losses.old }
     requires few { (a : ℕ) → length (needs_of news.setup.actions a)
-        + length (slot_needs news.setup.declared (kind_of news.setup.actions a)) < 4294967296 }
+        + length (slot_needs news.setup.declared (kind_of news.setup.actions a)) < count_bound }
     ensures said { AreRows news.setup (facts_with news Verdict.Failed) news.journal rows.new }
     ensures ready { AreReady news.setup losses.new }
     ensures before { (a : ℕ) → was_blocked rows.new losses.new.fresh a
@@ -137,7 +138,7 @@ fn turn(
     requires net { IsNet news.setup dependents.now.stopped dependents.now.freed }
     requires ready { AreReady news.setup losses.old }
     requires few { (a : ℕ) → length (needs_of news.setup.actions a)
-        + length (slot_needs news.setup.declared (kind_of news.setup.actions a)) < 4294967296 }
+        + length (slot_needs news.setup.declared (kind_of news.setup.actions a)) < count_bound }
     ensures said { AreRows news.setup (facts_with news after) news.journal rows.new }
     ensures ready { AreReady news.setup losses.new }
     ensures turned { (a : ℕ) → was_blocked rows.new losses.new.fresh a
@@ -178,7 +179,7 @@ pub(crate) fn turn_healthy(
     requires net { IsNet news.setup dependents.now.stopped dependents.now.freed }
     requires ready { AreReady news.setup losses.old }
     requires few { (a : ℕ) → length (needs_of news.setup.actions a)
-        + length (slot_needs news.setup.declared (kind_of news.setup.actions a)) < 4294967296 }
+        + length (slot_needs news.setup.declared (kind_of news.setup.actions a)) < count_bound }
     ensures said { AreRows news.setup (facts_with news after.healthy) news.journal rows.new }
     ensures ready { AreReady news.setup losses.new }
     ensures turned { (a : ℕ) → was_blocked rows.new losses.new.fresh a
@@ -218,7 +219,7 @@ pub(crate) fn turn_completed(
     requires net { IsNet news.setup dependents.now.stopped dependents.now.freed }
     requires ready { AreReady news.setup losses.old }
     requires few { (a : ℕ) → length (needs_of news.setup.actions a)
-        + length (slot_needs news.setup.declared (kind_of news.setup.actions a)) < 4294967296 }
+        + length (slot_needs news.setup.declared (kind_of news.setup.actions a)) < count_bound }
     ensures said { AreRows news.setup (facts_with news after.completed) news.journal rows.new }
     ensures ready { AreReady news.setup losses.new }
     ensures turned { (a : ℕ) → was_blocked rows.new losses.new.fresh a

@@ -1,5 +1,5 @@
 -- Where the requests of a run find what they name.
-use Rattle.std.specs.Prelude.{◌≡◌, ℕ, List, Option, Some, None, get_or, reverse, slice_get}
+use Rattle.std.specs.Prelude.{◌≡◌, ℕ, List, Option, Some, None, get_or, option_and_then, reverse, slice_get}
 use Rattle.engine_types.specs.declared.Entry.{Entry}
 use Rattle.engine_types.specs.declared.Listed.{Listed}
 use Rattle.engine_types.specs.declared.Outcome.{Outcome}
@@ -8,6 +8,7 @@ use Rattle.run_model.specs.Plans.{AreKeptPlaces, create_of, make_of}
 use Rattle.run_model.specs.Requests.{made_id, stop_seconds}
 use Rattle.run_requests.specs.Asking.{Ids}
 use Rattle.run_requests.specs.Setups.{setup_of}
+use Rattle.ledger_rows.specs.ActionRows.{state_at}
 use Rattle.ledger_rows.specs.Entries.{RowsSay}
 use Rattle.ledger_rows.specs.declared.action_rows.State.{State}
 use Rattle.ledger_requests.specs.declared.sources.Sources.{Sources}
@@ -49,6 +50,13 @@ abbrev pub told_by : List Entry → State → Option (List ℕ)
 told_by journal (State.Well at) = id_in (slice_get journal at)
 told_by journal _ = None
 
--- a look-up that tells no ids
-abbrev pub no_ids : Ids
-no_ids = record { creator = λ s. None; maker = λ n. None; told = λ a. None }
+-- what the sources tell
+abbrev pub ids_in : Sources → Ids
+ids_in sources = record {
+  kept_by = λ s. option_and_then (slice_get sources.run.seen.now.containers)
+      (get_or sources.run.plan.now.kept s None);
+  waits = λ c. slice_get sources.seconds.now c;
+  creator = λ s. get_or sources.creates.now s None;
+  maker = λ n. get_or sources.makes.now n None;
+  told = λ a. told_by sources.journal.now (state_at sources.rows.now a);
+}

@@ -1,36 +1,48 @@
-ghost use Rattle.std.specs.Prelude.{◌≡◌, ◌<◌, None, Some, get_or, length, option_and_then};
+//! What requests name, found where a ledger keeps it.
+
+ghost use Rattle.std.specs.Prelude.{◌≡◌, None, Some, get_or, option_and_then, slice_get};
 ghost use Rattle.std.specs.Option.{option_copied};
-ghost use Rattle.run_model.specs.Journals.{standing};
-ghost use Rattle.run_model.specs.Plans.{create_of, kept};
-ghost use Rattle.run_model.specs.Requests.{made_id, network_id, slot_id};
 ghost use Rattle.ledger_rows.specs.ActionRows.{state_at};
-ghost use Rattle.ledger_requests.specs.Sources.{AreSources, id_in, id_of, past_in, setup_in, told_by};
+ghost use Rattle.ledger_requests.specs.Sources.{id_in, id_of, ids_in, told_by};
 
 use crate::sources::Sources;
-use engine_types::{Entry, Listed, Outcome, Reply};
-use ledger_rows::State;
-use run_requests::seen_network_id;
-use tree_base::Text;
+use engine_types::{Entry, Listed, Outcome, Plan, Reply, Seen};
+use ledger_rows::{ActionRows, State};
+use run_requests::ToldIds;
+use std::alloc::Global;
+use tree_base::{Memory, Text};
 
-/// The id of a slot's container: that of the kept one, else what its create was told. No memory.
-pub(crate) fn slot_id<'a>(sources: &Sources<'a>, slot: u32) -> Option<&'a Text>
-    requires { AreSources sources.now }
-    ensures { option_copied result ≡ slot_id (setup_in sources.now) (past_in sources.now) slot }
-{
-    match kept_row(sources, slot) {
-        Some(row) => Some(&row.id),
-        None => created_id(sources, slot),
+impl ToldIds for Sources<'_> {
+    ghost ids = { λ sources. ids_in sources };
+
+    fn kept(&self, _alloc: Global, slot: u32) -> Result<Option<&Listed>, Memory> {
+        Ok(kept_row(self.run.plan, self.run.seen, slot))
+    }
+
+    fn stop_seconds(&self, _alloc: Global, container: u64) -> Result<Option<u64>, Memory> {
+        Ok(seconds_at(self.seconds, container as usize))
+    }
+
+    fn creator(&self, slot: u32) -> Option<usize> {
+        place_at(self.creates, slot)
+    }
+
+    fn maker(&self, network: u32) -> Option<usize> {
+        place_at(self.makes, network)
+    }
+
+    fn told(&self, action: usize) -> Option<&Text> {
+        told_id(self.rows, self.journal, action)
     }
 }
 
-/// The container that a slot keeps. No memory.
-pub(crate) fn kept_row<'a>(sources: &Sources<'a>, slot: u32) -> Option<&'a Listed>
-    requires { AreSources sources.now }
-    ensures { option_copied result
-        ≡ kept sources.now.run.declared.now sources.now.run.seen.now slot }
+/// The container that a slot keeps, by the plan's places.
+fn kept_row<'a>(plan: &Plan, seen: &'a Seen, slot: u32) -> Option<&'a Listed>
+    ensures { option_copied result ≡ option_and_then (slice_get seen.now.containers)
+        (get_or plan.now.kept slot None) }
 {
-    match kept_place(sources.run.plan.kept.as_slice(), slot) {
-        Some(place) => sources.run.seen.containers.get(place as usize),
+    match kept_place(plan.kept.as_slice(), slot) {
+        Some(place) => seen.containers.get(place as usize),
         None => None,
     }
 }
@@ -45,52 +57,33 @@ fn kept_place(places: &[Option<u64>], slot: u32) -> Option<u64>
     }
 }
 
-/// What the create of a slot's container was told.
-fn created_id<'a>(sources: &Sources<'a>, slot: u32) -> Option<&'a Text>
-    requires { AreSources sources.now }
-    ensures { option_copied result
-        ≡ option_and_then (λ a. made_id (standing (setup_in sources.now) (past_in sources.now) a))
-        (create_of sources.now.run.plan.now.actions slot) }
+/// The number at a place, if any.
+fn seconds_at(seconds: &[u64], at: usize) -> Option<u64>
+    ensures { result ≡ slice_get seconds.now at }
 {
-    match place_at(sources.creates, slot) {
-        Some(create) => told_id(sources, create),
+    match seconds.get(at) {
+        Some(seconds) => Some(*seconds),
         None => None,
     }
 }
 
-/// The id of a declared network: what its make was told, else the one that was seen. No memory.
-pub(crate) fn network_id<'a>(sources: &Sources<'a>, network: u32) -> Option<&'a Text>
-    requires { AreSources sources.now }
-    ensures { option_copied result
-        ≡ network_id (setup_in sources.now) (past_in sources.now) network }
-{
-    match place_at(sources.makes, network) {
-        Some(make) => told_id(sources, make),
-        None => {
-            let spec = sources.run.declared.networks.get(network as usize)?;
-            seen_network_id(sources.run.seen, &spec.name)
-        }
-    }
-}
-
-/// The place that stands at a number, if any.
-fn place_at(places: &[Option<u32>], at: u32) -> Option<u32>
+/// The number of the action that stands at a place, if any.
+fn place_at(places: &[Option<u32>], at: u32) -> Option<usize>
     ensures { result ≡ get_or places.now at None }
 {
     match places.get(at as usize) {
-        Some(place) => *place,
+        Some(Some(place)) => Some(*place as usize),
+        Some(None) => None,
         None => None,
     }
 }
 
 /// The id that an action was told, by the entry that its row names.
-fn told_id<'a>(sources: &Sources<'a>, action: u32) -> Option<&'a Text>
-    requires { action < length sources.now.rows.now.states }
-    ensures { option_copied result
-        ≡ told_by sources.now.journal.now (state_at sources.now.rows.now action) }
+fn told_id<'a>(rows: &ActionRows, journal: &'a [Entry], action: usize) -> Option<&'a Text>
+    ensures { option_copied result ≡ told_by journal.now (state_at rows.now action) }
 {
-    match sources.rows.state(action) {
-        State::Well(at) => match sources.journal.get(at) {
+    match rows.state_or_free(action) {
+        State::Well(at) => match journal.get(at) {
             Some(entry) => id_in(entry),
             None => None,
         },

@@ -5,12 +5,9 @@
 //! Contracts say that each is the request that the definitions make by what the journal told so far.
 #![tactic(auto)]
 
-mod connects;
 mod ids;
-mod plain;
 mod requests;
 mod sources;
-mod stops;
 
 pub use requests::{action_request, poll_request};
 pub use sources::Sources;

@@ -6,12 +6,13 @@ use Rattle.std.proofs.lemmas.List.{reverse-append}
 use Rattle.std.proofs.lemmas.Option.{slice_get_past}
 use Rattle.std.specs.Prelude.{is_some, option_map}
 use Rattle.engine_types.specs.declared.Action.{Action}
+use Rattle.engine_types.specs.declared.Aim.{Aim}
 use Rattle.engine_types.specs.declared.Entry.{Entry}
 use Rattle.engine_types.specs.declared.Outcome.{Outcome}
 use Rattle.engine_types.specs.declared.Reply.{Reply}
 use Rattle.run_model.specs.Journals.{Badly, Free, Out, Setup, Standing, Well, Work, ended_as, holding, standing}
 use Rattle.run_model.specs.Legal.{IsLegal}
-use Rattle.run_model.specs.Plans.{Aim, kind_of, slot_needs}
+use Rattle.run_model.specs.Plans.{kind_of, slot_needs}
 use Rattle.journal_laws.proofs.Holders.{is_held}
 use Rattle.journal_laws.proofs.Reports.{failed_counts, met_counts, never_fails_started}
 use Rattle.ledger_rows.specs.ActionRows.{is_ready, key_of, lack_at, state_at}

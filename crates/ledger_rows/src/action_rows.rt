@@ -1,4 +1,5 @@
 ghost use Rattle.std.specs.Prelude.{◌≡◌, ◌+◌, ◌-◌, ◌<◌, ◌≤◌, length, find, get_or, set, IfOk, replicate};
+ghost use Rattle.tree_base.specs.Limits.{count_bound};
 ghost use Rattle.ledger_rows.specs.ActionRows.{is_ready, numbers, lack_at, state_at};
 ghost use Rattle.ledger_rows.specs.declared.action_rows.State.{State};
 
@@ -45,7 +46,7 @@ impl Model for ActionRows {
 impl ActionRows {
     /// Rows of actions that are all free, each kept by so many needs. The whole room of the rows is taken here.
     pub fn new(alloc: Global, lacks: Vec<u32>) -> Result<ActionRows, Memory>
-        requires { length lacks.items < 4294967296 }
+        requires { length lacks.items < count_bound }
         ensures states { IfOk result (λ rows.
             rows.states ≡ replicate (length lacks.items) State.Free) }
         ensures lacks { IfOk result (λ rows. rows.lacks ≡ lacks.items) }
@@ -70,6 +71,16 @@ impl ActionRows {
         ensures { result ≡ state_at self.now action }
     {
         self.states[action as usize]
+    }
+
+    /// How the action with a number stands; one that isn't there is free. No memory.
+    pub fn state_or_free(&self, action: usize) -> State
+        ensures { result ≡ state_at self.now action }
+    {
+        match self.states.get(action) {
+            Some(state) => *state,
+            None => State::Free,
+        }
     }
 
     /// How many needs keep an action. No memory.

@@ -1,4 +1,5 @@
 ghost use Rattle.std.specs.Prelude.{◌≡◌, ℕ, ◌+◌, ◌<◌, ◌≤◌, ◌==◌, ◌∷◌, ◌++◌, [], length, slice_get, get_or, set, if◌then◌else◌, replicate, IfOk, OnOk, Some};
+ghost use Rattle.tree_base.specs.Limits.{count_bound};
 ghost use Rattle.ledger_rows.specs.Counts.{counted};
 
 use std::alloc::Global;
@@ -30,7 +31,7 @@ pub fn add_to_all(rows: &mut [List<u32>], needs: &[u32], action: u32) -> Result<
 
 /// Rows turned round: for each action those that have it in their row, as often as it stands there.
 pub fn turned(alloc: Global, needs: &[List<u32>]) -> Result<List<List<u32>>, Memory>
-    requires small { length needs.now < 4294967296 }
+    requires small { length needs.now < count_bound }
     requires there { (a i b : ℕ) → slice_get (get_or needs.now a []) i ≡ Some b
         → b < length needs.now }
     ensures size { IfOk result (λ rows. length rows ≡ length needs.now) }

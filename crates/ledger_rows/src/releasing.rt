@@ -1,4 +1,5 @@
 ghost use Rattle.std.specs.Prelude.{◌≡◌, ℕ, ◌+◌, ◌<◌, ◌≤◌, ◌==◌, length, slice_get};
+ghost use Rattle.tree_base.specs.Limits.{count_bound};
 ghost use Rattle.ledger_rows.specs.ActionRows.{lack_at};
 ghost use Rattle.ledger_rows.specs.Counts.{counted};
 
@@ -25,7 +26,7 @@ pub(crate) fn raise(rows: &mut ActionRows, kept: &[u32])
     requires same { length rows.old.lacks ≡ length rows.old.states }
     requires there { (i a : ℕ) → slice_get kept.now i ≡ Some a → a < length rows.old.states }
     requires small { (a : ℕ)
-        → lack_at rows.old a + counted (λ b. b == a) kept.now < 4294967296 }
+        → lack_at rows.old a + counted (λ b. b == a) kept.now < count_bound }
     ensures states { rows.new.states ≡ rows.old.states }
     ensures size { length rows.new.lacks ≡ length rows.old.lacks }
     ensures lacks { (a : ℕ)

@@ -1,4 +1,5 @@
 ghost use Rattle.std.specs.Prelude.{◌≡◌, ◌+◌, ◌<◌, ◌==◌, ℕ, length, true, false};
+ghost use Rattle.tree_base.specs.Limits.{count_bound};
 ghost use Rattle.run_model.specs.Conditions.{is_started};
 ghost use Rattle.ledger_rows.specs.ActionRows.{lack_at};
 ghost use Rattle.ledger_rows.specs.Counts.{counted};
@@ -36,7 +37,7 @@ pub fn unmeet(rows: &mut ActionRows, asking: &[u32])
     requires counts { counts_by report.setup report.before report.slot ≡ true }
     requires asking { AreAsking report.setup report.slot report.condition asking.now }
     requires small { (a : ℕ)
-        → lack_at rows.old a + counted (λ b. b == a) asking.now < 4294967296 }
+        → lack_at rows.old a + counted (λ b. b == a) asking.now < count_bound }
     ensures said { AreRows report.setup report.before report.journal rows.new }
     ensures states { rows.new.states ≡ rows.old.states }
 {

@@ -2,9 +2,10 @@
 use Rattle.std.proofs.Common.{◌≡◌, ℕ, ◌<◌, Bool, true, false, List, [], ◌∷◌, length, Option, None, refl, sym}
 use Rattle.std.proofs.lemmas.Bool.{leb-false, true≢false}
 use Rattle.std.specs.Prelude.{nat_le}
+use Rattle.tree_base.specs.Limits.{most_entries}
 use Rattle.engine_types.specs.declared.Entry.{Entry}
 use Rattle.run_model.specs.Journals.{Setup, has_stopped, is_ending}
-use Rattle.run_model.specs.Legal.{Decision, Full, Go, answer_to, decision, entries_limit, is_other_out, next_action, next_poll}
+use Rattle.run_model.specs.Legal.{Decision, Full, Go, answer_to, decision, is_other_out, next_action, next_poll}
 use Rattle.run_model.specs.Logs.{late_reading, was_stopped}
 
 -- nobody stopped or was late
@@ -29,12 +30,12 @@ is_going decision = true
 -- a run in which a worker goes on isn't ending, and its journal isn't full
 pub record IsGoing (past : List Entry) : Type 0 where
   pub on : is_ending past ≡ false
-  pub short : length past < entries_limit
+  pub short : length past < most_entries
 
 pub going : (setup : Setup) (past : List Entry) (w : ℕ) → is_going (decision setup past w) ≡ true → IsGoing past
-going setup past w g = by (nat_le entries_limit (length past)) (is_ending past) (next_action setup past) (next_poll setup past) (is_other_out setup past w) refl refl g
+going setup past w g = by (nat_le most_entries (length past)) (is_ending past) (next_action setup past) (next_poll setup past) (is_other_out setup past w) refl refl g
   where
-    by : (t e : Bool) (a p : Option ℕ) (o : Bool) → nat_le entries_limit (length past) ≡ t → is_ending past ≡ e → is_going (answer_to t e a p o) ≡ true → IsGoing past
+    by : (t e : Bool) (a p : Option ℕ) (o : Bool) → nat_le most_entries (length past) ≡ t → is_ending past ≡ e → is_going (answer_to t e a p o) ≡ true → IsGoing past
     by true e a p o ht he h = absurd (true≢false (sym h))
     by false true a p o ht he h = absurd (true≢false (sym h))
-    by false false a p o ht he h = record { on = he; short = leb-false entries_limit (length past) ht }
+    by false false a p o ht he h = record { on = he; short = leb-false most_entries (length past) ht }

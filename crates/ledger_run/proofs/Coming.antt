@@ -3,6 +3,7 @@ use Rattle.std.proofs.Common.{◌≡◌, ℕ, Bool, true, false, List, [], ◌�
 use Rattle.std.proofs.lemmas.Bool.{eq-eqb, true≢false}
 use Rattle.std.proofs.lemmas.List.{append-nil, reverse-append}
 use Rattle.std.specs.Prelude.{◌==◌, is_some}
+use Rattle.engine_types.specs.declared.Aim.{Aim}
 use Rattle.engine_types.specs.declared.Entry.{Entry}
 use Rattle.engine_types.specs.declared.Exchange.{Exchange}
 use Rattle.engine_types.specs.declared.Outcome.{Outcome}
@@ -14,7 +15,6 @@ use Rattle.run_model.specs.EngineRules.{Made, Paused, Step, TellsSteps, exchange
 use Rattle.run_model.specs.Journals.{Nothing, Setup, Watch, Work, holding, is_open, seen_in}
 use Rattle.run_model.specs.Legal.{Decision, Look, Pause, Take}
 use Rattle.run_model.specs.Logs.{GrowsBy}
-use Rattle.run_model.specs.Plans.{Aim}
 use Rattle.run_model.specs.Requests.{action_request, poll_request, request_out}
 use Rattle.journal_laws.specs.Courses.{Course, MayAsk, entries, first_seen, grown, setup_of}
 use Rattle.journal_laws.specs.Laws.{IsLegalRun, decided, decided_entry}

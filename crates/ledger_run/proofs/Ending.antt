@@ -1,5 +1,6 @@
 -- What a worker that has left leaves.
 use Rattle.std.proofs.Common.{◌≡◌, ℕ, ◌<◌, true, List, ◌++◌, sym, ap, ◌∙◌, subst, arith}
+use Rattle.engine_types.specs.declared.Aim.{Aim}
 use Rattle.engine_types.specs.declared.Entry.{Entry}
 use Rattle.engine_types.specs.declared.Exchange.{Exchange}
 use Rattle.outside_api.specs.Accounts.{AreCaused}
@@ -7,7 +8,7 @@ use Rattle.run_model.specs.EngineRules.{Step, TellsSteps, exchanges_in}
 use Rattle.run_model.specs.Ending.{IsRunOver}
 use Rattle.run_model.specs.Journals.{Setup, has_left}
 use Rattle.run_model.specs.Logs.{GrowsBy, exchanges_of}
-use Rattle.run_model.specs.Plans.{Aim, IsOrderly, IsWhole}
+use Rattle.run_model.specs.Plans.{IsOrderly, IsWhole}
 use Rattle.journal_laws.specs.Courses.{Course, entries, setup_of}
 use Rattle.journal_laws.specs.Laws.{IsLegalRun}
 use Rattle.ledger_core.specs.Beginning.{run_of}

@@ -1,10 +1,11 @@
 -- A worker's last entry.
 use Rattle.std.proofs.Common.{◌≡◌, ℕ, ◌+◌, ◌<◌, true, List, ◌∷◌, length, refl, sym, subst, arith}
+use Rattle.engine_types.specs.declared.Aim.{Aim}
+use Rattle.tree_base.specs.Limits.{most_entries}
 use Rattle.engine_types.specs.declared.Entry.{Entry}
 use Rattle.engine_types.specs.declared.LateWhy.{LateWhy}
 use Rattle.run_model.specs.Journals.{has_left}
-use Rattle.run_model.specs.Legal.{Decision, Full, Go, entries_limit}
-use Rattle.run_model.specs.Plans.{Aim}
+use Rattle.run_model.specs.Legal.{Decision, Full, Go}
 use Rattle.journal_laws.specs.Courses.{Course, MayAsk, entries, grown, setup_of}
 use Rattle.journal_laws.specs.Laws.{IsLegalRun, decided, decided_entry}
 use Rattle.journal_laws.proofs.Following.{answers, shorts}
@@ -38,7 +39,7 @@ full run ready d = record {
   left = λ past. refl;
 }
 
-short : (run : Course) → MayAsk run 0 → length (entries run) < entries_limit → IsLeaving run (Entry.Short 0)
+short : (run : Course) → MayAsk run 0 → length (entries run) < most_entries → IsLeaving run (Entry.Short 0)
 short run ready l = record {
   quiet = record { seen = λ past. refl; held = λ past w. refl; nothing = λ setup past. refl };
   legal = λ aim legal. shorts aim run 0 legal ready l;

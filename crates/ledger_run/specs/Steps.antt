@@ -1,5 +1,6 @@
 -- What a worker's hand did by a journal, step by step.
 use Rattle.std.specs.Prelude.{ℕ, if◌then◌else◌, ◌==◌, List, [], ◌∷◌, ◌++◌, drop, length}
+use Rattle.tree_base.specs.Limits.{before_poll, while_idle}
 use Rattle.engine_types.specs.declared.Entry.{Entry}
 use Rattle.engine_types.specs.declared.Exchange.{Exchange}
 use Rattle.run_model.specs.EngineRules.{Made, Paused, Step, unpaused}
@@ -13,11 +14,11 @@ use Rattle.journal_laws.specs.Courses.{Course, entries, setup_of}
 abbrev pub steps_for : Setup → List Entry → ℕ → Entry → List Step
 steps_for setup past w (Entry.Seen observation) =
     if w == 0 then unpaused observation.exchanges else []
-steps_for setup past w (Entry.Poll v s) = if v == w then Paused 500 ∷ [] else []
+steps_for setup past w (Entry.Poll v s) = if v == w then Paused before_poll ∷ [] else []
 steps_for setup past w (Entry.Ended v outcome) =
     if v == w then Made (record { request = request_out setup past v; outcome = outcome }) ∷ []
     else []
-steps_for setup past w (Entry.Idle v) = if v == w then Paused 250 ∷ [] else []
+steps_for setup past w (Entry.Idle v) = if v == w then Paused while_idle ∷ [] else []
 steps_for setup past w _ = []
 
 -- what a worker's hand did by these entries, in order

@@ -1,5 +1,6 @@
 -- One turn of a worker: it heeds its limits, asks, and does what it is answered.
 use Rattle.std.specs.Prelude.{◌≡◌, ℕ, ◌<◌, ◌^◌, Bool, true, false, if◌then◌else◌, nat_le, List, [], ◌∷◌, ◌++◌, Option, Some, None}
+use Rattle.tree_base.specs.Limits.{before_poll, while_idle}
 use Rattle.engine_types.specs.declared.Entry.{Entry}
 use Rattle.engine_types.specs.declared.LateWhy.{LateWhy}
 use Rattle.engine_types.specs.declared.Outcome.{Outcome}
@@ -69,9 +70,9 @@ Does (Watches s request outcome) old before new after =
     (decided old 0 ≡ Look s)
     × (poll_request (setup_of old) (entries old) s ≡ Some request)
     × (new ≡ grown (grown old (Entry.Poll 0 s)) (Entry.Ended 0 outcome))
-    × (mid : Telling) × Pauses 500 before mid × Exchanges request outcome mid after
+    × (mid : Telling) × Pauses before_poll before mid × Exchanges request outcome mid after
 Does Idles old before new after =
-    (decided old 0 ≡ Pause) × (new ≡ grown old (Entry.Idle 0)) × Pauses 250 before after
+    (decided old 0 ≡ Pause) × (new ≡ grown old (Entry.Idle 0)) × Pauses while_idle before after
 
 -- a worker asked and did what it was answered, and goes on or not
 pub record Acts (old : Course) (before : Telling) (new : Course) (after : Telling)
@@ -91,7 +92,7 @@ pub record Ends (request : Request) (w : ℕ) (old : Course) (before : Telling) 
 pub record Polls (request : Request) (w : ℕ) (old : Course) (before : Telling) (new : Course)
     (after : Telling) : Type 0 where
   pub mid : Telling
-  pub pauses : Pauses 500 before mid
+  pub pauses : Pauses before_poll before mid
   pub ends : Ends request w old mid new after
 
 -- one turn: the worker heeds its limits, asks, and does what it is answered

@@ -9,15 +9,10 @@ use engine_types::Request;
 use ledger_core::{Asked, Ledger, Permit, ask, end};
 use outside_api::Hand;
 use std::alloc::Global;
+use tree_base::limits::{BEFORE_POLL, WHILE_IDLE};
 
 /// Whose loop this is.
 const WORKER: u32 = 0;
-
-/// How long the hand pauses before a poll, in milliseconds.
-const BEFORE_POLL: u32 = 500;
-
-/// How long it pauses where there is nothing to do yet, in milliseconds.
-const WHILE_IDLE: u32 = 250;
 
 /// One turn of the worker, and whether it goes on.
 pub(crate) fn turn<H: Hand>(

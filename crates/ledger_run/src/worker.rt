@@ -1,10 +1,11 @@
 ghost use Rattle.std.specs.Prelude.{◌≡◌, ◌<◌, ℕ, true};
+ghost use Rattle.engine_types.specs.declared.Aim.{Aim};
 ghost use Rattle.outside_api.specs.Accounts.{AreCaused, account};
 ghost use Rattle.run_model.specs.Ending.{IsRunOver};
 ghost use Rattle.run_model.specs.EngineRules.{TellsSteps, exchanges_in};
 ghost use Rattle.run_model.specs.Journals.{Nothing, has_left, holding};
 ghost use Rattle.run_model.specs.Logs.{GrowsBy};
-ghost use Rattle.run_model.specs.Plans.{Aim, IsOrderly, IsWhole};
+ghost use Rattle.run_model.specs.Plans.{IsOrderly, IsWhole};
 ghost use Rattle.journal_laws.specs.Courses.{entries, setup_of};
 ghost use Rattle.journal_laws.specs.Laws.{IsLegalRun};
 ghost use Rattle.ledger_core.specs.Beginning.{run_of};

@@ -5,6 +5,7 @@ use Rattle.std.proofs.lemmas.Option.{slice_get_past}
 use Rattle.std.specs.Option.{option_map_or}
 use Rattle.std.specs.Prelude.{find, option_map}
 use Rattle.engine_types.specs.declared.Action.{Action}
+use Rattle.engine_types.specs.declared.Aim.{Aim}
 use Rattle.engine_types.specs.declared.Declared.{Declared}
 use Rattle.engine_types.specs.declared.Observed.{Observed}
 use Rattle.engine_types.specs.declared.Plan.{Plan}
@@ -16,13 +17,9 @@ use Rattle.run_model.specs.Journals.{Setup}
 use Rattle.run_model.specs.Numbers.{numbers_from}
 use Rattle.run_model.specs.Legal.{IsObserved, seen_end, whole_end}
 use Rattle.run_model.specs.Observation.{Asks, Ends, Onward, Strays, observed}
-use Rattle.run_model.specs.Plans.{Aim, Basis, action_count, is_start_of, is_too_long, kind_of, needs_of, planned_kinds, slot_needs}
+use Rattle.run_model.specs.Plans.{Basis, action_count, basis_of, is_start_of, is_too_long, kind_of, needs_of, planned_kinds, slot_needs}
 use Rattle.plan_needs.specs.Laws.{AreStarts}
 use Rattle.ledger_core.specs.Beginning.{MayBegin}
-
--- what a plan is made from
-abbrev pub basis_of : Declared → Seen → Aim → Basis
-basis_of declared seen aim = record { declared = declared; seen = seen; aim = aim }
 
 -- an observation that ended well has a plan that isn't too long
 fits : (declared : Declared) (aim : Aim) (observation : Observed) (seen : Seen) → IsObserved declared aim observation → observation.end ≡ SeenEnd.Good seen → is_too_long (basis_of declared seen aim) ≡ false

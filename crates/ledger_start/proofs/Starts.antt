@@ -12,7 +12,7 @@ use Rattle.engine_types.specs.declared.Seen.{Seen}
 use Rattle.engine_types.specs.declared.SeenEnd.{SeenEnd}
 use Rattle.run_model.specs.Journals.{Setup, is_ending, seen_in}
 use Rattle.run_model.specs.Legal.{IsLegal, Saw}
-use Rattle.run_model.specs.Plans.{AreKeptPlaces}
+use Rattle.run_model.specs.Plans.{AreKeptPlaces, basis_of}
 use Rattle.journal_laws.specs.Courses.{first_seen, setup_of}
 use Rattle.ledger_rows.specs.ActionRows.Values.{Actions}
 use Rattle.ledger_rows.specs.Entries.{RowsSay}
@@ -28,7 +28,6 @@ use Rattle.ledger_core.specs.declared.started.Started.{Started}
 use Rattle.start_rows.specs.Laws.{free_rows}
 use Rattle.start_rows.proofs.Starting as starting
 use Rattle.ledger_start.specs.Starts.{AreStarted, containers_of}
-use Rattle.ledger_start.proofs.Plans.{basis_of}
 
 -- what the observation saw is what the run has seen
 saw : (exchanges : List Exchange) (end : SeenEnd) → Saw end (first_seen (Entry.Seen (record { exchanges = exchanges; end = end }) ∷ []))

@@ -8,11 +8,10 @@ use Rattle.engine_types.specs.declared.Need.{Need}
 use Rattle.engine_types.specs.declared.Slot.{Slot}
 use Rattle.tree_base.specs.ByteOrder.{is_before}
 use Rattle.run_model.specs.EngineRules.{Among}
-use Rattle.run_model.specs.Plans.{IsOrderly, IsWhole, is_running, is_slot_before, kind_of, needs_of, slot_needs, start_of}
+use Rattle.run_model.specs.Plans.{IsOrderly, IsWhole, basis_of, is_running, is_slot_before, kind_of, needs_of, slot_needs, start_of}
 use Rattle.run_model.proofs.RollLaws.{has_plan}
 use Rattle.ledger_core.specs.Beginning.{MayBegin}
 use Rattle.ledger_start.specs.TwoServices.{db, db_service, found, healthy_db, limits, plan, seen, shop, to_up, web, web_service}
-use Rattle.ledger_start.proofs.Plans.{basis_of}
 
 some_is : {X : Type 0} (x y : X) → Some x ≡ Some y → x ≡ y
 some_is x y h = cc h

@@ -1,5 +1,6 @@
 -- What a run begins with.
 use Rattle.std.specs.Prelude.{ℕ, ◌+◌, ◌<◌, length}
+use Rattle.tree_base.specs.Limits.{count_bound}
 use Rattle.run_model.specs.Journals.{Setup}
 use Rattle.run_model.specs.Plans.{kind_of, needs_of, slot_needs}
 use Rattle.journal_laws.specs.Courses.{setup_of}
@@ -19,4 +20,4 @@ start_setup outset =
 -- no action has more needs than 32 bits number
 abbrev pub HasFewNeeds : Setup → Type 0
 HasFewNeeds setup = (a : ℕ) → length (needs_of setup.actions a)
-    + length (slot_needs setup.declared (kind_of setup.actions a)) < 4294967296
+    + length (slot_needs setup.declared (kind_of setup.actions a)) < count_bound

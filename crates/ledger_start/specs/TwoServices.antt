@@ -1,5 +1,6 @@
 -- Two services, where `web` waits for `db` to be healthy, on an Engine that has their image and nothing else.
 use Rattle.std.specs.Prelude.{ℕ, true, false, List, [], ◌∷◌, ◌++◌, Some, None, codes}
+use Rattle.engine_types.specs.declared.Aim.{Aim}
 use Rattle.engine_types.specs.Specs.{empty_spec}
 use Rattle.engine_types.specs.declared.Action.{Action}
 use Rattle.engine_types.specs.declared.ActionKind.{ActionKind}
@@ -17,7 +18,6 @@ use Rattle.engine_types.specs.declared.RunLimits.{RunLimits}
 use Rattle.engine_types.specs.declared.Seen.{Seen}
 use Rattle.engine_types.specs.declared.SeenEnd.{SeenEnd}
 use Rattle.engine_types.specs.declared.Slot.{Slot}
-use Rattle.run_model.specs.Plans.{Aim}
 use Rattle.run_model.specs.Told.{answered}
 
 -- a slot of the project with these needs

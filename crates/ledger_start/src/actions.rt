@@ -1,4 +1,5 @@
 ghost use Rattle.std.specs.Prelude.{◌≡◌, ◌<◌, ℕ, None, IfOk, get_or, length};
+ghost use Rattle.tree_base.specs.Limits.{count_bound};
 ghost use Rattle.plan_rows.specs.Firsts.{first_of};
 ghost use Rattle.start_rows.specs.Laws.{place_count};
 ghost use Rattle.ledger_start.specs.Outsets.{MayStart};
@@ -7,6 +8,7 @@ use crate::outset::Outset;
 use engine_types::Declared;
 use plan_rows::{Row, first_rows};
 use std::alloc::Global;
+use tree_base::limits::COUNT_BOUND;
 use tree_base::{List, Memory};
 
 /// For each slot or network its action of this row; there is none where it is past the last one. There is no room for more of
@@ -19,7 +21,7 @@ pub(crate) fn first_actions(
     requires { MayStart outset.now }
     ensures size { IfOk result (λ places.
         length places ≡ place_count row outset.now.declared.now) }
-    ensures few { IfOk result (λ places. length places < 4294967296) }
+    ensures few { IfOk result (λ places. length places < count_bound) }
     ensures each { IfOk result (λ places. (s : ℕ)
         → get_or places s None ≡ first_of row outset.now.plan.now.actions s) }
 {
@@ -31,14 +33,14 @@ pub(crate) fn first_actions(
 /// How many slots or networks there are.
 fn count_of(row: Row, declared: &Declared) -> Result<u32, Memory>
     ensures same { IfOk result (λ count. count ≡ place_count row declared.now) }
-    ensures few { IfOk result (λ count. count < 4294967296) }
+    ensures few { IfOk result (λ count. count < count_bound) }
 {
     let count = match row {
         Row::Starts => declared.slots.len(),
         Row::Creates => declared.slots.len(),
         Row::Makes => declared.networks.len(),
     };
-    if count < 4_294_967_296 {
+    if count < COUNT_BOUND {
         Ok(count as u32)
     } else {
         Err(Memory)

@@ -1,4 +1,5 @@
 ghost use Rattle.std.specs.Prelude.{◌≡◌, ◌∷◌, ◌<◌, [], IfOk, length};
+ghost use Rattle.tree_base.specs.Limits.{count_bound};
 ghost use Rattle.engine_types.specs.declared.Condition.{Condition};
 ghost use Rattle.engine_types.specs.declared.Entry.{Entry};
 ghost use Rattle.ledger_rows.specs.Entries.{RowsSay};
@@ -44,7 +45,7 @@ pub(crate) fn slot_rows(
     requires may { MayStart outset.now }
     requires starts { AreStarts (start_setup outset.now) starts.now }
     requires starts_size { length starts.now ≡ length outset.now.declared.now.slots }
-    requires few { length starts.now < 4294967296 }
+    requires few { length starts.now < count_bound }
     requires healthy_size { length healthy.now ≡ length outset.now.declared.now.slots }
     requires healthy { AreAskingRows Ask.Any Condition.Healthy (start_setup outset.now)
         healthy.now }

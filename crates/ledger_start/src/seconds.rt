@@ -1,5 +1,6 @@
 ghost use Rattle.std.specs.Prelude.{◌≡◌, IfOk, find, map};
 ghost use Rattle.std.specs.Option.{option_map_or};
+ghost use Rattle.tree_base.specs.Limits.{usual_stop_seconds};
 ghost use Rattle.run_model.specs.Labels.{names_slot};
 ghost use Rattle.ledger_start.specs.Seconds.{is_named, seconds_among, seconds_at, seconds_for, slots_under};
 
@@ -7,6 +8,7 @@ use engine_types::{Declared, Listed, RunLimits};
 use plan_core::{TextIndex, container_text, texts_of_slots, texts_under};
 use run_lookups::names_slot;
 use std::alloc::Global;
+use tree_base::limits::USUAL_STOP_SECONDS;
 use tree_base::{List, Memory};
 
 /// For each container how many seconds its stop waits: as asked for the run, else as the slot of its labels says, else 10. The
@@ -81,7 +83,7 @@ fn slot_seconds(
     requires { slots.now ≡ slots_under declared.now }
     ensures { IfOk result (λ seconds. seconds
         ≡ option_map_or (λ slot. slot.stop_seconds)
-        (find (λ slot. names_slot slot row.now.labels) declared.now.slots) 10) }
+        (find (λ slot. names_slot slot row.now.labels) declared.now.slots) usual_stop_seconds) }
 {
     let text = container_text(alloc, row)?;
     seconds_among(alloc, declared, row, slots.find(text.as_str()))
@@ -102,7 +104,7 @@ fn seconds_among(
             return Ok(seconds_at(declared, *number));
         }
     }
-    Ok(10)
+    Ok(USUAL_STOP_SECONDS)
 }
 
 /// Whether a container's labels name the slot with a number.
@@ -121,6 +123,6 @@ fn seconds_at(declared: &Declared, number: u64) -> u64
 {
     match declared.slots.get(number as usize) {
         Some(slot) => slot.stop_seconds,
-        None => 10,
+        None => USUAL_STOP_SECONDS,
     }
 }

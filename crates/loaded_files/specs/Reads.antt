@@ -1,15 +1,12 @@
 -- Loading as a run of reads: which file is read next, and what follows each answer.
 use Rattle.std.specs.Prelude.{◌≡◌, ◌⊎◌, ℕ, zero, suc, List, if◌then◌else◌, length, nat_lt, Option, Some, None, IfSome, Result, Ok, Err}
+use Rattle.tree_base.specs.Limits.{most_file_bytes}
 use Rattle.loaded_files.specs.declared.reads.Seen.{Seen}
 use Rattle.loaded_files.specs.declared.reads.Seen.TheVariants.{There, Longer, Missing}
 use Rattle.loaded_files.specs.declared.refusal.LoadRefusal.{LoadRefusal}
 use Rattle.loaded_files.specs.declared.refusal.LoadRefusal.TheVariants.{NotFound, ReadFault, FileTooLarge, TooManyFiles, Memory}
 use Rattle.outside_files.specs.Files.{Contents}
 use Rattle.tree_base.specs.Entries.{value_at}
-
--- the greatest number of bytes of a file
-abbrev pub file_limit : ℕ
-file_limit = 4194304
 
 -- what is given in the end, or a path to read and what follows what is seen there
 pub data Load (X : Type 0) : Type 0 where
@@ -38,7 +35,7 @@ refuse refusal = done (Err refusal)
 -- what is seen of files that hold these bytes
 abbrev pub seen_of : Option (List ℕ) → Seen
 seen_of None = Missing
-seen_of (Some bytes) = if nat_lt file_limit (length bytes) then Longer else There bytes
+seen_of (Some bytes) = if nat_lt most_file_bytes (length bytes) then Longer else There bytes
 
 -- what is loaded from files that hold these bytes
 abbrev pub loaded_from : {X : Type 0} → Contents → Load X → Result X LoadRefusal

@@ -7,10 +7,8 @@ ghost use Rattle.outside_files.specs.Files.{Contents};
 use crate::refusal::LoadRefusal;
 use outside_files::{FileAnswer, Files};
 use std::alloc::Global;
+use tree_base::limits::MOST_FILE_BYTES;
 use tree_base::{List, Text};
-
-/// The greatest number of bytes of a file.
-const FILE_LIMIT: u64 = 4_194_304;
 
 /// What a read found.
 #[derive(Drop)]
@@ -28,7 +26,7 @@ pub fn look<F: Files>(alloc: Global, files: &mut F, path: &Text) -> Result<Seen,
     ensures counted { F.faults files.old ≤ F.faults files.new }
     ensures kept { F.told files.new ≡ F.told files.old }
 {
-    match files.read(alloc, path, FILE_LIMIT) {
+    match files.read(alloc, path, MOST_FILE_BYTES) {
         FileAnswer::Bytes(bytes) => Ok(Seen::There(bytes)),
         FileAnswer::Missing => Ok(Seen::Missing),
         FileAnswer::Longer => Ok(Seen::Longer),

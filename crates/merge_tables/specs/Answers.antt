@@ -1,5 +1,6 @@
 -- How a call answers that merges, and where its refusals are told.
 use Rattle.std.specs.Prelude.{◌≡◌, ℕ, Bool, true, false, [], ◌∷◌, ◌++◌, Result, Ok, Err, min, reverse, nat_le, if◌then◌else◌}
+use Rattle.tree_base.specs.Limits.{greatest_place, most_nodes, most_text}
 use Rattle.tree_base.specs.Answers as answers
 use Rattle.tree_base.specs.Trees.{node_count, text_size}
 use Rattle.tree_base.specs.declared.Tree.{Tree}
@@ -22,11 +23,11 @@ under step (Err refusal) = Err (stepped step refusal)
 
 -- a place as a number of 32 bits, or the greatest of these
 abbrev pub place : ℕ → ℕ
-place n = min n 4294967295
+place n = min n greatest_place
 
 -- a tree within the limits: 200,000 nodes, and 16,777,216 bytes of keys and scalars
 abbrev pub within : Tree → Result Tree MergeRefusal
-within tree = if nat_le (node_count tree) 200000 then (if nat_le (text_size tree) 16777216 then Ok tree else Err TooMuchText) else Err TooManyNodes
+within tree = if nat_le (node_count tree) most_nodes then (if nat_le (text_size tree) most_text then Ok tree else Err TooMuchText) else Err TooManyNodes
 
 -- a refusal for want of memory
 abbrev pub wants_memory : MergeRefusal → Bool

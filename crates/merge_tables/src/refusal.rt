@@ -3,13 +3,8 @@ ghost use Rattle.std.specs.Option.{option_map_or};
 ghost use Rattle.merge_tables.specs.Answers.{outer, place, turned, within};
 ghost use Rattle.merge_tables.specs.declared.refusal.MergeRefusal.TheVariants as refusals;
 
+use tree_base::limits::{GREATEST_PLACE, MOST_NODES, MOST_TEXT};
 use tree_base::{List, Memory, Path, Step, Tree};
-
-/// How many nodes a merged tree may have.
-const MOST_NODES: u64 = 200_000;
-
-/// How many bytes the keys and the scalars of a merged tree may have.
-const MOST_BYTES: u64 = 16_777_216;
 
 /// Why trees aren't merged.
 #[derive(Drop)]
@@ -37,7 +32,7 @@ impl From<Memory> for MergeRefusal {
 pub fn place(at: usize) -> u32
     ensures { result ≡ place at }
 {
-    at.min(4_294_967_295) as u32
+    at.min(GREATEST_PLACE) as u32
 }
 
 /// A refusal whose path is told from the inside out, with one step more.
@@ -107,7 +102,7 @@ pub fn within(tree: Tree) -> Result<Tree, MergeRefusal>
 fn passed(tree: &Tree) -> Option<MergeRefusal>
     ensures { within tree.now ≡ option_map_or Err result (Ok tree.now) }
 {
-    if tree.is_within(MOST_NODES, MOST_BYTES) {
+    if tree.is_within(MOST_NODES, MOST_TEXT) {
         None
     } else if tree.nodes_within(MOST_NODES).is_none() {
         Some(MergeRefusal::TooManyNodes)

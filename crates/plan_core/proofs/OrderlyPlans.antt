@@ -17,7 +17,7 @@ use Rattle.engine_types.specs.declared.Slot.{Slot}
 use Rattle.tree_base.specs.declared.place.Var.{Var}
 use Rattle.run_model.specs.EngineRules.{Among}
 use Rattle.run_model.specs.Labels.{names_service}
-use Rattle.run_model.specs.Plans.{Basis, IsOrderly, asks_restart, depends_on, down_basis, is_needed_by, is_wanted, planned, restarts_for, slot_at, slot_needs, up_basis}
+use Rattle.run_model.specs.Plans.{Basis, IsOrderly, asks_restart, basis_of, depends_on, down_aim, is_needed_by, is_wanted, planned, restarts_for, slot_at, slot_needs, up_aim}
 use Rattle.run_model.specs.Numbers.{places}
 use Rattle.run_model.proofs.DistinctLists.{among_places}
 use Rattle.run_model.proofs.PlanLaws.{some_from}
@@ -52,7 +52,7 @@ service_is service labels e =
 
 module _ (declared : Declared) (seen : Seen) (orphans : Bool) (cycle : HasNoCycle declared) where
   abbrev up : Basis
-  up = up_basis declared seen orphans
+  up = basis_of declared seen (up_aim orphans)
 
   abbrev rank_up : ActionKind → ℕ
   rank_up (MakeVolume v) = 0
@@ -104,7 +104,7 @@ module _ (declared : Declared) (seen : Seen) (orphans : Bool) (cycle : HasNoCycl
 
 module _ (declared : Declared) (seen : Seen) (orphans volumes : Bool) (cycle : HasNoCycle declared) where
   abbrev down : Basis
-  down = down_basis declared seen orphans volumes
+  down = basis_of declared seen (down_aim orphans volumes)
 
   -- how high the service of a container stands: higher than those that it depends on
   abbrev height : Listed → ℕ

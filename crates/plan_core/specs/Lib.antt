@@ -4,4 +4,3 @@ pub mod Order
 pub mod Index
 pub mod Finding
 pub mod Keeping
-pub mod Planning

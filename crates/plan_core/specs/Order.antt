@@ -6,7 +6,7 @@ use Rattle.engine_types.specs.declared.Need.{Need}
 use Rattle.engine_types.specs.declared.Seen.{Seen}
 use Rattle.engine_types.specs.declared.Slot.{Slot}
 use Rattle.run_model.specs.EngineRules.{Among}
-use Rattle.run_model.specs.Plans.{IsOrderly, down_basis, planned, slot_at, up_basis}
+use Rattle.run_model.specs.Plans.{IsOrderly, basis_of, down_aim, planned, slot_at, up_aim}
 
 -- neither the needs of the slots nor the dependencies of the services go in a circle: there is a rank of the slots
 -- that falls along each need, and one of the keys that falls along each dependency
@@ -21,5 +21,5 @@ pub record HasNoCycle (declared : Declared) : Type 0 where
 -- where neither of them goes in a circle, plans can be carried out in some order
 abbrev pub PlansAreOrderly : Type 0
 PlansAreOrderly = (declared : Declared) (seen : Seen) (orphans volumes : Bool)
-    → HasNoCycle declared → IsOrderly declared (planned (up_basis declared seen orphans))
-    × IsOrderly declared (planned (down_basis declared seen orphans volumes))
+    → HasNoCycle declared → IsOrderly declared (planned (basis_of declared seen (up_aim orphans)))
+    × IsOrderly declared (planned (basis_of declared seen (down_aim orphans volumes)))

@@ -1,13 +1,13 @@
 ghost use Rattle.std.specs.Prelude.{◌≡◌, IfOk, map, slice_get};
 ghost use Rattle.std.specs.Option.{option_and_then, option_copied};
 ghost use Rattle.plan_core.specs.Finding.{container_text, slot_seen, slot_text, slot_text_at};
-ghost use Rattle.run_model.specs.Plans.{AreKeptPlaces, kept};
+ghost use Rattle.run_model.specs.Plans.{AreKeptPlaces, basis_of, kept};
 
 use crate::finding::{dependents_of, services_under};
 use crate::keeping::{Found, kept_under, row_at};
 use crate::slot_texts::{SlotTexts, text_at};
 use crate::text_index::TextIndex;
-use engine_types::{Declared, Listed, Purpose, Seen};
+use engine_types::{Aim, Declared, Listed, Seen};
 use std::alloc::Global;
 use std::marker::Model;
 use tree_base::{List, Memory, item_at};
@@ -18,9 +18,7 @@ use tree_base::{List, Memory, item_at};
 pub(crate) struct Planner<'a> {
     pub(crate) declared: &'a Declared,
     pub(crate) seen: &'a Seen,
-    pub(crate) purpose: Purpose,
-    pub(crate) orphans: bool,
-    pub(crate) volumes: bool,
+    pub(crate) aim: Aim,
     /// Which containers the slots keep, and which slots are updated.
     pub(crate) found: Found,
     /// The numbers of the slots, under the ids of the containers that they keep.
@@ -44,7 +42,7 @@ impl<'a> Model for Planner<'a> {
     ghost view = { λ p. record {
       declared = p.declared.now;
       seen = p.seen.now;
-      aim = record { purpose = p.purpose; orphans = p.orphans; volumes = p.volumes };
+      aim = p.aim;
     } };
 
     ghost invariant = { λ p.
@@ -59,23 +57,17 @@ impl<'a> Model for Planner<'a> {
 }
 
 impl<'a> Planner<'a> {
-    /// A planner for a purpose, which looks for the kept containers.
+    /// A planner for an aim, which looks for the kept containers.
     pub(crate) fn new(
         alloc: Global,
         declared: &'a Declared,
         seen: &'a Seen,
         texts: &'a SlotTexts,
-        purpose: Purpose,
-        orphans: bool,
-        volumes: bool,
+        aim: Aim,
     ) -> Result<Planner<'a>, Memory>
         requires slots { texts.now.slots ≡ map slot_text declared.now.slots }
         requires containers { texts.now.containers ≡ map container_text seen.now.containers }
-        ensures { IfOk result (λ planner. planner ≡ record {
-          declared = declared.now;
-          seen = seen.now;
-          aim = record { purpose = purpose; orphans = orphans; volumes = volumes };
-        }) }
+        ensures { IfOk result (λ planner. planner ≡ basis_of declared.now seen.now aim) }
     {
         let found = Found::new(alloc, declared, seen, texts.containers.as_slice())?;
         let kept_ids = kept_under(alloc, seen, found.kept.as_slice())?;
@@ -84,9 +76,7 @@ impl<'a> Planner<'a> {
         Ok(Planner {
             declared,
             seen,
-            purpose,
-            orphans,
-            volumes,
+            aim,
             found,
             kept_ids,
             services,

@@ -1,20 +1,17 @@
 ghost use Rattle.std.specs.Prelude.{◌≡◌, ℕ, IfOk, Err, map, false, true};
 ghost use Rattle.engine_types.specs.declared.Action.{Action};
 ghost use Rattle.plan_core.specs.Finding.{actions_under, removals_in};
-ghost use Rattle.plan_core.specs.Planning.{basis_of};
-ghost use Rattle.run_model.specs.Plans.{AreKeptPlaces, action_count, down_basis, is_too_long, needed_by, planned, up_basis};
+ghost use Rattle.run_model.specs.Plans.{AreKeptPlaces, action_count, basis_of, down_aim, is_too_long, needed_by, planned, up_aim};
 
 use crate::needed::removals_in;
 use crate::planner::Planner;
 use crate::refusal::PlanRefusal;
 use crate::slot_texts::SlotTexts;
 use crate::text_index::TextIndex;
-use engine_types::{Action, ActionKind, Declared, Plan, Purpose, Seen};
+use engine_types::{Action, ActionKind, Aim, Declared, Plan, Purpose, Seen};
 use std::alloc::Global;
+use tree_base::limits::MOST_ACTIONS;
 use tree_base::{List, Memory};
-
-/// The greatest number of actions of a plan.
-const ACTIONS_LIMIT: usize = 65_536;
 
 /// The plan that brings a project up: the volumes and networks that weren't seen are made; the project's containers
 /// that no slot keeps are stopped and removed, orphans where these are asked for; then a container is created for
@@ -27,15 +24,20 @@ pub fn plan_up(
     orphans: bool,
 ) -> Result<Plan, PlanRefusal>
     ensures planned { IfOk result (λ plan.
-        plan.actions ≡ planned (up_basis declared.now seen.now orphans)) }
+        plan.actions ≡ planned (basis_of declared.now seen.now (up_aim orphans))) }
     ensures kept { IfOk result (λ plan. AreKeptPlaces declared.now seen.now plan.kept) }
     ensures fits { IfOk result (λ plan.
-        is_too_long (up_basis declared.now seen.now orphans) ≡ false) }
+        is_too_long (basis_of declared.now seen.now (up_aim orphans)) ≡ false) }
     ensures too_many { (count : ℕ) → result ≡ Err (PlanRefusal.TooManyActions count)
-        → (is_too_long (up_basis declared.now seen.now orphans) ≡ true)
-        × (count ≡ action_count (up_basis declared.now seen.now orphans)) }
+        → (is_too_long (basis_of declared.now seen.now (up_aim orphans)) ≡ true)
+        × (count ≡ action_count (basis_of declared.now seen.now (up_aim orphans))) }
 {
-    plan_for(alloc, declared, seen, Purpose::Up, orphans, false)
+    let aim = Aim {
+        purpose: Purpose::Up,
+        orphans,
+        volumes: false,
+    };
+    plan_for(alloc, declared, seen, aim)
 }
 
 /// The plan that takes a project down: the containers of its services are stopped and removed, dependents
@@ -49,37 +51,35 @@ pub fn plan_down(
     volumes: bool,
 ) -> Result<Plan, PlanRefusal>
     ensures planned { IfOk result (λ plan.
-        plan.actions ≡ planned (down_basis declared.now seen.now orphans volumes)) }
+        plan.actions ≡ planned (basis_of declared.now seen.now (down_aim orphans volumes))) }
     ensures kept { IfOk result (λ plan. AreKeptPlaces declared.now seen.now plan.kept) }
     ensures fits { IfOk result (λ plan.
-        is_too_long (down_basis declared.now seen.now orphans volumes) ≡ false) }
+        is_too_long (basis_of declared.now seen.now (down_aim orphans volumes)) ≡ false) }
     ensures too_many { (count : ℕ) → result ≡ Err (PlanRefusal.TooManyActions count)
-        → (is_too_long (down_basis declared.now seen.now orphans volumes) ≡ true)
-        × (count ≡ action_count (down_basis declared.now seen.now orphans volumes)) }
+        → (is_too_long (basis_of declared.now seen.now (down_aim orphans volumes)) ≡ true)
+        × (count ≡ action_count (basis_of declared.now seen.now (down_aim orphans volumes))) }
 {
-    plan_for(alloc, declared, seen, Purpose::Down, orphans, volumes)
+    let aim = Aim {
+        purpose: Purpose::Down,
+        orphans,
+        volumes,
+    };
+    plan_for(alloc, declared, seen, aim)
 }
 
-/// The plan for a purpose.
-fn plan_for(
-    alloc: Global,
-    declared: &Declared,
-    seen: &Seen,
-    purpose: Purpose,
-    orphans: bool,
-    volumes: bool,
-) -> Result<Plan, PlanRefusal>
+/// The plan of an aim. At `up` volumes stay, asked for or not.
+fn plan_for(alloc: Global, declared: &Declared, seen: &Seen, aim: Aim) -> Result<Plan, PlanRefusal>
     ensures planned { IfOk result (λ plan.
-        plan.actions ≡ planned (basis_of declared.now seen.now purpose orphans volumes)) }
+        plan.actions ≡ planned (basis_of declared.now seen.now aim)) }
     ensures kept { IfOk result (λ plan. AreKeptPlaces declared.now seen.now plan.kept) }
     ensures fits { IfOk result (λ plan.
-        is_too_long (basis_of declared.now seen.now purpose orphans volumes) ≡ false) }
+        is_too_long (basis_of declared.now seen.now aim) ≡ false) }
     ensures too_many { (count : ℕ) → result ≡ Err (PlanRefusal.TooManyActions count)
-        → (is_too_long (basis_of declared.now seen.now purpose orphans volumes) ≡ true)
-        × (count ≡ action_count (basis_of declared.now seen.now purpose orphans volumes)) }
+        → (is_too_long (basis_of declared.now seen.now aim) ≡ true)
+        × (count ≡ action_count (basis_of declared.now seen.now aim)) }
 {
     let texts = SlotTexts::new(alloc, declared, seen)?;
-    let planner = Planner::new(alloc, declared, seen, &texts, purpose, orphans, volumes)?;
+    let planner = Planner::new(alloc, declared, seen, &texts, aim)?;
     planner.plan(alloc)
 }
 
@@ -94,7 +94,7 @@ impl Planner<'_> {
             → (is_too_long self.now ≡ true) × (count ≡ action_count self.now) }
     {
         let kinds = self.planned_kinds(alloc)?;
-        if kinds.len() > ACTIONS_LIMIT {
+        if kinds.len() > MOST_ACTIONS {
             return Err(PlanRefusal::TooManyActions {
                 count: kinds.len() as u64,
             });

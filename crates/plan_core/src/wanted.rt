@@ -37,7 +37,7 @@ impl Planner<'_> {
     pub(crate) fn is_up(&self) -> bool
         ensures { result ≡ is_up_purpose self.now.aim.purpose }
     {
-        match self.purpose {
+        match self.aim.purpose {
             Purpose::Up => true,
             Purpose::Down => false,
         }
@@ -58,7 +58,7 @@ impl Planner<'_> {
         let is_declared = self.has_service(&row.labels);
         let is_kept = self.is_up() && self.is_kept(row);
         is_of_project(&self.declared.project, &row.labels)
-            && goes(is_declared, is_kept, self.orphans)
+            && goes(is_declared, is_kept, self.aim.orphans)
     }
 
     /// Whether labels name a declared service. No memory.
@@ -208,7 +208,7 @@ impl Planner<'_> {
         match self.declared.volumes.get(volume as usize) {
             Some(volume) => {
                 !self.is_up()
-                    && self.volumes
+                    && self.aim.volumes
                     && !volume.external
                     && is_volume_seen(self.seen, &volume.name)
             }

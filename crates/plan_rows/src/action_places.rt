@@ -1,4 +1,5 @@
 ghost use Rattle.std.specs.Prelude.{◌≡◌, ◌<◌, ℕ, IfOk, get_or, length, replicate, set, Some, None};
+ghost use Rattle.tree_base.specs.Limits.{count_bound};
 ghost use Rattle.plan_rows.specs.Firsts.{first_of, place_of, with_action};
 
 use crate::row::{Row, place_of};
@@ -14,7 +15,7 @@ pub fn first_rows(
     actions: &[Action],
     count: u32,
 ) -> Result<Vec<Option<u32>>, Memory>
-    requires { length actions.now < 4294967296 }
+    requires { length actions.now < count_bound }
     ensures size { IfOk result (λ places. length places.items ≡ count) }
     ensures each { IfOk result (λ places. (s : ℕ) → s < count
         → get_or places.items s None ≡ first_of row actions.now s) }

@@ -3,6 +3,7 @@
 use Rattle.std.specs.Prelude.{ℕ, ◌++◌, ◌||◌, ◌&&◌, Bool, if◌then◌else◌, List, [], ◌∷◌, Option, Some, None, Result, Ok, Err, codes, is_some, length, min, nat_lt, unwrap_or}
 use Rattle.std.specs.List.{list_all}
 use Rattle.std.specs.Str.{bytes_eq}
+use Rattle.tree_base.specs.Limits.{greatest_place, most_services}
 use Rattle.tree_base.specs.Answers.{◌>>=◌}
 use Rattle.tree_base.specs.ByteOrder.{placed}
 use Rattle.tree_base.specs.Entries.{value_at}
@@ -158,12 +159,12 @@ of_attributes (Err refusal) = Err (refusal_of refusal)
 
 -- a number that counts in 32 bits, or the greatest of these
 abbrev pub counted : ℕ → ℕ
-counted n = min n 4294967295
+counted n = min n greatest_place
 
 -- no more services than may be
 abbrev pub few_services : Entries → Result Entries TreeRefusal
 few_services entries =
-    if nat_lt 1000 (length entries)
+    if nat_lt most_services (length entries)
     then Err (TreeRefusal.Project (ProjectRefusal.TooManyServices (counted (length entries))))
     else Ok entries
 

@@ -15,11 +15,9 @@ use crate::volumes::volumes_declared;
 use attribute_scalars::{Entry, value_among};
 use loading_words::{ProjectRefusal, TreeRefusal};
 use std::alloc::Global;
+use tree_base::limits::{GREATEST_PLACE, MOST_SERVICES};
 use tree_base::{List, Map, Memory, Text, Tree};
 use typed_project::{FileItem, Network, Project, Service, Volume};
-
-/// The greatest number of services.
-const MOST_SERVICES: usize = 1000;
 
 /// What a tree declares under a project's name, each part by itself, or the first refusal: of the elements, then of networks,
 /// volumes, secrets, configs, of the number of services, and of services.
@@ -125,7 +123,7 @@ fn ask_count(entries: &Map) -> Result<(), TreeRefusal>
 {
     let count = entries.len();
     if count > MOST_SERVICES {
-        let count = count.min(4_294_967_295) as u32;
+        let count = count.min(GREATEST_PLACE) as u32;
         Err(TreeRefusal::Project(ProjectRefusal::TooManyServices { count }))
     } else {
         Ok(())

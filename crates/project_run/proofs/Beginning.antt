@@ -2,6 +2,7 @@
 use Rattle.std.proofs.Common.{◌≡◌, ◌∙◌, Bool, true, false, List, refl, sym, ap, subst, arith}
 use Rattle.std.specs.Prelude.{◌&&◌}
 use Rattle.engine_types.specs.declared.Action.{Action}
+use Rattle.engine_types.specs.declared.Aim.{Aim}
 use Rattle.engine_types.specs.declared.Declared.{Declared}
 use Rattle.engine_types.specs.declared.Observed.{Observed}
 use Rattle.engine_types.specs.declared.Plan.{Plan}
@@ -13,13 +14,13 @@ use Rattle.ledger_run.specs.Tellings.{Telling}
 use Rattle.plan_core.specs.Order.{HasNoCycle}
 use Rattle.project_run.proofs.PlansOfAims.{down_is, up_rolled}
 use Rattle.project_run.specs.Opening.{Opens}
-use Rattle.project_run.specs.Options.{basis_of, bounded}
+use Rattle.project_run.specs.Options.{bounded}
 use Rattle.project_run.specs.declared.opening.Opening.{Opening}
 use Rattle.run_laws.proofs.RunOrders.{runs_are_orderly}
 use Rattle.run_laws.specs.Orders.{HasSmallNumbers, NeedsDependencies}
 use Rattle.run_model.proofs.RollLaws.{has_plan}
 use Rattle.run_model.specs.Observation.{is_up}
-use Rattle.run_model.specs.Plans.{Aim, Basis, HasPlan, IsOrderly, IsWhole}
+use Rattle.run_model.specs.Plans.{Basis, HasPlan, IsOrderly, IsWhole, basis_of}
 use Rattle.run_model.specs.Rolling.{run_actions}
 
 -- the actions of a run of either purpose can be carried out in some order

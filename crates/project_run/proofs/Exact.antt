@@ -1,6 +1,7 @@
 -- What a run leaves in the Engine: the one that the hand tells went through it, and holds exactly what is
 -- declared after `up`, and nothing of it after `down`.
 use Rattle.std.proofs.Common.{◌≡◌, List, [], ◌∷◌, Option, Some, None, true, false, reverse, refl, sym, ◌∙◌, subst, inl, inr}
+use Rattle.engine_types.specs.declared.Aim.{Aim}
 use Rattle.engine_types.specs.declared.Declared.{Declared}
 use Rattle.engine_types.specs.declared.Engine.{Engine}
 use Rattle.engine_types.specs.declared.Entry.{Entry}
@@ -9,7 +10,7 @@ use Rattle.engine_types.specs.declared.RunLimits.{RunLimits}
 use Rattle.ledger_run.proofs.Stepping.{exchanges_are}
 use Rattle.run_model.specs.EngineRules.{Made, Paused, Step, TellsSteps}
 use Rattle.run_model.specs.Observation.{is_up}
-use Rattle.run_model.specs.Plans.{Aim, IsWhole}
+use Rattle.run_model.specs.Plans.{IsWhole}
 use Rattle.run_model.specs.Runs.{IsRun, Task, run_fault, run_setup}
 use Rattle.world_laws.proofs.ExactWorlds.{exact_in_each_world}
 use Rattle.world_laws.proofs.GoneWorlds.{gone_in_each_world}

@@ -1,12 +1,12 @@
 -- A journal that goes on: what was seen stays.
 use Rattle.std.proofs.Common.{◌≡◌, List, [], ◌∷◌, ◌++◌, Some, reverse, ap, ◌∙◌}
 use Rattle.std.proofs.lemmas.List.{reverse-append}
+use Rattle.engine_types.specs.declared.Aim.{Aim}
 use Rattle.engine_types.specs.declared.Entry.{Entry}
 use Rattle.engine_types.specs.declared.Seen.{Seen}
 use Rattle.ledger_run.specs.Works.{GoesOn}
 use Rattle.run_model.specs.Journals.{Setup, seen_in}
 use Rattle.run_model.specs.Legal.{IsLegal}
-use Rattle.run_model.specs.Plans.{Aim}
 
 -- no list with entries in front of one that saw something is empty
 not_empty : (xs ys : List Entry) (seen : Seen) → xs ++ ys ≡ [] → seen_in ys ≡ Some seen → ⊥

@@ -2,6 +2,7 @@
 use Rattle.std.proofs.Common.{◌≡◌, ◌⊎◌, ℕ, ◌<◌, Bool, true, false, List, [], ◌∷◌, ◌++◌, Option, None, Some, reverse, refl, sym, ap, ◌∙◌, subst, inl, inr, arith}
 use Rattle.std.specs.Prelude.{drop, length, option_map, slice_get}
 use Rattle.engine_types.specs.declared.Action.{Action}
+use Rattle.engine_types.specs.declared.Aim.{Aim}
 use Rattle.engine_types.specs.declared.Declared.{Declared}
 use Rattle.engine_types.specs.declared.Entry.{Entry}
 use Rattle.engine_types.specs.declared.Exchange.{Exchange}
@@ -9,6 +10,7 @@ use Rattle.engine_types.specs.declared.Observed.{Observed}
 use Rattle.engine_types.specs.declared.Plan.{Plan}
 use Rattle.engine_types.specs.declared.RunFault.{RunFault}
 use Rattle.engine_types.specs.declared.RunLimits.{RunLimits}
+use Rattle.engine_types.specs.declared.RunOptions.{RunOptions}
 use Rattle.engine_types.specs.declared.Seen.{Seen}
 use Rattle.engine_types.specs.declared.SeenEnd.{SeenEnd}
 use Rattle.engine_types.specs.declared.SeenFault.{SeenFault}
@@ -29,11 +31,10 @@ use Rattle.project_run.proofs.Joining.{seen_after}
 use Rattle.project_run.proofs.Timed.{run_timed, same_limits, still_timed}
 use Rattle.project_run.specs.Carrying.{IsCarriedOut, IsUnbegun, IsWorked, come_to, cut_short}
 use Rattle.project_run.specs.Opening.{HasEndedBadly, Opens}
-use Rattle.project_run.specs.Options.{basis_of, bounded, clock_begun, limits_by}
+use Rattle.project_run.specs.Options.{bounded, clock_begun, limits_by}
 use Rattle.project_run.specs.Timing.{IsTimed}
 use Rattle.project_run.specs.Whole.{IsCaused, Leaves, run_steps, task_of}
 use Rattle.project_run.specs.declared.opening.Opening.{Opening}
-use Rattle.project_run.specs.declared.options as asked
 use Rattle.run_ends.proofs.Leaving.{left_ends}
 use Rattle.run_laws.specs.Orders.{HasSmallNumbers, NeedsDependencies}
 use Rattle.run_model.specs.Ending.{EveryWorkerLeft, IsRunOver, first_fault, is_seen_bad}
@@ -43,13 +44,13 @@ use Rattle.run_model.specs.Legal.{IsLegal, IsObserved, Saw, seen_end, whole_end}
 use Rattle.run_model.specs.Lines.{report_text}
 use Rattle.run_model.specs.Logs.{GrowsBy, deadline_after, exchanges_of}
 use Rattle.run_model.specs.Observation.{Asks, Ends, Onward, Strays, is_asked, observed as observed_by}
-use Rattle.run_model.specs.Plans.{Aim, IsWhole}
+use Rattle.run_model.specs.Plans.{IsWhole, basis_of}
 use Rattle.run_model.specs.Rolling.{run_actions}
 use Rattle.run_model.specs.Runs.{IsLeftByAll, IsRun, Task, run_exchanges, run_fault, run_report, run_seen, run_setup}
 use Rattle.world_laws.proofs.ToldRuns.{unpaused_are}
 
 -- a run that ended with its observation
-module _ (declared : Declared) (aim : Aim) (options : asked.RunOptions.RunOptions) (observed : Observed) (clock : Clock) (before now : Telling)
+module _ (declared : Declared) (aim : Aim) (options : RunOptions) (observed : Observed) (clock : Clock) (before now : Telling)
     (unused : before.clock ≡ new_clock) (read : clock ≡ clock_begun options.wait_seconds clock.first)
     (opens : Opens declared aim (Opening.Ended observed) (record before { clock = clock }) now) where
   abbrev bounds : RunLimits
@@ -120,7 +121,7 @@ opens_short declared aim observed plan before now opens = record {
 }
 
 -- a run whose worker left
-module _ (declared : Declared) (aim : Aim) (options : asked.RunOptions.RunOptions) (limits : RunLimits) (observed : Observed) (plan : Plan) (journal : List Entry) (clock : Clock) (before mid now : Telling)
+module _ (declared : Declared) (aim : Aim) (options : RunOptions) (limits : RunLimits) (observed : Observed) (plan : Plan) (journal : List Entry) (clock : Clock) (before mid now : Telling)
     (unused : before.clock ≡ new_clock) (read : clock ≡ clock_begun options.wait_seconds clock.first) (bound : limits ≡ bounded aim (limits_by options clock))
     (may : MayBegin declared observed plan limits)
     (opens : Opens declared aim (Opening.Planned observed plan) (record before { clock = clock }) mid)
@@ -239,7 +240,7 @@ module _ (declared : Declared) (aim : Aim) (options : asked.RunOptions.RunOption
   }
 
 -- a run whose plan was carried out, or wasn't begun
-module _ (declared : Declared) (aim : Aim) (options : asked.RunOptions.RunOptions) (limits : RunLimits) (observed : Observed) (plan : Plan) (journal : List Entry) (clock : Clock) (before mid now : Telling)
+module _ (declared : Declared) (aim : Aim) (options : RunOptions) (limits : RunLimits) (observed : Observed) (plan : Plan) (journal : List Entry) (clock : Clock) (before mid now : Telling)
     (unused : before.clock ≡ new_clock) (read : clock ≡ clock_begun options.wait_seconds clock.first) (bound : limits ≡ bounded aim (limits_by options clock))
     (whole : IsWhole declared) (small : HasSmallNumbers declared) (acyclic : HasNoCycle declared) (needs : NeedsDependencies declared)
     (opens : Opens declared aim (Opening.Planned observed plan) (record before { clock = clock }) mid) where

@@ -1,7 +1,7 @@
 pub mod Sparing
 pub mod Joining
-pub mod PlansOfAims
 pub mod Opened
+pub mod PlansOfAims
 pub mod Beginning
 pub mod Timed
 pub mod Seeing

@@ -1,6 +1,7 @@
 -- How a run opens, by its observation.
 use Rattle.std.proofs.Common.{◌≡◌, ℕ, Bool, true, false, List, Option, Some, refl, sym, ap, ◌∙◌, subst, inl, inr}
 use Rattle.std.specs.Prelude.{if◌then◌else◌}
+use Rattle.engine_types.specs.declared.Aim.{Aim}
 use Rattle.engine_types.specs.declared.Declared.{Declared}
 use Rattle.engine_types.specs.declared.Exchange.{Exchange}
 use Rattle.engine_types.specs.declared.Observed.{Observed}
@@ -16,7 +17,7 @@ use Rattle.run_model.specs.EngineRules.{ToldBy}
 use Rattle.run_model.specs.Legal.{IsObserved, seen_end, whole_end}
 use Rattle.run_model.specs.Logs.{GrowsBy}
 use Rattle.run_model.specs.Observation.{IsObservation}
-use Rattle.run_model.specs.Plans.{Aim, Basis, action_count, is_too_long}
+use Rattle.run_model.specs.Plans.{Basis, action_count, is_too_long}
 
 -- an observation with its end, or the fault that its plan gives, is one of a run
 observed_whole : (declared : Declared) (aim : Aim) (exchanges : List Exchange) (before after : SeenEnd) → IsObservation declared aim.purpose (record { exchanges = exchanges; end = before })

@@ -3,6 +3,8 @@
 use Rattle.std.proofs.Common.{◌≡◌, ℕ, Bool, true, false, cond, ◌||◌, List, [], ◌∷◌, map, Option, Some, None, slice_get, refl, ap, ◌∙◌, inl, inr}
 use Rattle.std.specs.Option.{option_map_or}
 use Rattle.std.specs.Prelude.{filter, length, min, nat_lt, ◌-◌, ◌^◌}
+use Rattle.engine_types.specs.declared.Aim.{Aim}
+use Rattle.tree_base.specs.Limits.{most_actions}
 use Rattle.engine_types.specs.declared.Action.{Action}
 use Rattle.engine_types.specs.declared.ActionKind.{ActionKind}
 use Rattle.engine_types.specs.declared.ActionKind.TheVariants.{StopContainer, StopKept, StartSlot}
@@ -11,33 +13,32 @@ use Rattle.engine_types.specs.declared.Purpose.{Purpose}
 use Rattle.engine_types.specs.declared.Seen.{Seen}
 use Rattle.run_model.specs.EngineRules.{Among}
 use Rattle.run_model.specs.Numbers.{places}
-use Rattle.run_model.specs.Plans.{Aim, Basis, action_count, actions_limit, down_basis, is_needed_by, is_too_long, is_wanted, needed_by, planned, planned_kinds, possible, up_basis}
+use Rattle.run_model.specs.Plans.{Basis, action_count, basis_of, down_aim, is_needed_by, is_too_long, is_wanted, needed_by, planned, planned_kinds, possible, up_aim}
 use Rattle.run_model.specs.Rolling.{awaited_by, is_added, is_awaited, run_actions}
 use Rattle.run_model.proofs.DistinctLists.{from_filter, from_place}
-use Rattle.project_run.specs.Options.{basis_of}
 
 module _ (declared : Declared) (seen : Seen) where
-  pub down_is : (aim : Aim) → aim.purpose ≡ Purpose.Down → down_basis declared seen aim.orphans aim.volumes ≡ basis_of declared seen aim
+  pub down_is : (aim : Aim) → aim.purpose ≡ Purpose.Down → basis_of declared seen (down_aim aim.orphans aim.volumes) ≡ basis_of declared seen aim
   down_is aim is = rw is refl
 
   kinds_by : (purpose : Purpose) (orphans volumes : Bool) → purpose ≡ Purpose.Up
-      → planned_kinds (up_basis declared seen orphans) ≡ planned_kinds (basis_of declared seen (record { purpose = purpose; orphans = orphans; volumes = volumes }))
+      → planned_kinds (basis_of declared seen (up_aim orphans)) ≡ planned_kinds (basis_of declared seen (record { purpose = purpose; orphans = orphans; volumes = volumes }))
   kinds_by Purpose.Up orphans volumes is = refl
   kinds_by Purpose.Down orphans volumes is = absurd (cc is)
 
   rolled_by : (purpose : Purpose) (orphans volumes : Bool) → purpose ≡ Purpose.Up
-      → run_actions (up_basis declared seen orphans) ≡ run_actions (basis_of declared seen (record { purpose = purpose; orphans = orphans; volumes = volumes }))
+      → run_actions (basis_of declared seen (up_aim orphans)) ≡ run_actions (basis_of declared seen (record { purpose = purpose; orphans = orphans; volumes = volumes }))
   rolled_by Purpose.Up orphans volumes is = refl
   rolled_by Purpose.Down orphans volumes is = absurd (cc is)
 
   module _ (aim : Aim) (is : aim.purpose ≡ Purpose.Up) where
-    pub up_rolled : run_actions (up_basis declared seen aim.orphans) ≡ run_actions (basis_of declared seen aim)
+    pub up_rolled : run_actions (basis_of declared seen (up_aim aim.orphans)) ≡ run_actions (basis_of declared seen aim)
     up_rolled = rolled_by aim.purpose aim.orphans aim.volumes is
 
-    pub up_length : is_too_long (up_basis declared seen aim.orphans) ≡ is_too_long (basis_of declared seen aim)
-    up_length = ap (λ (kinds : List ActionKind). nat_lt actions_limit (length kinds)) (kinds_by aim.purpose aim.orphans aim.volumes is)
+    pub up_length : is_too_long (basis_of declared seen (up_aim aim.orphans)) ≡ is_too_long (basis_of declared seen aim)
+    up_length = ap (λ (kinds : List ActionKind). nat_lt most_actions (length kinds)) (kinds_by aim.purpose aim.orphans aim.volumes is)
 
-    pub up_count : action_count (up_basis declared seen aim.orphans) ≡ action_count (basis_of declared seen aim)
+    pub up_count : action_count (basis_of declared seen (up_aim aim.orphans)) ≡ action_count (basis_of declared seen aim)
     up_count = ap (λ (kinds : List ActionKind). min (length kinds) (2 ^ 64 - 1)) (kinds_by aim.purpose aim.orphans aim.volumes is)
 
 -- tests that agree on a list leave the same of it, and so do functions
@@ -53,7 +54,7 @@ map_among {X} {Y} f g (x ∷ xs) e = ap (λ (y : Y). y ∷ map f xs) (e x (inl r
 -- a run of `down` needs what its plan does: starts are wanted by `up` alone
 module _ (declared : Declared) (seen : Seen) (orphans volumes : Bool) where
   abbrev down : Basis
-  down = down_basis declared seen orphans volumes
+  down = basis_of declared seen (down_aim orphans volumes)
 
   abbrev kinds : List ActionKind
   kinds = planned_kinds down

@@ -4,12 +4,12 @@ use Rattle.std.specs.Prelude.{option_map}
 use Rattle.engine_types.specs.declared.Entry.{Entry}
 use Rattle.engine_types.specs.declared.Observed.{Observed}
 use Rattle.engine_types.specs.declared.RunLimits.{RunLimits}
+use Rattle.engine_types.specs.declared.RunOptions.{RunOptions}
 use Rattle.ledger_run.specs.Timing.{HasRoom, late_by, readings_for}
 use Rattle.ledger_run.specs.Timing as of_worker
 use Rattle.outside_api.specs.Clock.{Clock, new_clock}
 use Rattle.project_run.specs.Options.{clock_begun, limits_by}
 use Rattle.project_run.specs.Timing.{IsTimed, run_readings}
-use Rattle.project_run.specs.declared.options as asked
 use Rattle.run_model.specs.Logs.{asks, asks_unstopped, deadline_after, late_reading, pauses, was_stopped}
 use Rattle.run_model.specs.Runs.{Task}
 
@@ -26,7 +26,7 @@ same_deadline (Some s) clock new is kept =
     let one : clock.readings ≡ 1 = ap (λ (c : Clock). c.readings) is in
     ap (λ (first : ℕ). Some (deadline_after first s)) (kept (omega (arith, one)))
 
-pub same_limits : (options : asked.RunOptions.RunOptions) (clock new : Clock) → clock ≡ clock_begun options.wait_seconds clock.first → (0 < clock.readings → new.first ≡ clock.first)
+pub same_limits : (options : RunOptions) (clock new : Clock) → clock ≡ clock_begun options.wait_seconds clock.first → (0 < clock.readings → new.first ≡ clock.first)
     → limits_by options new ≡ limits_by options clock
 same_limits options clock new is kept = ap (λ (deadline : Option ℕ). record { workers = 1; deadline = deadline; wait = options.wait; stop_seconds = options.stop_seconds })
     (same_deadline options.wait_seconds clock new is kept)

@@ -17,8 +17,8 @@ use Rattle.project_run.specs.Carrying.{IsWorked, come_to}
 use Rattle.run_model.specs.EngineRules.{TellsSteps, exchanges_in}
 use Rattle.run_model.specs.Journals.{has_left}
 use Rattle.run_model.specs.Logs.{GrowsBy}
-use Rattle.run_model.specs.Plans.{Aim}
 use Rattle.std.specs.Prelude.{Option, ℕ}
+use Rattle.engine_types.specs.declared.Aim.{Aim}
 
 -- a ledger that was begun with what may begin has only its good observation
 pub only_seen : (declared : Declared) (observed : Observed) (plan : Plan) (limits : RunLimits) (run : Course) → MayBegin declared observed plan limits → run ≡ begun declared observed plan limits

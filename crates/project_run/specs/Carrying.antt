@@ -1,5 +1,6 @@
 -- How a plan is carried out from its observation on.
 use Rattle.std.specs.Prelude.{◌≡◌, ◌⊎◌, true, List, [], ◌∷◌, reverse}
+use Rattle.engine_types.specs.declared.Aim.{Aim}
 use Rattle.engine_types.specs.declared.Declared.{Declared}
 use Rattle.engine_types.specs.declared.Entry.{Entry}
 use Rattle.engine_types.specs.declared.Exchange.{Exchange}
@@ -19,7 +20,6 @@ use Rattle.outside_api.specs.Accounts.{AreCaused}
 use Rattle.run_model.specs.EngineRules.{TellsSteps, exchanges_in}
 use Rattle.run_model.specs.Journals.{has_left}
 use Rattle.run_model.specs.Logs.{GrowsBy}
-use Rattle.run_model.specs.Plans.{Aim}
 
 -- the same run with this journal
 abbrev pub come_to : Course → List Entry → Course

@@ -1,5 +1,6 @@
 -- How a run opens: what follows from the end of its observation.
 use Rattle.std.specs.Prelude.{◌≡◌, ◌⊎◌, false}
+use Rattle.engine_types.specs.declared.Aim.{Aim}
 use Rattle.engine_types.specs.declared.Declared.{Declared}
 use Rattle.engine_types.specs.declared.Observed.{Observed}
 use Rattle.engine_types.specs.declared.Seen.{Seen}
@@ -9,11 +10,10 @@ use Rattle.ledger_run.specs.Tellings.{Telling, account_in}
 use Rattle.observe_project.specs.Exchanges.{HasCauseOfEnd}
 use Rattle.outside_api.specs.Accounts.{AreCaused}
 use Rattle.project_run.specs.declared.opening.Opening.{Opening}
-use Rattle.project_run.specs.Options.{basis_of}
 use Rattle.run_model.specs.EngineRules.{ToldBy}
 use Rattle.run_model.specs.Legal.{IsObserved, whole_end}
 use Rattle.run_model.specs.Logs.{GrowsBy}
-use Rattle.run_model.specs.Plans.{Aim, AreKeptPlaces, is_too_long}
+use Rattle.run_model.specs.Plans.{AreKeptPlaces, basis_of, is_too_long}
 use Rattle.run_model.specs.Rolling.{run_actions}
 
 -- an end is the whole one of what was observed, or want of memory stands in its place

@@ -2,6 +2,7 @@
 use Rattle.std.specs.Prelude.{◌≡◌, ◌⊎◌, ℕ, List, [], ◌∷◌, Option, Some, None, false, IfSome, IsSomeAnd, reverse, slice_get, true}
 use Rattle.engine_types.specs.declared.ActionKind.{ActionKind}
 use Rattle.engine_types.specs.declared.ActionKind.TheVariants.{CreateSlot, RemoveContainer, StopContainer, StopKept}
+use Rattle.engine_types.specs.declared.Aim.{Aim}
 use Rattle.engine_types.specs.declared.Declared.{Declared}
 use Rattle.engine_types.specs.declared.Entry.{Entry}
 use Rattle.engine_types.specs.declared.Observed.{Observed}
@@ -15,7 +16,7 @@ use Rattle.outside_api.specs.Accounts.{Account, AreCaused}
 use Rattle.project_run.specs.Timing.{IsTimed}
 use Rattle.run_model.specs.EngineRules.{Among, Step, TellsSteps}
 use Rattle.run_model.specs.Logs.{GrowsBy}
-use Rattle.run_model.specs.Plans.{Aim, is_kept, is_restarted, kept, kind_of, slot_at}
+use Rattle.run_model.specs.Plans.{is_kept, is_restarted, kept, kind_of, slot_at}
 use Rattle.run_model.specs.Runs.{IsLeftByAll, IsRun, Task, run_exchanges, run_seen, run_setup}
 
 -- to carry out for a declared set what an aim asks for, within limits

@@ -13,14 +13,12 @@ mod ending;
 mod laws;
 mod opening;
 mod options;
-mod plan_aim;
 mod ran;
 mod whole_run;
 
 pub use ending::{end, ended, only_seen};
 pub use laws::runs_spare_kept;
 pub use opening::{Opening, open};
-pub use options::{RunOptions, limits_for};
-pub use plan_aim::Aim;
+pub use options::limits_for;
 pub use ran::Ran;
 pub use whole_run::run_project;

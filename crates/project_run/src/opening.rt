@@ -2,13 +2,11 @@ ghost use Rattle.std.specs.Prelude.{◌≡◌, ℕ, false, true, Err, IfOk, IfEr
 ghost use Rattle.engine_types.specs.declared.SeenEnd.{SeenEnd};
 ghost use Rattle.plan_core.specs.declared.refusal.PlanRefusal.{PlanRefusal};
 ghost use Rattle.project_run.specs.Opening.{Follows, IsWholeEnd, Opens, observation_of};
-ghost use Rattle.project_run.specs.Options.{aim_of, basis_of};
 ghost use Rattle.ledger_run.specs.Tellings.{telling};
-ghost use Rattle.run_model.specs.Plans.{AreKeptPlaces, IsWhole, action_count, is_too_long, up_basis};
+ghost use Rattle.run_model.specs.Plans.{AreKeptPlaces, IsWhole, action_count, basis_of, is_too_long, up_aim};
 ghost use Rattle.run_model.specs.Rolling.{run_actions};
 
-use crate::plan_aim::Aim;
-use engine_types::{Declared, Exchange, Observed, Plan, Purpose, Seen, SeenEnd, SeenFault};
+use engine_types::{Aim, Declared, Exchange, Observed, Plan, Purpose, Seen, SeenEnd, SeenFault};
 use observe_project::observe;
 use outside_api::Hand;
 use plan_core::{PlanRefusal, plan_down, plan_up};
@@ -28,7 +26,7 @@ pub enum Opening {
 /// Observes and plans. A plan that is too long, or for which there is no memory, is a bad end of the observation.
 pub fn open<H: Hand>(alloc: Global, hand: &mut H, declared: &Declared, aim: Aim) -> Opening
     requires whole { IsWhole declared.now }
-    ensures { Opens declared.now (aim_of aim) result
+    ensures { Opens declared.now aim result
         (telling (H.log hand.old) (H.heard hand.old) (H.faults hand.old) (H.clock hand.old)
         (H.engine hand.old))
         (telling (H.log hand.new) (H.heard hand.new) (H.faults hand.new) (H.clock hand.new)
@@ -64,9 +62,9 @@ fn after_seen(
 ) -> Opening
     requires whole { IsWhole declared.now }
     ensures exchanges { (observation_of result).exchanges ≡ exchanges }
-    ensures end { IsWholeEnd declared.now (aim_of aim) (SeenEnd.Good seen)
+    ensures end { IsWholeEnd declared.now aim (SeenEnd.Good seen)
         (observation_of result).end }
-    ensures follows { Follows declared.now (aim_of aim) result }
+    ensures follows { Follows declared.now aim result }
 {
     match plan_for(alloc, declared, &seen, aim) {
         Ok(plan) => {
@@ -85,12 +83,12 @@ fn after_seen(
 fn plan_for(alloc: Global, declared: &Declared, seen: &Seen, aim: Aim) -> Result<Plan, SeenFault>
     requires whole { IsWhole declared.now }
     ensures planned { IfOk result (λ plan.
-        plan.actions ≡ run_actions (basis_of declared.now seen.now (aim_of aim))) }
+        plan.actions ≡ run_actions (basis_of declared.now seen.now aim)) }
     ensures fits { IfOk result (λ plan.
-        is_too_long (basis_of declared.now seen.now (aim_of aim)) ≡ false) }
+        is_too_long (basis_of declared.now seen.now aim) ≡ false) }
     ensures kept { IfOk result (λ plan. AreKeptPlaces declared.now seen.now plan.kept) }
     ensures err { IfErr result (λ fault.
-        IsWholeEnd declared.now (aim_of aim) (SeenEnd.Good seen.now) (SeenEnd.Bad fault)) }
+        IsWholeEnd declared.now aim (SeenEnd.Good seen.now) (SeenEnd.Bad fault)) }
 {
     match plan_by(alloc, declared, seen, aim) {
         Ok(plan) => Ok(plan),
@@ -103,13 +101,13 @@ fn plan_for(alloc: Global, declared: &Declared, seen: &Seen, aim: Aim) -> Result
 fn plan_by(alloc: Global, declared: &Declared, seen: &Seen, aim: Aim) -> Result<Plan, PlanRefusal>
     requires whole { IsWhole declared.now }
     ensures planned { IfOk result (λ plan.
-        plan.actions ≡ run_actions (basis_of declared.now seen.now (aim_of aim))) }
+        plan.actions ≡ run_actions (basis_of declared.now seen.now aim)) }
     ensures fits { IfOk result (λ plan.
-        is_too_long (basis_of declared.now seen.now (aim_of aim)) ≡ false) }
+        is_too_long (basis_of declared.now seen.now aim) ≡ false) }
     ensures kept { IfOk result (λ plan. AreKeptPlaces declared.now seen.now plan.kept) }
     ensures too_many { (count : ℕ) → result ≡ Err (PlanRefusal.TooManyActions count)
-        → (is_too_long (basis_of declared.now seen.now (aim_of aim)) ≡ true)
-        × (count ≡ action_count (basis_of declared.now seen.now (aim_of aim))) }
+        → (is_too_long (basis_of declared.now seen.now aim) ≡ true)
+        × (count ≡ action_count (basis_of declared.now seen.now aim)) }
 {
     match aim.purpose {
         Purpose::Up => rolled_up(alloc, declared, seen, aim.orphans),
@@ -126,13 +124,13 @@ fn rolled_up(
 ) -> Result<Plan, PlanRefusal>
     requires whole { IsWhole declared.now }
     ensures planned { IfOk result (λ plan.
-        plan.actions ≡ run_actions (up_basis declared.now seen.now orphans)) }
+        plan.actions ≡ run_actions (basis_of declared.now seen.now (up_aim orphans))) }
     ensures fits { IfOk result (λ plan.
-        is_too_long (up_basis declared.now seen.now orphans) ≡ false) }
+        is_too_long (basis_of declared.now seen.now (up_aim orphans)) ≡ false) }
     ensures kept { IfOk result (λ plan. AreKeptPlaces declared.now seen.now plan.kept) }
     ensures too_many { (count : ℕ) → result ≡ Err (PlanRefusal.TooManyActions count)
-        → (is_too_long (up_basis declared.now seen.now orphans) ≡ true)
-        × (count ≡ action_count (up_basis declared.now seen.now orphans)) }
+        → (is_too_long (basis_of declared.now seen.now (up_aim orphans)) ≡ true)
+        × (count ≡ action_count (basis_of declared.now seen.now (up_aim orphans))) }
 {
     let plan = plan_up(alloc, declared, seen, orphans)?;
     match roll(alloc, declared, seen, plan) {

@@ -2,28 +2,18 @@ ghost use Rattle.std.specs.Prelude.{◌≡◌, option_map};
 ghost use Rattle.ledger_run.specs.Tellings.{telling};
 ghost use Rattle.outside_api.specs.Clock.{new_clock};
 ghost use Rattle.run_model.specs.Logs.{deadline_after};
-ghost use Rattle.project_run.specs.Options.{aim_of, bounded, clock_begun, limits_by};
+ghost use Rattle.project_run.specs.Options.{bounded, clock_begun, limits_by};
 
-use crate::plan_aim::Aim;
-use engine_types::{Purpose, RunLimits};
+use engine_types::{Aim, RunLimits, RunOptions};
 use observe_project::is_up;
 use outside_api::Hand;
-
-/// What the options of a run bound: whether it waits for goals, after how many seconds it is late, and how many seconds a stop
-/// waits in place of what each slot says.
-#[derive(Debug, Clone, Copy, PartialEq, Eq)]
-pub struct RunOptions {
-    pub wait: bool,
-    pub wait_seconds: Option<u32>,
-    pub stop_seconds: Option<u32>,
-}
 
 /// What bounds a run, with a deadline that is counted from the first reading of the hand's clock, made here; there is no reading
 /// where there is no deadline. Goals are waited for only where a project is brought up.
 pub fn limits_for<H: Hand>(hand: &mut H, aim: Aim, options: RunOptions) -> RunLimits
     requires { H.clock hand.old ≡ new_clock }
     ensures limits { result
-        ≡ bounded (aim_of aim) (limits_by options (H.clock hand.new)) }
+        ≡ bounded aim (limits_by options (H.clock hand.new)) }
     ensures clock { H.clock hand.new
         ≡ clock_begun options.wait_seconds (H.clock hand.new).first }
     ensures kept { telling (H.log hand.new) (H.heard hand.new) (H.faults hand.new)

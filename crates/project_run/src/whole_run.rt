@@ -4,7 +4,7 @@ ghost use Rattle.ledger_run.specs.Tellings.{telling};
 ghost use Rattle.outside_api.specs.Accounts.{account};
 ghost use Rattle.outside_api.specs.Clock.{new_clock};
 ghost use Rattle.plan_core.specs.Order.{HasNoCycle};
-ghost use Rattle.project_run.specs.Options.{aim_of, limits_by};
+ghost use Rattle.project_run.specs.Options.{limits_by};
 ghost use Rattle.project_run.specs.Timing.{IsTimed};
 ghost use Rattle.project_run.specs.Whole.{IfBegun, IsCaused, IsFault, IsReport, Leaves, SparesKept, run_steps, task_of};
 ghost use Rattle.project_run.specs.Worlds.{EndsExact, EndsGone, GoesThrough, MakesOnce, RollsFew, SparesAgreeing};
@@ -19,10 +19,9 @@ ghost use Rattle.world_laws.specs.OwnSpecs.{HasOwnSpecs};
 use crate::carrying::carry_out;
 use crate::ending::ended;
 use crate::opening::{Opening, open};
-use crate::options::{RunOptions, limits_for};
-use crate::plan_aim::Aim;
+use crate::options::limits_for;
 use crate::ran::Ran;
-use engine_types::{Declared, Entry, RunFault};
+use engine_types::{Aim, Declared, Entry, RunFault, RunOptions};
 use outside_api::Hand;
 use std::alloc::Global;
 use tree_base::{List, Memory, ReservedList, Text};
@@ -58,45 +57,45 @@ pub fn run_project<H: Hand>(
     ensures empty { result.journal ≡ [] → (result.fault ≡ Some RunFault.Memory)
         × (H.log hand.new ≡ H.log hand.old) × (H.clock hand.new ≡ H.clock hand.old) }
     ensures run { IfBegun result.journal (IsRun
-        (task_of declared (aim_of aim) (limits_by options (H.clock hand.new))) result.journal) }
+        (task_of declared aim (limits_by options (H.clock hand.new))) result.journal) }
     ensures left { IfBegun result.journal (IsLeftByAll
-        (task_of declared (aim_of aim) (limits_by options (H.clock hand.new))) result.journal) }
+        (task_of declared aim (limits_by options (H.clock hand.new))) result.journal) }
     ensures log { IfBegun result.journal (GrowsBy (run_exchanges
-        (task_of declared (aim_of aim) (limits_by options (H.clock hand.new))) result.journal 0)
+        (task_of declared aim (limits_by options (H.clock hand.new))) result.journal 0)
         (H.log hand.old) (H.log hand.new)) }
     ensures told { IfBegun result.journal (TellsSteps (run_steps
-        (task_of declared (aim_of aim) (limits_by options (H.clock hand.new))) result.journal 0)
+        (task_of declared aim (limits_by options (H.clock hand.new))) result.journal 0)
         (H.engine hand.old) (H.engine hand.new)) }
     ensures fault { IfBegun result.journal (IsFault (run_fault
-        (task_of declared (aim_of aim) (limits_by options (H.clock hand.new))) result.journal)
+        (task_of declared aim (limits_by options (H.clock hand.new))) result.journal)
         result.fault) }
     ensures report { IsReport (run_report
-        (task_of declared (aim_of aim) (limits_by options (H.clock hand.new))) result.journal)
+        (task_of declared aim (limits_by options (H.clock hand.new))) result.journal)
         result.fault result.report }
     ensures kept { is_up aim.purpose ≡ true → SparesKept
-        (task_of declared (aim_of aim) (limits_by options (H.clock hand.new))) result.journal }
+        (task_of declared aim (limits_by options (H.clock hand.new))) result.journal }
     ensures world { IfBegun result.journal (GoesThrough
-        (task_of declared (aim_of aim) (limits_by options (H.clock hand.new))) result.journal
+        (task_of declared aim (limits_by options (H.clock hand.new))) result.journal
         (H.engine hand.old) (H.engine hand.new)) }
     ensures exact { result.fault ≡ None → is_up aim.purpose ≡ true → HasOwnSpecs declared
         → EndsExact
-        (task_of declared (aim_of aim) (limits_by options (H.clock hand.new))) result.journal }
+        (task_of declared aim (limits_by options (H.clock hand.new))) result.journal }
     ensures once { IfBegun result.journal (is_up aim.purpose ≡ true → HasOwnSpecs declared
         → MakesOnce
-        (task_of declared (aim_of aim) (limits_by options (H.clock hand.new))) result.journal) }
+        (task_of declared aim (limits_by options (H.clock hand.new))) result.journal) }
     ensures agreeing { IfBegun result.journal (is_up aim.purpose ≡ true → HasOwnSpecs declared
         → SparesAgreeing
-        (task_of declared (aim_of aim) (limits_by options (H.clock hand.new))) result.journal) }
+        (task_of declared aim (limits_by options (H.clock hand.new))) result.journal) }
     ensures rolls { IfBegun result.journal (is_up aim.purpose ≡ true → RollsFew
-        (task_of declared (aim_of aim) (limits_by options (H.clock hand.new))) result.journal) }
+        (task_of declared aim (limits_by options (H.clock hand.new))) result.journal) }
     ensures gone { result.fault ≡ None → is_up aim.purpose ≡ false → EndsGone
-        (task_of declared (aim_of aim) (limits_by options (H.clock hand.new))) result.journal }
+        (task_of declared aim (limits_by options (H.clock hand.new))) result.journal }
     ensures cause { IsCaused
-        (task_of declared (aim_of aim) (limits_by options (H.clock hand.new))) result.journal 0
+        (task_of declared aim (limits_by options (H.clock hand.new))) result.journal 0
         (account (H.log hand.old) (H.heard hand.old) (H.faults hand.old))
         (account (H.log hand.new) (H.heard hand.new) (H.faults hand.new)) }
     ensures timed { IfBegun result.journal (IsTimed
-        (task_of declared (aim_of aim) (limits_by options (H.clock hand.new))) result.journal 0
+        (task_of declared aim (limits_by options (H.clock hand.new))) result.journal 0
         (H.clock hand.old) (H.clock hand.new)) }
 {
     match first_journal(alloc) {
@@ -146,16 +145,16 @@ fn run<H: Hand>(
     requires empty { journal.items ≡ [] }
     requires room { 1 ≤ journal.spare }
     ensures leaves { Leaves
-        (task_of declared (aim_of aim) (limits_by options (H.clock hand.new))) result.journal
+        (task_of declared aim (limits_by options (H.clock hand.new))) result.journal
         (telling (H.log hand.old) (H.heard hand.old) (H.faults hand.old) (H.clock hand.old)
         (H.engine hand.old))
         (telling (H.log hand.new) (H.heard hand.new) (H.faults hand.new) (H.clock hand.new)
         (H.engine hand.new)) }
     ensures fault { IsFault (run_fault
-        (task_of declared (aim_of aim) (limits_by options (H.clock hand.new))) result.journal)
+        (task_of declared aim (limits_by options (H.clock hand.new))) result.journal)
         result.fault }
     ensures report { IsReport (run_report
-        (task_of declared (aim_of aim) (limits_by options (H.clock hand.new))) result.journal)
+        (task_of declared aim (limits_by options (H.clock hand.new))) result.journal)
         result.fault result.report }
 {
     let limits = limits_for(hand, aim, options);

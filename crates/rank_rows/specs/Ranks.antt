@@ -1,6 +1,7 @@
 -- Rows of keys, and trees over them.
 use Rattle.std.specs.Prelude.{◌≡◌, ℕ, zero, suc, ◌+◌, ◌*◌, ◌-◌, ◌<◌, ◌≤◌, Bool, true, false, if◌then◌else◌, ◌&&◌, ◌||◌, ◌==◌, nat_lt, nat_le, List, [], ◌∷◌, Option, Some, None, length, find, get_or, is_some}
 use Rattle.std.specs.List.{list_all}
+use Rattle.tree_base.specs.Limits.{count_bound}
 use Rattle.rank_rows.specs.declared.rank_row.Rank.{Rank}
 
 -- so many numbers, from one on
@@ -58,7 +59,7 @@ pub record IsTreeBut (nodes : List (Option Rank)) (keys : List (Option ℕ))
 -- a node for each key, fewer keys than a place's number tells, and each node the sooner of the two under it
 pub record IsRankRow (nodes : List (Option Rank)) (keys : List (Option ℕ)) : Type 0 where
   pub same : length nodes ≡ length keys
-  pub small : length keys < 4294967296
+  pub small : length keys < count_bound
   pub tree : IsTreeBut nodes keys 0
 
 -- a place with a key was found, or no place has one

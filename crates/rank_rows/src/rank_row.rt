@@ -1,4 +1,5 @@
 ghost use Rattle.std.specs.Prelude.{◌≡◌, ◌+◌, ◌*◌, ◌<◌, ◌≤◌, ◌⊎◌, length, IfOk, replicate, set, slice_get, slice_set};
+ghost use Rattle.tree_base.specs.Limits.{count_bound};
 ghost use Rattle.rank_rows.specs.Ranks.{IsFound, IsTreeBut, child, leaf_of, least, sooner};
 
 use std::alloc::Global;
@@ -76,7 +77,7 @@ impl RankRow {
 /// A node, or the place that stands where the nodes end.
 fn child(nodes: &[Option<Rank>], keys: &[Option<u32>], node: usize) -> Option<Rank>
     requires same { length nodes.now ≡ length keys.now }
-    requires small { length keys.now < 4294967296 }
+    requires small { length keys.now < count_bound }
     requires within { node < 2 * length keys.now }
     ensures { result ≡ child nodes.now keys.now node }
 {
@@ -89,7 +90,7 @@ fn child(nodes: &[Option<Rank>], keys: &[Option<u32>], node: usize) -> Option<Ra
 
 /// A place with its key, where it has one.
 fn leaf(keys: &[Option<u32>], at: usize) -> Option<Rank>
-    requires { at < 4294967296 }
+    requires { at < count_bound }
     ensures { result ≡ leaf_of keys.now at }
 {
     match keys.get(at) {
@@ -121,7 +122,7 @@ fn sooner(left: Option<Rank>, right: Option<Rank>) -> Option<Rank>
 /// Makes this node and each one over it the sooner of the two under it.
 fn mend(nodes: &mut [Option<Rank>], keys: &[Option<u32>], from: usize)
     requires same { length nodes.old ≡ length keys.now }
-    requires small { length keys.now < 4294967296 }
+    requires small { length keys.now < count_bound }
     requires below { from < length keys.now }
     requires broken { IsTreeBut nodes.old keys.now from }
     ensures mended { IsTreeBut nodes.new keys.now 0 }

@@ -1,13 +1,12 @@
 ghost use Rattle.std.specs.Prelude.{◌≡◌};
-ghost use Rattle.run_model.specs.Ending.{lost_status, seen_status, outcome_status};
 ghost use Rattle.refusals.specs.Statuses.{digest_status, identity_status, refusal_status, status_of, unbuilt_status, words_status};
 
 use crate::refusal::{Refusal, Unbuilt};
 use compose_words::WordsRefusal;
 use declared_set::IdentityRefusal;
-use engine_types::{Outcome, SeenFault, WireEnd};
 use file_digests::DigestRefusal;
 use loading_words::{active_status, load_status, project_status};
+use run_lookups::{outcome_status, seen_status};
 
 /// The exit status of a call: 0 where nothing is refused.
 pub fn status_of(refusal: &Option<Refusal>) -> u8
@@ -78,42 +77,5 @@ fn identity_status(refusal: &IdentityRefusal) -> u8
         IdentityRefusal::TooManyNeeds(_) => 8,
         IdentityRefusal::NameTwice(_) => 2,
         IdentityRefusal::Memory => 9,
-    }
-}
-
-fn seen_status(fault: &SeenFault) -> u8
-    ensures { result ≡ seen_status fault.now }
-{
-    match fault {
-        SeenFault::RequestFailed { .. } => 3,
-        SeenFault::PullFailed { .. } => 3,
-        SeenFault::Lost { cause, .. } => lost_status(*cause),
-        SeenFault::NotSent { .. } => 7,
-        SeenFault::NetworkTwice { .. } => 3,
-        SeenFault::ForeignNetwork { .. } => 3,
-        SeenFault::ExternalMissing { .. } => 3,
-        SeenFault::NeedsBuild { .. } => 3,
-        SeenFault::TooManyActions { .. } => 8,
-        SeenFault::Memory => 9,
-    }
-}
-
-fn outcome_status(outcome: &Outcome) -> u8
-    ensures { result ≡ outcome_status outcome.now }
-{
-    match outcome {
-        Outcome::Answered(_) => 3,
-        Outcome::Lost(cause) => lost_status(*cause),
-        Outcome::NotSent => 7,
-        Outcome::Memory => 9,
-    }
-}
-
-fn lost_status(cause: WireEnd) -> u8
-    ensures { result ≡ lost_status cause }
-{
-    match cause {
-        WireEnd::TooLarge => 8,
-        _ => 7,
     }
 }

@@ -6,9 +6,10 @@ use Rattle.std.proofs.lemmas.List.{length-append}
 use Rattle.std.proofs.lemmas.List.Elements.{All-head, All-tail}
 use Rattle.std.specs.List.{flat_map, list_all, prefix_len}
 use Rattle.std.specs.Prelude.{IsTrue}
+use Rattle.tree_base.specs.Limits.{most_head_bytes}
 use Rattle.httparse.specs.Ascii.{line_feed}
 use Rattle.httparse.specs.Grammar.{AllPass}
-use Rattle.response_rules.specs.Lines.{Part, ends, passed, unfinished, first_lines, lines, part_of, whole_lines, with_byte, head_limit, before_line_feed, chunk_line_part}
+use Rattle.response_rules.specs.Lines.{Part, ends, passed, unfinished, first_lines, lines, part_of, whole_lines, with_byte, before_line_feed, chunk_line_part}
 
 -- a byte that is no line feed
 abbrev pub is_text_byte : ℕ → Bool
@@ -152,10 +153,10 @@ module _ (t rest : List ℕ) (text : IsText t) where
   here : before_line_feed whole_line ≡ length t
   here = before_feed t rest text
 
-  pub line_ends : length t < head_limit → chunk_line_part whole_line ≡ ends (length t + 1)
+  pub line_ends : length t < most_head_bytes → chunk_line_part whole_line ≡ ends (length t + 1)
   line_ends within =
-      line_decided (nat_lt (before_line_feed whole_line) (length whole_line)) (nat_lt (before_line_feed whole_line) head_limit) (before_line_feed whole_line + 1)
-      (if nat_lt head_limit (length whole_line) then passed else unfinished)
+      line_decided (nat_lt (before_line_feed whole_line) (length whole_line)) (nat_lt (before_line_feed whole_line) most_head_bytes) (before_line_feed whole_line + 1)
+      (if nat_lt most_head_bytes (length whole_line) then passed else unfinished)
       (lt-ltb (before_line_feed whole_line) (length whole_line) (let m = length-append t (line_feed ∷ rest) in let h = here in omega (arith, h, m)))
-      (lt-ltb (before_line_feed whole_line) head_limit (subst (λ (n : ℕ). n < head_limit) (sym here) within))
+      (lt-ltb (before_line_feed whole_line) most_head_bytes (subst (λ (n : ℕ). n < most_head_bytes) (sym here) within))
       ∙ ap (λ (n : ℕ). ends (n + 1)) here

@@ -5,6 +5,7 @@ use Rattle.std.proofs.lemmas.List.{append-nil, length-append}
 use Rattle.std.proofs.lemmas.List.Elements.{All-head, All-tail}
 use Rattle.std.specs.List.{flat_map}
 use Rattle.std.specs.Prelude.{All, IsFalse, IsSomeAnd, IsTrue}
+use Rattle.tree_base.specs.Limits.{most_body_bytes, most_head_bytes, most_header_lines}
 use Rattle.engine_types.specs.declared.Reply.{Reply}
 use Rattle.engine_types.specs.declared.Request.{Request}
 use Rattle.engine_types.specs.declared.WireEnd.{WireEnd}
@@ -15,7 +16,7 @@ use Rattle.httparse.specs.Grammar.{ChunkLine, HasNoChunkLine, HasNoResponse, Has
 use Rattle.response_rules.specs.Broken.{HasBadBody, IsBroken, IsReply}
 use Rattle.response_rules.specs.Chunks.{AreChunks, BeginsWithLine, BeginsWithTrailer, BreaksChunk, BreaksChunked, BreaksTrailer, Chunk, IsChunk, IsChunked, bad, body_long, body_of, bytes_cut, cut, end_bad, line_bad, line_cut, line_long, long, print_chunk, print_chunks, trailer}
 use Rattle.response_rules.specs.Heads.{Framing, chunked, fault_by, framing_of, has_no_body, head_fault, is_encoded, is_interim, sized, to_end}
-use Rattle.response_rules.specs.Lines.{Part, body_limit, chunk_line_part, ends, head_limit, head_part, line_limit, passed, trailer_part, unfinished}
+use Rattle.response_rules.specs.Lines.{Part, chunk_line_part, ends, head_part, passed, trailer_part, unfinished}
 use Rattle.response_rules.specs.Replies.{reply_of}
 use Rattle.response_rules.specs.Responses.{BeginsWithHead, Breaks, BreaksBody, HasBody, HasBodyOf, IsResponse, IsSkipped, Skips, bad_body, bad_fields, bad_head, long_head, no_head, print_heads}
 use Rattle.response_laws.proofs.Printed.{chunk_line_ends, head_ends, trailer_ends}
@@ -40,8 +41,8 @@ record Goes (read : List ℕ) (first : ResponseHead) (rest : List ℕ) (before :
   head : ResponseHead
   more : List ℕ
   is_head : IsResponseHead head
-  few : length head.fields ≤ line_limit
-  within : before + length (print_response head) ≤ head_limit
+  few : length head.fields ≤ most_header_lines
+  within : before + length (print_response head) ≤ most_head_bytes
   sound : head_fault 0 head.fields ≡ None
   reads : tail ≡ print_response head ++ more
   which : IsTrue (is_interim (status_code head)) ⊎ ((head ≡ first) × (more ≡ rest))
@@ -50,8 +51,8 @@ record Goes (read : List ℕ) (first : ResponseHead) (rest : List ℕ) (before :
 record Parts (read : List ℕ) (before : ℕ) (skipped : List ResponseHead) (first : ResponseHead) (rest : List ℕ) : Type 0 where
   each : All IsSkipped skipped
   is_head : IsResponseHead first
-  few : length first.fields ≤ line_limit
-  within : before + (length (print_heads skipped) + length (print_response first)) ≤ head_limit
+  few : length first.fields ≤ most_header_lines
+  within : before + (length (print_heads skipped) + length (print_response first)) ≤ most_head_bytes
   final : IsFalse (is_interim (status_code first))
   sound : head_fault 0 first.fields ≡ None
   reads : read ≡ print_heads skipped ++ (print_response first ++ rest)
@@ -176,7 +177,7 @@ trailer_whole at bytes ended cause t b = by cause b
 -- what stands behind a chunk line of a whole body, behind other bytes of it: the line's bytes, or it is the last
 abbrev IsBehind : List ℕ → List ℕ → ChunkLine → List ℕ → Type 0
 IsBehind body before line more =
-    ((0 < chunk_size line) × (length before + chunk_size line ≤ body_limit)
+    ((0 < chunk_size line) × (length before + chunk_size line ≤ most_body_bytes)
     × ((bytes : List ℕ) × (rest : List ℕ) × (length bytes ≡ chunk_size line) × (more ≡ bytes ++ (crlf_bytes ++ rest))))
     ⊎ ((chunk_size line ≡ 0) × (body ≡ before) × BeginsWithTrailer more)
 
@@ -185,16 +186,16 @@ record GoesOn (body : List ℕ) (before : List ℕ) (tail : List ℕ) : Type 0 w
   line : ChunkLine
   more : List ℕ
   is_line : IsChunkLine line
-  within : length (print_chunk_line line) ≤ head_limit
+  within : length (print_chunk_line line) ≤ most_head_bytes
   reads : tail ≡ print_chunk_line line ++ more
   which : IsBehind body before line more
 
 -- a body in chunks, by its parts, behind other bytes of it
 record Pieces (bytes : List ℕ) (before : List ℕ) (chunks : List Chunk) (line : ChunkLine) (rest : List ℕ) : Type 0 where
   each : All IsChunk chunks
-  within : length before + length (body_of chunks) ≤ body_limit
+  within : length before + length (body_of chunks) ≤ most_body_bytes
   is_line : IsChunkLine line
-  line_within : length (print_chunk_line line) ≤ head_limit
+  line_within : length (print_chunk_line line) ≤ most_head_bytes
   no_bytes : chunk_size line ≡ 0
   trailer_is : BeginsWithTrailer rest
   reads : bytes ≡ print_chunks chunks ++ (print_chunk_line line ++ rest)

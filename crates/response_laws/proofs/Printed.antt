@@ -8,11 +8,12 @@ use Rattle.std.specs.Char.{is_ascii_digit, is_ascii_hexdigit}
 use Rattle.std.specs.List.{flat_map, prefix_len}
 use Rattle.std.specs.Prelude.{All, IsTrue}
 use Rattle.std.specs.Str.{bytes_eq}
+use Rattle.tree_base.specs.Limits.{most_head_bytes, most_header_lines}
 use Rattle.httparse.proofs.GrammarLemmas.{cons-append, print_response-append}
 use Rattle.httparse.proofs.OnLiterals.{httparse_on_literals}
 use Rattle.httparse.specs.Ascii.{line_feed, carriage_return}
 use Rattle.httparse.specs.Grammar.{ChunkLine, Field, IsChunkLine, IsExtension, IsField, IsResponseHead, LineEnd, crlf, lf, ResponseHead, is_extension_byte, is_ows, is_token_byte, is_value_byte, print_blank, print_chunk_line, print_end, print_extension, print_field, print_reason, print_response, print_section, print_version}
-use Rattle.response_rules.specs.Lines.{blank_lines, ends, filled_lines, head_limit, head_part, is_empty_line, line_limit, part_of, trailer_part, whole_lines, chunk_line_part}
+use Rattle.response_rules.specs.Lines.{blank_lines, ends, filled_lines, head_part, is_empty_line, part_of, trailer_part, whole_lines, chunk_line_part}
 use Rattle.response_laws.proofs.Cutting.{AreTexts, IsText, line_ends, one_more, part_ends, sent, sent-append, text-append, text-pass, texts-append, whole_sent}
 
 -- what stands before the line feed of a line's end
@@ -196,13 +197,13 @@ module _ (fields : List Field) (last : LineEnd) (rest : List ℕ) (all : All IsF
   trailer_count : filled_lines (whole_lines (sent trailer_lines ++ rest)) ≡ length fields
   trailer_count = ap filled_lines (whole_sent trailer_lines rest trailer_texts ∙ regrouped fields last (whole_lines rest)) ∙ fields_count fields last (whole_lines rest) all
 
-  pub trailer_ends : length fields ≤ line_limit → length (print_section fields last) ≤ head_limit
+  pub trailer_ends : length fields ≤ most_header_lines → length (print_section fields last) ≤ most_head_bytes
       → trailer_part (print_section fields last ++ rest) ≡ ends (length (print_section fields last))
   trailer_ends few within =
       subst (λ (text : List ℕ). trailer_part (text ++ rest) ≡ ends (length text)) (sym (section_sent fields last))
-      (ap (λ (n : ℕ). part_of head_limit line_limit 0 n (sent trailer_lines ++ rest)) trailer_count
-      ∙ part_ends head_limit line_limit 0 (length fields) trailer_lines rest trailer_texts (let a = section_length fields last in omega (arith, a)) few
-      (subst (λ (text : List ℕ). length text ≤ head_limit) (section_sent fields last) within))
+      (ap (λ (n : ℕ). part_of most_head_bytes most_header_lines 0 n (sent trailer_lines ++ rest)) trailer_count
+      ∙ part_ends most_head_bytes most_header_lines 0 (length fields) trailer_lines rest trailer_texts (let a = section_length fields last in omega (arith, a)) few
+      (subst (λ (text : List ℕ). length text ≤ most_head_bytes) (section_sent fields last) within))
 
 -- a head ends where it is cut, behind heads of so many bytes
 module _ (h : ResponseHead) (rest : List ℕ) (is : IsResponseHead h) where
@@ -237,13 +238,13 @@ module _ (h : ResponseHead) (rest : List ℕ) (is : IsResponseHead h) where
   count : length ls ≡ length (map end_text h.blank) + (1 + length h.fields) + 1
   count = let a = length-append (map end_text h.blank) (start_text h ∷ section_lines h.fields h.last) in let b = section_length h.fields h.last in omega (arith, a, b)
 
-  pub head_ends : (before : ℕ) → length h.fields ≤ line_limit → before + length (print_response h) ≤ head_limit
+  pub head_ends : (before : ℕ) → length h.fields ≤ most_header_lines → before + length (print_response h) ≤ most_head_bytes
       → head_part before (print_response h ++ rest) ≡ ends (length (print_response h))
   head_ends before few within =
       subst (λ (text : List ℕ). head_part before (text ++ rest) ≡ ends (length text)) (sym (head_sent h))
-      (ap (λ (n : ℕ). part_of (head_limit - before) (line_limit + 1) n (filled_lines (drop n all_lines)) bytes) blanks
-      ∙ ap (λ (n : ℕ). part_of (head_limit - before) (line_limit + 1) (length (map end_text h.blank)) n bytes) filled
-      ∙ part_ends (head_limit - before) (line_limit + 1) (length (map end_text h.blank)) (1 + length h.fields) ls rest texts count (omega (arith, few))
+      (ap (λ (n : ℕ). part_of (most_head_bytes - before) (most_header_lines + 1) n (filled_lines (drop n all_lines)) bytes) blanks
+      ∙ ap (λ (n : ℕ). part_of (most_head_bytes - before) (most_header_lines + 1) (length (map end_text h.blank)) n bytes) filled
+      ∙ part_ends (most_head_bytes - before) (most_header_lines + 1) (length (map end_text h.blank)) (1 + length h.fields) ls rest texts count (omega (arith, few))
       (let l = ap length (head_sent h) in omega (arith, l, within)))
 
 -- chunk lines
@@ -268,7 +269,7 @@ chunk_is_text l is =
     (text-append l.pad (print_extension l.extension ++ carriage_return ∷ []) (text-pass is_ows refl l.pad is.pad)
     (text-append (print_extension l.extension) (carriage_return ∷ []) (extension_is_text l.extension is.extension) refl))
 
-pub chunk_line_ends : (l : ChunkLine) (rest : List ℕ) → IsChunkLine l → length (print_chunk_line l) ≤ head_limit
+pub chunk_line_ends : (l : ChunkLine) (rest : List ℕ) → IsChunkLine l → length (print_chunk_line l) ≤ most_head_bytes
     → chunk_line_part (print_chunk_line l ++ rest) ≡ ends (length (print_chunk_line l))
 chunk_line_ends l rest is within =
     ap chunk_line_part (chunk_line_sent l rest) ∙ line_ends (chunk_text l) rest (chunk_is_text l is) (omega (arith, long, within)) ∙ ap ends (sym long)

@@ -1,7 +1,7 @@
 -- Each way in which a response ends early needs the connection's end.
 use Rattle.std.proofs.Common.{◌≡◌, ℕ, Bool, true, false, List, Option, Some, None, IsSomeAnd, IsTrue, if◌then◌else◌, nat_lt, refl, sym, ap, ◌∙◌, true≢false}
+use Rattle.tree_base.specs.Limits.{most_body_bytes}
 use Rattle.engine_types.specs.declared.WireEnd.{WireEnd}
-use Rattle.response_rules.specs.Lines.{body_limit}
 use Rattle.response_rules.specs.Heads.{Framing, to_end, sized, chunked, fault_by, framing_of, is_encoded}
 use Rattle.response_rules.specs.Chunks.{BreaksTrailer, cut, long, bad, BreaksChunk, line_cut, line_long, line_bad, body_long, bytes_cut, end_bad, trailer}
 use Rattle.response_rules.specs.Responses.{BreaksBody, Breaks, no_head, long_head, bad_head, bad_fields, bad_body}
@@ -21,7 +21,7 @@ no_fault at None encoded = refl
 no_fault at (Some to_end) true = refl
 no_fault at (Some to_end) false = refl
 no_fault at (Some (sized n)) true = refl
-no_fault at (Some (sized n)) false = past (nat_lt body_limit n)
+no_fault at (Some (sized n)) false = past (nat_lt most_body_bytes n)
   where
     past : (t : Bool) → is_other_fault (if t then Some WireEnd.TooLarge else None) ≡ true
     past true = refl

@@ -4,8 +4,8 @@ use Rattle.std.specs.Prelude.{All}
 use Rattle.std.specs.List.{list_all}
 use Rattle.std.proofs.lemmas.List.Elements.{All-cons, All-nil}
 use Rattle.std.proofs.lemmas.Bool.{and_parts}
+use Rattle.tree_base.specs.Limits.{most_head_bytes, most_header_lines}
 use Rattle.httparse.specs.Grammar.{Field, ResponseHead, IsResponseHead, print_response, crlf}
-use Rattle.response_rules.specs.Lines.{head_limit, line_limit}
 use Rattle.response_rules.specs.Responses.{print_heads, IsSkipped, Skips, BeginsWithHead}
 
 -- a head with three digits, a phrase and fields
@@ -30,8 +30,8 @@ skips_nothing read = record { each = All-nil IsSkipped; within = lit≤ tt; read
 
 -- bytes that begin with a head
 pub begins : (head : ResponseHead) (rest : List ℕ)
-    → IsResponseHead head → length head.fields ≤ line_limit
-    → length (print_heads []) + length (print_response head) ≤ head_limit
+    → IsResponseHead head → length head.fields ≤ most_header_lines
+    → length (print_heads []) + length (print_response head) ≤ most_head_bytes
     → BeginsWithHead (print_response head ++ rest) [] head rest
 begins head rest is few within = record { skips = skips_nothing _; is_head = is; few = few; within = within }
 

@@ -1,9 +1,10 @@
 -- Bodies in chunks: which are whole, and the ways in which one is broken (RFC 9112, section 7.1).
 use Rattle.std.specs.Prelude.{◌≡◌, ◌≢◌, ℕ, ◌+◌, ◌<◌, ◌≤◌, Bool, List, ◌++◌, length, take, drop, flat_map, All, IsTrue}
+use Rattle.tree_base.specs.Limits.{most_body_bytes, most_head_bytes, most_header_lines}
 use Rattle.httparse.specs.Ascii.{crlf_bytes}
 use Rattle.httparse.specs.Grammar.{ChunkLine, print_chunk_line, IsChunkLine, chunk_size, ReadsChunkLine, HasNoChunkLine, Field, LineEnd, print_section, ReadsSection, HasNoSection}
 use Rattle.engine_types.specs.declared.WireEnd.{WireEnd}
-use Rattle.response_rules.specs.Lines.{head_limit, line_limit, body_limit, ends, passed, unfinished, chunk_line_part, trailer_part}
+use Rattle.response_rules.specs.Lines.{ends, passed, unfinished, chunk_line_part, trailer_part}
 
 -- a chunk: its line, and its bytes
 pub record Chunk : Type 0 where
@@ -26,19 +27,19 @@ body_of chunks = flat_map (λ chunk. chunk.bytes) chunks
 -- bytes it has
 pub record IsChunk (chunk : Chunk) : Type 0 where
   pub line : IsChunkLine chunk.line
-  pub within : length (print_chunk_line chunk.line) ≤ head_limit
+  pub within : length (print_chunk_line chunk.line) ≤ most_head_bytes
   pub some : 0 < length chunk.bytes
   pub size : length chunk.bytes ≡ chunk_size chunk.line
 
 -- chunks before the last, within the limit of a body
 pub record AreChunks (chunks : List Chunk) : Type 0 where
   pub each : All IsChunk chunks
-  pub within : length (body_of chunks) ≤ body_limit
+  pub within : length (body_of chunks) ≤ most_body_bytes
 
 -- the bytes begin with a chunk line of the grammar within the limit, and then come the others
 pub record BeginsWithLine (bytes : List ℕ) (line : ChunkLine) (rest : List ℕ) : Type 0 where
   pub reads : ReadsChunkLine bytes line rest
-  pub within : length (print_chunk_line line) ≤ head_limit
+  pub within : length (print_chunk_line line) ≤ most_head_bytes
 
 -- the bytes begin with the lines after a last chunk, which are header lines within the limits, and
 -- an empty line
@@ -47,8 +48,8 @@ pub record BeginsWithTrailer (bytes : List ℕ) : Type 0 where
   pub last : LineEnd
   pub rest : List ℕ
   pub reads : ReadsSection bytes fields last rest
-  pub few : length fields ≤ line_limit
-  pub within : length (print_section fields last) ≤ head_limit
+  pub few : length fields ≤ most_header_lines
+  pub within : length (print_section fields last) ≤ most_head_bytes
 
 -- the bytes begin with a whole body in chunks: chunks, a last one of no bytes, and the lines behind
 -- it
@@ -93,17 +94,17 @@ pub data BreaksChunk : ℕ → ℕ → List ℕ → Bool → WireEnd → Type 0 
   -- with the bytes that the line says, the body passes its limit
   body_long : (at before : ℕ) (bytes rest : List ℕ) (ended : Bool) (line : ChunkLine)
       → BeginsWithLine bytes line rest
-      → body_limit < before + chunk_size line → BreaksChunk at before bytes ended WireEnd.TooLarge
+      → most_body_bytes < before + chunk_size line → BreaksChunk at before bytes ended WireEnd.TooLarge
   -- the connection ended within the bytes of the chunk, or within the CRLF behind them
   bytes_cut : (at before : ℕ) (bytes rest : List ℕ) (ended : Bool) (line : ChunkLine)
       → BeginsWithLine bytes line rest
-      → 0 < chunk_size line → before + chunk_size line ≤ body_limit
+      → 0 < chunk_size line → before + chunk_size line ≤ most_body_bytes
       → length rest < chunk_size line + 2 → IsTrue ended
       → BreaksChunk at before bytes ended WireEnd.Ended
   -- the two bytes behind those of the chunk aren't CRLF
   end_bad : (at before : ℕ) (bytes rest : List ℕ) (ended : Bool) (line : ChunkLine)
       → BeginsWithLine bytes line rest
-      → 0 < chunk_size line → before + chunk_size line ≤ body_limit
+      → 0 < chunk_size line → before + chunk_size line ≤ most_body_bytes
       → chunk_size line + 2 ≤ length rest
       → take 2 (drop (chunk_size line) rest) ≢ crlf_bytes
       → BreaksChunk at before bytes ended (WireEnd.Malformed at)

@@ -5,9 +5,9 @@ use Rattle.std.specs.List.{list_all, list_any}
 use Rattle.std.specs.Char.{is_ascii_digit}
 use Rattle.std.specs.Str.{str_eq_ignore_ascii_case}
 use Rattle.std.specs.Str.Parse.{digits_value}
+use Rattle.tree_base.specs.Limits.{most_body_bytes}
 use Rattle.httparse.specs.Grammar.{Field, field_value}
 use Rattle.engine_types.specs.declared.WireEnd.{WireEnd}
-use Rattle.response_rules.specs.Lines.{body_limit}
 
 -- the values of the fields with a name, in whatever case it is written (RFC 9110, section 5.1)
 abbrev pub values : List ℕ → List Field → List (List ℕ)
@@ -54,7 +54,7 @@ abbrev pub fault_by : ℕ → Option Framing → Bool → Option WireEnd
 fault_by at None encoded = Some (WireEnd.Malformed at)
 fault_by at (Some f) true = Some WireEnd.Encoded
 fault_by at (Some to_end) false = None
-fault_by at (Some (sized n)) false = if nat_lt body_limit n then Some WireEnd.TooLarge else None
+fault_by at (Some (sized n)) false = if nat_lt most_body_bytes n then Some WireEnd.TooLarge else None
 fault_by at (Some chunked) false = None
 
 -- the fault of a head with these fields, which begins at a place

@@ -3,20 +3,8 @@
 use Rattle.std.specs.Prelude.{ℕ, ◌+◌, ◌-◌, Bool, not, List, [], ◌∷◌, ◌++◌, length, take, drop, flat_map, if◌then◌else◌, nat_lt, nat_le, ◌==◌, ◌&&◌, ◌||◌}
 use Rattle.std.specs.List.{prefix_len}
 use Rattle.std.specs.Str.{bytes_eq}
+use Rattle.tree_base.specs.Limits.{most_head_bytes, most_header_lines}
 use Rattle.httparse.specs.Ascii.{line_feed, carriage_return}
-
--- the most bytes of a response's heads together, of one chunk line, and of the lines after the last
--- chunk
-abbrev pub head_limit : ℕ
-head_limit = 65536
-
--- the most header lines of one head, and the most lines after the last chunk
-abbrev pub line_limit : ℕ
-line_limit = 100
-
--- the most bytes of a body
-abbrev pub body_limit : ℕ
-body_limit = 16777216
 
 -- lines with a byte before the first
 abbrev pub with_byte : ℕ → List (List ℕ) → List (List ℕ)
@@ -71,12 +59,12 @@ part_of room most blank filled bytes =
 -- 9112, section 2.1)
 abbrev pub head_part : ℕ → List ℕ → Part
 head_part before bytes =
-    part_of (head_limit - before) (line_limit + 1) (blank_lines (whole_lines bytes))
+    part_of (most_head_bytes - before) (most_header_lines + 1) (blank_lines (whole_lines bytes))
     (filled_lines (drop (blank_lines (whole_lines bytes)) (whole_lines bytes))) bytes
 
 -- the lines after the last chunk: up to the first empty line (RFC 9112, section 7.1.2)
 abbrev pub trailer_part : List ℕ → Part
-trailer_part bytes = part_of head_limit line_limit 0 (filled_lines (whole_lines bytes)) bytes
+trailer_part bytes = part_of most_head_bytes most_header_lines 0 (filled_lines (whole_lines bytes)) bytes
 
 -- how many bytes stand before the first line feed
 abbrev pub before_line_feed : List ℕ → ℕ
@@ -85,6 +73,6 @@ before_line_feed bytes = prefix_len (λ b. not (b == line_feed)) bytes
 -- a chunk line: up to its first line feed (RFC 9112, section 7.1)
 abbrev pub chunk_line_part : List ℕ → Part
 chunk_line_part bytes =
-    if nat_lt (before_line_feed bytes) (length bytes) && nat_lt (before_line_feed bytes) head_limit
+    if nat_lt (before_line_feed bytes) (length bytes) && nat_lt (before_line_feed bytes) most_head_bytes
     then ends (before_line_feed bytes + 1)
-    else if nat_lt head_limit (length bytes) then passed else unfinished
+    else if nat_lt most_head_bytes (length bytes) then passed else unfinished

@@ -1,9 +1,10 @@
 -- The response that bytes begin with, and the ways in which they are none (RFC 9112, sections 4 to
 -- 7).
 use Rattle.std.specs.Prelude.{◌≡◌, ◌⊎◌, ℕ, ◌+◌, ◌<◌, ◌≤◌, Bool, List, [], ◌++◌, length, take, flat_map, All, Option, Some, None, IsSomeAnd, IsTrue, IsFalse}
+use Rattle.tree_base.specs.Limits.{most_body_bytes, most_head_bytes, most_header_lines}
 use Rattle.httparse.specs.Grammar.{ResponseHead, print_response, IsResponseHead, HasNoResponse, status_code}
 use Rattle.engine_types.specs.declared.WireEnd.{WireEnd}
-use Rattle.response_rules.specs.Lines.{head_limit, line_limit, body_limit, ends, passed, unfinished, head_part}
+use Rattle.response_rules.specs.Lines.{ends, passed, unfinished, head_part}
 use Rattle.response_rules.specs.Heads.{Framing, to_end, sized, chunked, framing_of, head_fault, is_interim, has_no_body}
 use Rattle.response_rules.specs.Chunks.{IsChunked, BreaksChunked}
 
@@ -16,13 +17,13 @@ print_heads heads = flat_map print_response heads
 pub record IsSkipped (head : ResponseHead) : Type 0 where
   pub is_head : IsResponseHead head
   pub interim : IsTrue (is_interim (status_code head))
-  pub few : length head.fields ≤ line_limit
+  pub few : length head.fields ≤ most_header_lines
   pub sound : head_fault 0 head.fields ≡ None
 
 -- the bytes begin with heads that are skipped, within the limit of heads, and then come the others
 pub record Skips (read : List ℕ) (skipped : List ResponseHead) (tail : List ℕ) : Type 0 where
   pub each : All IsSkipped skipped
-  pub within : length (print_heads skipped) ≤ head_limit
+  pub within : length (print_heads skipped) ≤ most_head_bytes
   pub reads : read ≡ print_heads skipped ++ tail
 
 -- the bytes begin with skipped heads and a head of the grammar, within the limits, and then come
@@ -32,20 +33,20 @@ pub record BeginsWithHead
     (rest : List ℕ) : Type 0 where
   pub skips : Skips read skipped (print_response head ++ rest)
   pub is_head : IsResponseHead head
-  pub few : length head.fields ≤ line_limit
-  pub within : length (print_heads skipped) + length (print_response head) ≤ head_limit
+  pub few : length head.fields ≤ most_header_lines
+  pub within : length (print_heads skipped) + length (print_response head) ≤ most_head_bytes
 
 -- a body of this framing is whole: to the end of the connection, so many bytes, or chunks (RFC
 -- 9112, section 6.3)
 abbrev pub HasBody : Framing → List ℕ → Bool → List ℕ → Type 0
-HasBody to_end bytes ended body = IsTrue ended × (length bytes ≤ body_limit) × (body ≡ bytes)
+HasBody to_end bytes ended body = IsTrue ended × (length bytes ≤ most_body_bytes) × (body ≡ bytes)
 HasBody (sized n) bytes ended body = (n ≤ length bytes) × (body ≡ take n bytes)
 HasBody chunked bytes ended body = IsChunked bytes body
 
 -- a body of this framing, which begins at a place, is broken: past the limit, ended early, or in
 -- its chunks
 abbrev pub BreaksBody : Framing → ℕ → List ℕ → Bool → WireEnd → Type 0
-BreaksBody to_end at bytes ended cause = (body_limit < length bytes) × (cause ≡ WireEnd.TooLarge)
+BreaksBody to_end at bytes ended cause = (most_body_bytes < length bytes) × (cause ≡ WireEnd.TooLarge)
 BreaksBody (sized n) at bytes ended cause =
     (length bytes < n) × IsTrue ended × (cause ≡ WireEnd.Ended)
 BreaksBody chunked at bytes ended cause = BreaksChunked at bytes ended cause

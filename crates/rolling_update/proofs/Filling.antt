@@ -6,6 +6,7 @@ use Rattle.std.specs.Option.{option_map_or}
 use Rattle.std.specs.Str.{bytes_eq}
 use Rattle.std.proofs.lemmas.Bool.{and_cases, and_from, and_parts, both_ways, eq-eqb, eqb-true, not-false, not-true, or_parts}
 use Rattle.std.proofs.lemmas.Slice.Eq.{bytes_eq-Decides}
+use Rattle.engine_types.specs.declared.Aim.{Aim}
 use Rattle.tree_base.specs.ByteOrder.{first_of_each}
 use Rattle.tree_base.specs.declared.Var.{Var}
 use Rattle.engine_types.specs.declared.ActionKind.{ActionKind}
@@ -26,7 +27,7 @@ use Rattle.run_model.specs.Labels.{is_of_slot}
 use Rattle.run_model.specs.Legal.{IsLegal}
 use Rattle.run_model.specs.Numbers.{places}
 use Rattle.run_model.specs.Observation.{is_up}
-use Rattle.run_model.specs.Plans.{Aim, HasPlan, IsWhole, is_kept, is_needed_by, is_start_of, is_wanted, kind_of, slot_at, start_of}
+use Rattle.run_model.specs.Plans.{HasPlan, IsWhole, is_kept, is_needed_by, is_start_of, is_wanted, kind_of, slot_at, start_of}
 use Rattle.run_model.specs.Requests.{OfAction, OfPoll, OfSeen, request_of, slot_id}
 use Rattle.run_model.specs.Runs.{IsWorldOfRun, Task, run_setup}
 use Rattle.run_model.specs.Told.{IsTold, answered, is_look}

@@ -16,7 +16,7 @@ use Rattle.engine_types.specs.declared.Slot.{Slot}
 use Rattle.run_model.specs.EngineRules.{is_of_project}
 use Rattle.run_model.specs.Labels.{is_of_slot, names_slot}
 use Rattle.run_model.specs.Numbers.{places}
-use Rattle.run_model.specs.Plans.{Basis, is_start_of, is_unstarted, kind_of, slot_at, up_basis}
+use Rattle.run_model.specs.Plans.{Basis, basis_of, is_start_of, is_unstarted, kind_of, slot_at, up_aim}
 use Rattle.run_model.specs.Rolling.{has_name_of_another, has_seen, is_crossed, is_same_slot, roll_of}
 use Rattle.run_model.proofs.DistinctLists.{among_places}
 use Rattle.run_model.proofs.KeptLaws.{any_from_list, any_of_list}
@@ -225,7 +225,7 @@ module _ (scene : Scene) (actions : List Action) where
       ∙ same_tests (list_any (starts_at actions s) (places actions)) (option_map_or (is_unstarted (rolling scene)) (slot_at scene.declared s) false) wanted started
     where
       up : Basis
-      up = up_basis scene.declared scene.seen plan.0
+      up = basis_of scene.declared scene.seen (up_aim plan.0)
 
       wanted : list_any (starts_at actions s) (places actions) ≡ true → option_map_or (is_unstarted (rolling scene)) (slot_at scene.declared s) false ≡ true
       wanted e =

@@ -17,7 +17,7 @@ use Rattle.engine_types.specs.declared.ActionKind.TheVariants.{MakeVolume, MakeN
 use Rattle.engine_types.specs.declared.DeclaredService.{DeclaredService}
 use Rattle.run_model.specs.EngineRules.{Among}
 use Rattle.run_model.specs.Numbers.{places}
-use Rattle.run_model.specs.Plans.{Basis, is_needed_by, needed_by, planned, planned_kinds, up_basis}
+use Rattle.run_model.specs.Plans.{Basis, basis_of, is_needed_by, needed_by, planned, planned_kinds, up_aim}
 use Rattle.run_model.specs.Rolling.{awaited_by, is_added, is_awaited, run_actions}
 use Rattle.run_model.proofs.DistinctLists.{among_filter, among_left, among_places, among_right, from_append, from_filter}
 use Rattle.run_model.proofs.KeptLaws.{any_of_list}
@@ -27,7 +27,7 @@ use Rattle.plan_core.proofs.Rising.{all_that_pass, among_contains, contains_amon
 use Rattle.rolling_update.specs.Needs.{AreAdded, Given, HasNeeds, Scene, awaiting, basis_of, is_added_at, kinds_in, needing, rolling}
 
 -- what is needed doesn't depend on whether orphans go
-needed_same : (scene : Scene) (orphans : Bool) (kind other : ActionKind) → is_needed_by (up_basis scene.declared scene.seen orphans) kind other ≡ is_needed_by (rolling scene) kind other
+needed_same : (scene : Scene) (orphans : Bool) (kind other : ActionKind) → is_needed_by (basis_of scene.declared scene.seen (up_aim orphans)) kind other ≡ is_needed_by (rolling scene) kind other
 needed_same scene orphans (StopContainer c) (RemoveContainer d) = refl
 needed_same scene orphans (RemoveContainer c) (StopContainer d) = refl
 needed_same scene orphans (CreateSlot s) (RemoveContainer c) = refl
@@ -43,15 +43,15 @@ needed_same scene orphans (RemoveNetwork n) (RemoveContainer c) = refl
 needed_same scene orphans (RemoveVolume v) (RemoveContainer c) = refl
 needed_same scene orphans _ _ = refl
 
-added_same : (scene : Scene) (orphans : Bool) (kind other : ActionKind) → is_added (up_basis scene.declared scene.seen orphans) kind other ≡ is_added (rolling scene) kind other
+added_same : (scene : Scene) (orphans : Bool) (kind other : ActionKind) → is_added (basis_of scene.declared scene.seen (up_aim orphans)) kind other ≡ is_added (rolling scene) kind other
 added_same scene orphans (StopContainer c) (StartSlot t) = refl
 added_same scene orphans (StopKept s) (StartSlot t) = refl
 added_same scene orphans (StartSlot s) (StopContainer c) = refl
 added_same scene orphans _ _ = refl
 
-awaited_same : (scene : Scene) (orphans : Bool) (kind other : ActionKind) → is_awaited (up_basis scene.declared scene.seen orphans) kind other ≡ is_awaited (rolling scene) kind other
+awaited_same : (scene : Scene) (orphans : Bool) (kind other : ActionKind) → is_awaited (basis_of scene.declared scene.seen (up_aim orphans)) kind other ≡ is_awaited (rolling scene) kind other
 awaited_same scene orphans kind other =
-    ap (λ (b : Bool). b || is_added (up_basis scene.declared scene.seen orphans) kind other) (needed_same scene orphans kind other)
+    ap (λ (b : Bool). b || is_added (basis_of scene.declared scene.seen (up_aim orphans)) kind other) (needed_same scene orphans kind other)
     ∙ ap (λ (b : Bool). is_needed_by (rolling scene) kind other || b) (added_same scene orphans kind other)
 
 same_filter : {X : Type 0} (p q : X → Bool) (xs : List X) → ((x : X) → p x ≡ q x) → filter p xs ≡ filter q xs
@@ -71,9 +71,9 @@ same_at : (test other : ActionKind → Bool) (o : Option ActionKind) → ((k : A
 same_at test other None e = refl
 same_at test other (Some k) e = e k
 
-module _ (given : Given) (orphans : Bool) (is : given.actions ≡ planned (up_basis given.scene.declared given.scene.seen orphans)) where
+module _ (given : Given) (orphans : Bool) (is : given.actions ≡ planned (basis_of given.scene.declared given.scene.seen (up_aim orphans))) where
   abbrev up : Basis
-  up = up_basis given.scene.declared given.scene.seen orphans
+  up = basis_of given.scene.declared given.scene.seen (up_aim orphans)
 
   abbrev kinds : List ActionKind
   kinds = planned_kinds up

@@ -14,13 +14,13 @@ use Rattle.plan_core.specs.Keeping.{is_slots_at}
 use Rattle.run_model.specs.EngineRules.{Among}
 use Rattle.run_model.specs.Labels.{is_of_slot}
 use Rattle.run_model.specs.Numbers.{places}
-use Rattle.run_model.specs.Plans.{Basis, is_start_of, kind_of, needed_by, planned, slot_at, up_basis}
+use Rattle.run_model.specs.Plans.{Basis, basis_of, is_start_of, kind_of, needed_by, planned, slot_at, up_aim}
 use Rattle.run_model.specs.Rolling.{awaited_by, has_name_of_another, has_seen, is_added, is_rolled, is_same_slot}
 
 -- a plan of `up` for what was seen
 abbrev pub IsUpPlan : Declared → Seen → List Action → Type 0
 IsUpPlan declared seen actions =
-    (orphans : Bool) × (actions ≡ planned (up_basis declared seen orphans))
+    (orphans : Bool) × (actions ≡ planned (basis_of declared seen (up_aim orphans)))
 
 -- the kinds of actions
 abbrev pub kinds_in : List Action → List ActionKind
@@ -37,7 +37,7 @@ pub record Scene : Type 0 where
 
 -- what a rolling update is of; it doesn't depend on whether orphans go
 abbrev pub rolling : Scene → Basis
-rolling scene = up_basis scene.declared scene.seen false
+rolling scene = basis_of scene.declared scene.seen (up_aim false)
 
 -- what needs are added to: what is declared, what was seen, and the actions
 pub record Given : Type 0 where

@@ -5,7 +5,7 @@ ghost use Rattle.std.specs.List.{list_any};
 ghost use Rattle.std.specs.List.Sorted.{IsStrictlyIncreasing};
 ghost use Rattle.rolling_update.specs.Needs.{HasNeeds, IsUpPlan, awaiting, basis_of, kinds_in};
 ghost use Rattle.run_model.specs.EngineRules.{Among};
-ghost use Rattle.run_model.specs.Plans.{IsWhole, needed_by, planned, up_basis};
+ghost use Rattle.run_model.specs.Plans.{IsWhole, basis_of, needed_by, planned, up_aim};
 ghost use Rattle.run_model.specs.Rolling.{awaited_by, run_actions};
 
 use crate::finder::Finder;
@@ -24,9 +24,9 @@ pub fn roll(alloc: Global, declared: &Declared, seen: &Seen, plan: Plan) -> Resu
     requires whole { IsWhole declared.now }
     requires planned { IsUpPlan declared.now seen.now plan.actions }
     ensures rolled { (orphans : Bool)
-        → plan.actions ≡ planned (up_basis declared.now seen.now orphans)
+        → plan.actions ≡ planned (basis_of declared.now seen.now (up_aim orphans))
         → IfOk result (λ rolled. rolled.actions
-        ≡ run_actions (up_basis declared.now seen.now orphans)) }
+        ≡ run_actions (basis_of declared.now seen.now (up_aim orphans))) }
     ensures kept { IfOk result (λ rolled. rolled.kept ≡ plan.kept) }
 {
     if !any_rolls(declared.services.as_slice()) {
@@ -57,8 +57,10 @@ fn rolled_actions(
 ) -> Result<List<Action>, Memory>
     requires whole { IsWhole declared.now }
     requires planned { IsUpPlan declared.now seen.now actions.now }
-    ensures { (orphans : Bool) → actions.now ≡ planned (up_basis declared.now seen.now orphans)
-        → IfOk result (λ all. all ≡ run_actions (up_basis declared.now seen.now orphans)) }
+    ensures { (orphans : Bool)
+        → actions.now ≡ planned (basis_of declared.now seen.now (up_aim orphans))
+        → IfOk result (λ all. all
+        ≡ run_actions (basis_of declared.now seen.now (up_aim orphans))) }
 {
     let texts = Texts::new(alloc, declared, seen, actions)?;
     let finder = Finder::new(alloc, declared, seen, actions, &texts)?;

@@ -3,12 +3,13 @@
 use Rattle.std.proofs.Common.{◌≡◌, ℕ, ◌<◌, Bool, true, false, ◌==◌, List, [], ◌∷◌, Option, Some, None, if◌then◌else◌, refl, sym, ap, ◌∙◌, subst}
 use Rattle.std.proofs.lemmas.Bool.{eq-eqb, eqb-true, true≢false}
 use Rattle.engine_types.specs.declared.ActionKind.{ActionKind}
+use Rattle.engine_types.specs.declared.Aim.{Aim}
 use Rattle.engine_types.specs.declared.Entry.{Entry}
 use Rattle.engine_types.specs.declared.LateWhy.{LateWhy}
 use Rattle.engine_types.specs.declared.Outcome.{Outcome}
 use Rattle.run_model.specs.Journals.{Badly, Nothing, Out, Setup, Watch, Well, Work, ended_as, has_left, holding, is_good, is_open, is_work_on, standing}
 use Rattle.run_model.specs.Legal.{IsLegal}
-use Rattle.run_model.specs.Plans.{Aim, kind_of}
+use Rattle.run_model.specs.Plans.{kind_of}
 
 -- whoever holds a permit is a worker of the run
 pub open_below : (aim : Aim) (setup : Setup) (past : List Entry) (w : ℕ) → IsLegal aim setup past → is_open (holding past w) ≡ true → w < setup.limits.workers

@@ -2,6 +2,7 @@
 use Rattle.std.proofs.Common.{◌≡◌, ◌⊎◌, ℕ, ◌<◌, ◌≤◌, Bool, true, false, ◌||◌, List, [], ◌∷◌, length, refl, sym, ap, ◌∙◌, subst, inl, inr, arith}
 use Rattle.std.proofs.lemmas.Bool.{eq-eqb, true≢false}
 use Rattle.std.specs.List.{list_all, list_any}
+use Rattle.engine_types.specs.declared.Aim.{Aim}
 use Rattle.engine_types.specs.declared.Entry.{Entry}
 use Rattle.engine_types.specs.declared.LateWhy.{LateWhy}
 use Rattle.run_model.specs.Conditions.{is_blocked}
@@ -9,7 +10,7 @@ use Rattle.run_model.specs.Ending.{EveryWorkerLeft, IsRunOver, is_goal_over, is_
 use Rattle.run_model.specs.Journals.{Setup, has_left, is_badly, is_ending, is_open, is_well, standing}
 use Rattle.run_model.specs.Legal.{IsLegal, workers}
 use Rattle.run_model.specs.Numbers.{places}
-use Rattle.run_model.specs.Plans.{Aim, IsOrderly, IsWhole}
+use Rattle.run_model.specs.Plans.{IsOrderly, IsWhole}
 use Rattle.run_model.proofs.DistinctLists.{among_numbers, from_numbers}
 use Rattle.run_model.proofs.KeptLaws.{any_of_list}
 use Rattle.ledger_rows.specs.Facts.{facts_of}

@@ -5,6 +5,7 @@ use Rattle.std.specs.List.{list_all, list_any}
 use Rattle.std.specs.Option.{option_map_or}
 use Rattle.engine_types.specs.declared.ActionKind.{ActionKind}
 use Rattle.engine_types.specs.declared.ActionKind.TheVariants.{StartSlot}
+use Rattle.engine_types.specs.declared.Aim.{Aim}
 use Rattle.engine_types.specs.declared.Condition.{Condition}
 use Rattle.engine_types.specs.declared.Declared.{Declared}
 use Rattle.engine_types.specs.declared.Entry.{Entry}
@@ -16,7 +17,7 @@ use Rattle.run_model.specs.EngineRules.{Among}
 use Rattle.run_model.specs.Journals.{Badly, Free, Nothing, Out, Setup, Standing, Well, Work, is_badly, is_free, is_well, standing}
 use Rattle.run_model.specs.Legal.{IsLegal}
 use Rattle.run_model.specs.Numbers.{places}
-use Rattle.run_model.specs.Plans.{Aim, IsOrderly, IsWhole, is_running, is_start_of, kind_of, needs_of, slot_at, slot_needs, start_of}
+use Rattle.run_model.specs.Plans.{IsOrderly, IsWhole, is_running, is_start_of, kind_of, needs_of, slot_at, slot_needs, start_of}
 use Rattle.run_model.proofs.DistinctLists.{among_numbers, from_numbers, from_place}
 use Rattle.run_model.proofs.KeptLaws.{any_of_list}
 use Rattle.ledger_rows.proofs.Fixed.{are_blocked}

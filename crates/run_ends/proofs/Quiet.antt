@@ -2,11 +2,12 @@
 use Rattle.std.proofs.Common.{◌≡◌, ◌⊎◌, ℕ, ◌+◌, ◌<◌, Bool, true, false, not, ◌&&◌, ◌==◌, List, length, Option, Some, None, refl, sym, ap, ◌∙◌, subst, inl, inr, arith}
 use Rattle.std.proofs.lemmas.Bool.{cases_eq, ne_eqb, true≢false}
 use Rattle.std.specs.Prelude.{nat_le}
+use Rattle.tree_base.specs.Limits.{most_entries}
 use Rattle.engine_types.specs.declared.Entry.{Entry}
 use Rattle.run_model.specs.Conditions.{is_allowed, is_watched}
 use Rattle.run_model.specs.EngineRules.{Among}
 use Rattle.run_model.specs.Journals.{Holding, Nothing, Setup, Watch, Work, holding, is_ending, is_open, is_watch_of, polls}
-use Rattle.run_model.specs.Legal.{Go, IsReady, answer_to, decision, entries_limit, has_fewest_polls, is_looked_at, is_other_out, may_poll, next_action, next_poll, workers}
+use Rattle.run_model.specs.Legal.{Go, IsReady, answer_to, decision, has_fewest_polls, is_looked_at, is_other_out, may_poll, next_action, next_poll, workers}
 use Rattle.run_model.specs.Numbers.{places}
 use Rattle.run_model.proofs.DistinctLists.{among_numbers, from_numbers}
 use Rattle.run_model.proofs.KeptLaws.{any_from_list}
@@ -43,7 +44,7 @@ place_of xs i l = among_numbers 0 (length xs) i (omega arith) (omega (arith, l))
 
 module _ (setup : Setup) (past : List Entry) (w : ℕ) (ready : IsReady setup past w) (go : decision setup past w ≡ Go) (going : is_ending past ≡ false) where
   told : IsToGo (next_action setup past) (next_poll setup past) (is_other_out setup past w)
-  told = answers_go (nat_le entries_limit (length past)) (is_ending past) (next_action setup past) (next_poll setup past) (is_other_out setup past w) go going
+  told = answers_go (nat_le most_entries (length past)) (is_ending past) (next_action setup past) (next_poll setup past) (is_other_out setup past w) go going
 
   none_out : (v : ℕ) → v < setup.limits.workers → holding past v ≡ Nothing
   none_out v l = at (cases_eq v w)

@@ -1,12 +1,13 @@
 -- When a run is over that its workers left.
 use Rattle.std.specs.Prelude.{◌≡◌, ◌≤◌, ℕ, true, false, List, ◌∷◌}
 use Rattle.std.specs.List.{list_all}
+use Rattle.engine_types.specs.declared.Aim.{Aim}
 use Rattle.engine_types.specs.declared.Entry.{Entry}
 use Rattle.run_model.specs.Ending.{EveryWorkerLeft, IsRunOver, is_goal_over, is_over}
 use Rattle.run_model.specs.Journals.{Setup, is_ending}
 use Rattle.run_model.specs.Legal.{IsLegal}
 use Rattle.run_model.specs.Numbers.{places}
-use Rattle.run_model.specs.Plans.{Aim, IsOrderly, IsWhole}
+use Rattle.run_model.specs.Plans.{IsOrderly, IsWhole}
 
 -- all that there was to do is over: every action ended or is blocked, and every goal is met or failed, or can't be judged
 pub record IsAllOver (setup : Setup) (past : List Entry) : Type 0 where

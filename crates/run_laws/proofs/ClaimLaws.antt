@@ -2,10 +2,11 @@
 use Rattle.std.proofs.Common.{◌≡◌, ℕ, ◌+◌, ◌≤◌, Bool, true, false, List, [], ◌∷◌, refl, arith}
 use Rattle.std.proofs.lemmas.Bool.{both_ways, eqb-true}
 use Rattle.std.specs.Prelude.{if◌then◌else◌, ◌==◌}
+use Rattle.engine_types.specs.declared.Aim.{Aim}
 use Rattle.engine_types.specs.declared.Entry.{Entry}
 use Rattle.run_model.specs.Journals.{Out, Setup, claims, ended_as, holding, is_free, is_work_on, standing}
 use Rattle.run_model.specs.Legal.{IsLegal}
-use Rattle.run_model.specs.Plans.{Aim, kind_of}
+use Rattle.run_model.specs.Plans.{kind_of}
 use Rattle.run_model.proofs.LegalLaws.{claim_allowed, ended_not_free}
 use Rattle.run_model.proofs.PlanLaws.{both}
 

@@ -17,7 +17,7 @@ use Rattle.engine_types.specs.declared.Slot.{Slot}
 use Rattle.run_model.specs.EngineRules.{Among, is_live}
 use Rattle.run_model.specs.Labels.{is_of_slot}
 use Rattle.run_model.specs.Numbers.{places}
-use Rattle.run_model.specs.Plans.{Basis, IsOrderly, IsWhole, asks_restart, down_basis, is_in_way, is_needed_by, is_updated, is_wanted, restarts_for, slot_at, slot_needs, up_basis}
+use Rattle.run_model.specs.Plans.{Basis, IsOrderly, IsWhole, asks_restart, basis_of, down_aim, is_in_way, is_needed_by, is_updated, is_wanted, restarts_for, slot_at, slot_needs, up_aim}
 use Rattle.run_model.specs.Rolling.{is_added, is_awaited, is_held_back, is_rolled, roll_of, run_actions, waits_for}
 use Rattle.run_model.proofs.DistinctLists.{among_places, at_place, from_place}
 use Rattle.run_model.proofs.PlanLaws.{some_from}
@@ -70,7 +70,7 @@ stop_of a b k x y e f g h = omega (arith, e, f, g, h)
 module _ (declared : Declared) (seen : Seen) (orphans : Bool) (whole : IsWhole declared) (small : HasSmallNumbers declared)
     (cycle : HasNoCycle declared) (follows : NeedsDependencies declared) where
   abbrev up : Basis
-  up = up_basis declared seen orphans
+  up = basis_of declared seen (up_aim orphans)
 
   abbrev number_at : ℕ → ℕ
   number_at s = option_map_or (λ (slot : Slot). slot.number) (slot_at declared s) 0
@@ -250,7 +250,7 @@ module _ (declared : Declared) (seen : Seen) (orphans : Bool) (whole : IsWhole d
 
 module _ (declared : Declared) (seen : Seen) (orphans volumes : Bool) (cycle : HasNoCycle declared) where
   abbrev down : Basis
-  down = down_basis declared seen orphans volumes
+  down = basis_of declared seen (down_aim orphans volumes)
 
   pub orderly_down : IsOrderly declared (run_actions down)
   orderly_down = orderly down (is_awaited down) (rank_down declared seen orphans volumes cycle) (record { needs = needs; starts = λ s need wanted m. absurd (cc wanted) })

@@ -3,6 +3,7 @@ use Rattle.std.proofs.Common.{◌≡◌, ℕ, Bool, true, false, List, [], ◌�
 use Rattle.std.proofs.lemmas.Bool.{both_ways}
 use Rattle.engine_types.specs.declared.ActionKind.{ActionKind}
 use Rattle.engine_types.specs.declared.ActionKind.TheVariants.{CreateSlot, RemoveContainer, StopContainer, StopKept}
+use Rattle.engine_types.specs.declared.Aim.{Aim}
 use Rattle.engine_types.specs.declared.Engine.{Engine}
 use Rattle.engine_types.specs.declared.Entry.{Entry}
 use Rattle.engine_types.specs.declared.Listed.{Listed}
@@ -13,7 +14,7 @@ use Rattle.run_model.specs.EngineRules.{Among}
 use Rattle.run_model.specs.Journals.{Setup}
 use Rattle.run_model.specs.Legal.{IsLegal}
 use Rattle.run_model.specs.Observation.{is_up}
-use Rattle.run_model.specs.Plans.{Aim, Basis, HasPlan, HasServices, LeavesKept, is_kept, is_restarted, is_wanted, kept, kept_of, kind_of, slot_at}
+use Rattle.run_model.specs.Plans.{Basis, HasPlan, HasServices, LeavesKept, is_kept, is_restarted, is_wanted, kept, kept_of, kind_of, slot_at}
 use Rattle.run_model.specs.Requests.{OfAction, OfPoll, OfSeen, Source, asked, request_of}
 use Rattle.run_model.specs.Worlds.{Changed, Did, Effect, MayAct, Move, Took, World, entries_of, is_unsure, outcome_of, seen_effects}
 use Rattle.run_model.proofs.KeptLaws.{leaves_kept}

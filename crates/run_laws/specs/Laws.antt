@@ -2,6 +2,7 @@
 use Rattle.std.specs.Prelude.{◌≡◌, ◌↔◌, ◌∷◌, ◌++◌, ◌≤◌, ℕ, List, None, Some, map, true}
 use Rattle.std.specs.List.{IsDistinct}
 use Rattle.std.specs.Str.{bytes_eq}
+use Rattle.engine_types.specs.declared.Aim.{Aim}
 use Rattle.engine_types.specs.declared.Declared.{Declared}
 use Rattle.engine_types.specs.declared.DeclaredService.{DeclaredService}
 use Rattle.engine_types.specs.declared.Engine.{Engine}
@@ -19,7 +20,7 @@ use Rattle.run_model.specs.Journals.{Setup, claims}
 use Rattle.run_model.specs.Legal.{IsLegal, IsReady}
 use Rattle.run_model.specs.Observation.{Asks, Ends, is_asked, is_request, is_up, observed}
 use Rattle.run_model.specs.Logs.{asker}
-use Rattle.run_model.specs.Plans.{Aim, Basis, HasPlan, HasServices, IsPlanOf, LeavesKept, planned}
+use Rattle.run_model.specs.Plans.{Basis, HasPlan, HasServices, IsPlanOf, LeavesKept, planned}
 use Rattle.run_model.specs.Rolling.{run_actions}
 use Rattle.run_model.specs.Told.{IsTold}
 

@@ -1,5 +1,6 @@
 -- One service, `web` with the image `nginx:1.25` and no network, and runs of it.
 use Rattle.std.specs.Prelude.{ℕ, false, List, [], ◌∷◌, Some, None, codes}
+use Rattle.engine_types.specs.declared.Aim.{Aim}
 use Rattle.tree_base.specs.declared.Var.{Var}
 use Rattle.engine_types.specs.Labels as the
 use Rattle.engine_types.specs.Specs.{empty_spec}
@@ -18,7 +19,6 @@ use Rattle.engine_types.specs.declared.RunLimits.{RunLimits}
 use Rattle.engine_types.specs.declared.SeenEnd.{SeenEnd}
 use Rattle.engine_types.specs.declared.SeenFault.{SeenFault}
 use Rattle.engine_types.specs.declared.Slot.{Slot}
-use Rattle.run_model.specs.Plans.{Aim}
 use Rattle.run_model.specs.Runs.{Task}
 use Rattle.run_model.specs.Told.{answered}
 

@@ -7,7 +7,7 @@ use Rattle.engine_types.specs.declared.Seen.{Seen}
 use Rattle.engine_types.specs.declared.Slot.{Slot}
 use Rattle.plan_core.specs.Order.{HasNoCycle}
 use Rattle.run_model.specs.EngineRules.{Among}
-use Rattle.run_model.specs.Plans.{IsOrderly, IsWhole, down_basis, slot_at, up_basis}
+use Rattle.run_model.specs.Plans.{IsOrderly, IsWhole, basis_of, down_aim, slot_at, up_aim}
 use Rattle.run_model.specs.Rolling.{run_actions}
 
 -- a service by which a slot may need another one: it is the slot's, and depends on the other's
@@ -33,5 +33,5 @@ abbrev pub RunsAreOrderly : Type 0
 RunsAreOrderly =
     (declared : Declared) (seen : Seen) (orphans volumes : Bool) → IsWhole declared
     → HasSmallNumbers declared → HasNoCycle declared → NeedsDependencies declared
-    → IsOrderly declared (run_actions (up_basis declared seen orphans))
-    × IsOrderly declared (run_actions (down_basis declared seen orphans volumes))
+    → IsOrderly declared (run_actions (basis_of declared seen (up_aim orphans)))
+    × IsOrderly declared (run_actions (basis_of declared seen (down_aim orphans volumes)))

@@ -4,6 +4,7 @@ use Rattle.std.specs.List.{list_any}
 use Rattle.std.specs.Option.{option_map_or}
 use Rattle.std.specs.Str.{bytes_eq}
 use Rattle.engine_types.specs.declared.ActionKind.TheVariants.{CreateSlot, StopContainer, StopKept}
+use Rattle.engine_types.specs.declared.Aim.{Aim}
 use Rattle.engine_types.specs.declared.Declared.{Declared}
 use Rattle.engine_types.specs.declared.Engine.{Engine}
 use Rattle.engine_types.specs.declared.Listed.{Listed}
@@ -12,7 +13,7 @@ use Rattle.engine_types.specs.declared.Slot.{Slot}
 use Rattle.run_model.specs.Cuts.{IsRan, Ran, Runs}
 use Rattle.run_model.specs.EngineRules.{Among}
 use Rattle.run_model.specs.Journals.{Setup}
-use Rattle.run_model.specs.Plans.{Aim, HasServices, is_removed, is_restarted, kept, kept_of, kind_of, slot_at}
+use Rattle.run_model.specs.Plans.{HasServices, is_removed, is_restarted, kept, kept_of, kind_of, slot_at}
 use Rattle.run_model.specs.Requests.{OfAction, Source}
 use Rattle.run_model.specs.Worlds.{Move, Took}
 

@@ -17,7 +17,7 @@ use Rattle.engine_types.specs.declared.Seen.{Seen}
 use Rattle.engine_types.specs.declared.SeenEnd.{SeenEnd}
 use Rattle.engine_types.specs.declared.Slot.{Slot}
 use Rattle.run_laws.specs.OneService.{labels_of, service_of}
-use Rattle.run_model.specs.Plans.{Basis, down_basis, up_basis}
+use Rattle.run_model.specs.Plans.{Basis, basis_of, down_aim, up_aim}
 use Rattle.run_laws.specs.ThreeServices as three
 use Rattle.run_model.specs.Told.{answered}
 use Rattle.run_laws.specs.TwoNetworks.{acts}
@@ -119,7 +119,7 @@ seen_three = record {
 
 -- what the run is made from that replaces so many at a time
 abbrev pub rolls : Option ℕ → Basis
-rolls roll = up_basis (rolling roll) seen_three false
+rolls roll = basis_of (rolling roll) seen_three (up_aim false)
 
 -- the actions that replace all three; these are the needs of the second and the third stop, and of the starts
 abbrev pub replacing : List ℕ → List ℕ → List ℕ → List ℕ → List ℕ → List Action
@@ -156,7 +156,7 @@ down_plan =
 
 -- what `down` is planned from
 abbrev pub downs : Basis
-downs = down_basis scaled_down both_there false false
+downs = basis_of scaled_down both_there (down_aim false false)
 
 -- a slot whose two hashes differ
 abbrev pub rehashed : Slot

@@ -21,7 +21,7 @@ ghost use Rattle.run_laws.specs.TwoWorkers.{take_turns};
 ghost use Rattle.run_laws.specs.Updates as updates;
 ghost use Rattle.run_laws.specs.TwoWorlds as worlds;
 ghost use Rattle.run_model.specs.Observation.{Asks, Ends, Strays, observed};
-ghost use Rattle.run_model.specs.Plans.{down_basis, planned, up_basis};
+ghost use Rattle.run_model.specs.Plans.{basis_of, down_aim, planned, up_aim};
 ghost use Rattle.run_model.specs.Exact.{IsExact};
 ghost use Rattle.run_model.specs.Rolling.{run_actions};
 ghost use Rattle.run_model.specs.Cuts.{Runs, creates, creates_over};
@@ -75,21 +75,21 @@ pub fn one_service_is_exact()
 /// The plans of a service on two networks: on a fresh Engine, where its container was made on the first network
 /// alone, where that container runs, where its image is another one by now, and of `down`.
 pub fn plans_of_two_networks()
-    ensures fresh { planned (up_basis two.shop (two.seeing [] [] (codes "sha")) false) ≡
+    ensures fresh { planned (basis_of two.shop (two.seeing [] [] (codes "sha")) (up_aim false)) ≡
         two.fresh_plan }
-    ensures created { planned (up_basis two.shop
+    ensures created { planned (basis_of two.shop
         (two.seeing (two.listed ContainerState.Created (codes "shop_a" ∷ []) ∷ []) two.both
-        (codes "sha")) false) ≡ two.created_plan }
-    ensures running { planned (up_basis two.shop
+        (codes "sha")) (up_aim false)) ≡ two.created_plan }
+    ensures running { planned (basis_of two.shop
         (two.seeing (two.listed ContainerState.Running (codes "shop_a" ∷ []) ∷ []) two.both
-        (codes "sha")) false)
+        (codes "sha")) (up_aim false))
         ≡ two.acts (ActionKind.ConnectSlot 0 1) [] ∷ [] }
-    ensures image { planned (up_basis two.shop
+    ensures image { planned (basis_of two.shop
         (two.seeing (two.listed ContainerState.Running (codes "shop_a" ∷ []) ∷ []) two.both
-        (codes "other")) false) ≡ two.image_plan }
-    ensures down { planned (down_basis two.shop
+        (codes "other")) (up_aim false)) ≡ two.image_plan }
+    ensures down { planned (basis_of two.shop
         (two.seeing (two.listed ContainerState.Running (codes "shop_a" ∷ []) ∷ []) two.both
-        (codes "sha")) false true) ≡ two.down_plan }
+        (codes "sha")) (down_aim false true)) ≡ two.down_plan }
 {}
 
 /// A create that is lost isn't sent again; the next run finds the container, connects and starts it.
@@ -180,8 +180,7 @@ pub fn second_run_and_down()
 /// memory.
 pub fn runs_end_early()
     ensures limits { (waiting checked).limits ≡
-        limits_of
-        (record { workers = 1; wait = true; wait_seconds = Some 1; stop_seconds = None }) 0 }
+        limits_of 1 (record { wait = true; wait_seconds = Some 1; stop_seconds = None }) 0 }
     ensures late { IsRun (waiting checked) runs_late }
     ensures late_status { run_status (waiting checked) runs_late ≡ 6 }
     ensures late_fault { option_map fault_text (run_fault (waiting checked) runs_late) ≡

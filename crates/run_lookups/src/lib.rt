@@ -1,6 +1,6 @@
 //! Questions to what a run sees, each answered here and nowhere else: whose a container is, by its labels; whether it
-//! agrees with what is declared; which container a slot keeps, and how it is stopped; whether a container is on a
-//! network, and whether it is to go; what a state and a reply mean.
+//! agrees with what is declared; which container a slot keeps; whether a container is on a
+//! network, and whether it is to go; what a state and a reply mean, and which exit status a fault gives.
 //!
 //! Contracts say that each answer is the defined one, for any labels and anything seen.
 #![tactic(auto)]
@@ -12,8 +12,8 @@ mod names;
 mod networks;
 mod removal;
 mod replies;
-mod requests;
 mod states;
+mod statuses;
 
 pub use agreement::agrees;
 pub use kept::{agrees_seen, kept_of};
@@ -23,6 +23,6 @@ pub use labels::{
 pub use names::network_name;
 pub use networks::has_joined;
 pub use removal::goes;
-pub use replies::is_good;
-pub use requests::stop_kept;
+pub use replies::{is_good, is_well};
 pub use states::is_live;
+pub use statuses::{outcome_status, seen_status};

@@ -1,15 +1,16 @@
 -- What the decision on an ask says, and how an action stands that ended.
 use Rattle.std.proofs.Common.{◌≡◌, ℕ, Bool, true, false, cond, List, [], ◌∷◌, Option, Some, None, length, refl}
 use Rattle.std.specs.Prelude.{find, if◌then◌else◌, nat_le}
+use Rattle.engine_types.specs.declared.Aim.{Aim}
+use Rattle.tree_base.specs.Limits.{most_entries}
 use Rattle.engine_types.specs.declared.ActionKind.{ActionKind}
 use Rattle.engine_types.specs.declared.Entry.{Entry}
 use Rattle.engine_types.specs.declared.LateWhy.{LateWhy}
 use Rattle.engine_types.specs.declared.Outcome.{Outcome}
 use Rattle.run_model.specs.Conditions.{is_allowed}
 use Rattle.run_model.specs.Journals.{Badly, Setup, Well, ended_as, is_ending, is_free, is_good}
-use Rattle.run_model.specs.Legal.{Decision, Full, Go, IsLegal, IsReady, Look, Pause, Take, answer_to, decision, entries_limit, is_other_out, next_action, next_poll}
+use Rattle.run_model.specs.Legal.{Decision, Full, Go, IsLegal, IsReady, Look, Pause, Take, answer_to, decision, is_other_out, next_action, next_poll}
 use Rattle.run_model.specs.Logs.{asker}
-use Rattle.run_model.specs.Plans.{Aim}
 use Rattle.run_model.specs.Numbers.{places}
 
 -- what is found passes the test
@@ -32,7 +33,7 @@ answers_take false false None None false a e = absurd (cc e)
 
 -- a worker that is given an action is given the next one
 pub decision_take : (setup : Setup) (past : List Entry) (w a : ℕ) → decision setup past w ≡ Take a → next_action setup past ≡ Some a
-decision_take setup past w a e = answers_take (nat_le entries_limit (length past)) (is_ending past) (next_action setup past) (next_poll setup past) (is_other_out setup past w) a e
+decision_take setup past w a e = answers_take (nat_le most_entries (length past)) (is_ending past) (next_action setup past) (next_poll setup past) (is_other_out setup past w) a e
 
 -- an action that is claimed was allowed
 pub claim_allowed : (aim : Aim) (setup : Setup) (past : List Entry) (w a : ℕ) → IsLegal aim setup (Entry.Claim w a ∷ past) → is_allowed setup past a ≡ true

@@ -1,5 +1,6 @@
 -- Runs of `up` one after another, each of which may have been cut off anywhere.
 use Rattle.std.specs.Prelude.{◌≡◌, ℕ, ◌+◌, Bool, true, false, if◌then◌else◌, List, [], ◌∷◌, reverse}
+use Rattle.engine_types.specs.declared.Aim.{Aim}
 use Rattle.engine_types.specs.declared.Declared.{Declared}
 use Rattle.engine_types.specs.declared.Engine.{Engine}
 use Rattle.engine_types.specs.declared.Entry.{Entry}
@@ -12,7 +13,6 @@ use Rattle.run_model.specs.Journals.{Setup}
 use Rattle.run_model.specs.Labels.{is_of_slot}
 use Rattle.run_model.specs.Legal.{IsLegal}
 use Rattle.run_model.specs.Observation.{is_asked, is_up, observed}
-use Rattle.run_model.specs.Plans.{Aim}
 use Rattle.run_model.specs.Rolling.{run_actions}
 use Rattle.run_model.specs.Told.{answered}
 use Rattle.run_model.specs.Worlds.{FitsSeen, Move, Took, World, entries_of, seen_effects}

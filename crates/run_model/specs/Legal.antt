@@ -1,6 +1,8 @@
 -- Which journals are legal: each entry may stand after the list before it.
 use Rattle.std.specs.Prelude.{◌≡◌, ◌⊎◌, ℕ, ◌<◌, ◌≤◌, Bool, true, false, not, if◌then◌else◌, ◌&&◌, ◌||◌, ◌==◌, nat_le, List, [], ◌∷◌, Option, Some, None, length, find, is_some, IsSomeAnd}
 use Rattle.std.specs.List.{list_any, list_all}
+use Rattle.engine_types.specs.declared.Aim.{Aim}
+use Rattle.tree_base.specs.Limits.{most_entries}
 use Rattle.engine_types.specs.declared.Declared.{Declared}
 use Rattle.engine_types.specs.declared.Entry.{Entry}
 use Rattle.engine_types.specs.declared.Exchange.{Exchange}
@@ -12,7 +14,7 @@ use Rattle.engine_types.specs.declared.SeenFault.{SeenFault}
 use Rattle.run_model.specs.Conditions.{is_allowed, is_watched}
 use Rattle.run_model.specs.Journals.{Nothing, Setup, has_left, has_stopped, holding, is_ending, is_open, is_watch_of, polls, seen_in}
 use Rattle.run_model.specs.Observation.{Asks, Ends, Onward, Strays, is_asked, observed}
-use Rattle.run_model.specs.Plans.{Aim, Basis, action_count, is_too_long}
+use Rattle.run_model.specs.Plans.{Basis, action_count, is_too_long}
 use Rattle.run_model.specs.Numbers.{numbers_from, places}
 
 -- what an ask is answered: the journal is full, there is nothing left, an action, a poll of a slot, or there is nothing to do yet
@@ -22,10 +24,6 @@ pub data Decision : Type 0 where
   Take : ℕ → Decision
   Look : ℕ → Decision
   Pause : Decision
-
--- the greatest number of entries before an ask
-abbrev pub entries_limit : ℕ
-entries_limit = 1000000
 
 -- the least action that is allowed
 abbrev pub next_action : Setup → List Entry → Option ℕ
@@ -71,7 +69,7 @@ answer_to false false None None false = Go
 -- what a worker's ask is answered after these entries
 abbrev pub decision : Setup → List Entry → ℕ → Decision
 decision setup past w =
-    answer_to (nat_le entries_limit (length past)) (is_ending past) (next_action setup past)
+    answer_to (nat_le most_entries (length past)) (is_ending past) (next_action setup past)
     (next_poll setup past) (is_other_out setup past w)
 
 -- a worker may call: the observation ended well, the worker is one of the run's, holds nothing and hasn't left
@@ -127,7 +125,7 @@ MayStand aim setup past (Entry.Late w (LateWhy.Deadline reading)) =
     × IsSomeAnd setup.limits.deadline (λ deadline. deadline ≤ reading)
 MayStand aim setup past (Entry.Late w LateWhy.Entries) =
     IsReady setup past w × (decision setup past w ≡ Full)
-MayStand aim setup past (Entry.Short w) = IsReady setup past w × (length past < entries_limit)
+MayStand aim setup past (Entry.Short w) = IsReady setup past w × (length past < most_entries)
 
 -- a legal journal of a run, newest entry first: each entry may stand after those before it
 abbrev pub IsLegal : Aim → Setup → List Entry → Type 0

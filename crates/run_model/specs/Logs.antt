@@ -1,5 +1,6 @@
 -- What a journal says of the workers' hands: their exchanges, and how often they looked, paused and read the clock.
 use Rattle.std.specs.Prelude.{◌≡◌, ◌⊎◌, ℕ, ◌+◌, ◌*◌, ◌-◌, ◌^◌, min, Bool, true, false, if◌then◌else◌, ◌==◌, List, [], ◌∷◌, ◌++◌, Option, Some, None}
+use Rattle.tree_base.specs.Limits.{before_poll, while_idle}
 use Rattle.engine_types.specs.declared.Entry.{Entry}
 use Rattle.engine_types.specs.declared.Exchange.{Exchange}
 use Rattle.engine_types.specs.declared.LateWhy.{LateWhy}
@@ -66,8 +67,8 @@ asks (entry ∷ past) w = if is_ask_of w entry then asks past w + 1 else asks pa
 -- for how many milliseconds a worker's hand paused: 250 for each Idle, 500 for each Poll
 abbrev pub pauses : List Entry → ℕ → ℕ
 pauses [] w = 0
-pauses (Entry.Idle v ∷ past) w = if v == w then pauses past w + 250 else pauses past w
-pauses (Entry.Poll v s ∷ past) w = if v == w then pauses past w + 500 else pauses past w
+pauses (Entry.Idle v ∷ past) w = if v == w then pauses past w + while_idle else pauses past w
+pauses (Entry.Poll v s ∷ past) w = if v == w then pauses past w + before_poll else pauses past w
 pauses (_ ∷ past) w = pauses past w
 
 -- whether a worker was asked to stop

@@ -3,6 +3,8 @@ use Rattle.std.specs.Prelude.{◌≡◌, ◌↔◌, ℕ, ◌<◌, ◌^◌, ◌-�
 use Rattle.std.specs.List.{list_any, before_first}
 use Rattle.std.specs.Option.{option_map_or}
 use Rattle.std.specs.Str.{bytes_eq}
+use Rattle.engine_types.specs.declared.Aim.{Aim}
+use Rattle.tree_base.specs.Limits.{most_actions}
 use Rattle.engine_types.specs.declared.Action.{Action}
 use Rattle.engine_types.specs.declared.ActionKind.{ActionKind}
 use Rattle.engine_types.specs.declared.ActionKind.TheVariants.{MakeVolume, MakeNetwork, StopContainer, RemoveContainer, CreateSlot, ConnectSlot, StopKept, StartSlot, RemoveNetwork, RemoveVolume}
@@ -22,33 +24,24 @@ use Rattle.run_model.specs.Observation.{is_up}
 use Rattle.tree_base.specs.ByteOrder.{IsAscending, by_key, is_before, least_by}
 use Rattle.run_model.specs.Numbers.{places}
 
--- what a run is for: to bring a project up or down, and whether orphans go, and whether `down` takes volumes too
-pub record Aim : Type 0 where
-  pub purpose : Purpose
-  pub orphans : Bool
-  pub volumes : Bool
-
 -- what a plan is made from
 pub record Basis : Type 0 where
   pub declared : Declared
   pub seen : Seen
   pub aim : Aim
 
--- what a plan of `up` is made from
-abbrev pub up_basis : Declared → Seen → Bool → Basis
-up_basis declared seen orphans = record {
-  declared = declared;
-  seen = seen;
-  aim = record { purpose = Purpose.Up; orphans = orphans; volumes = false };
-}
+-- what the plan of a run is made from
+abbrev pub basis_of : Declared → Seen → Aim → Basis
+basis_of declared seen aim = record { declared = declared; seen = seen; aim = aim }
 
--- what a plan of `down` is made from
-abbrev pub down_basis : Declared → Seen → Bool → Bool → Basis
-down_basis declared seen orphans volumes = record {
-  declared = declared;
-  seen = seen;
-  aim = record { purpose = Purpose.Down; orphans = orphans; volumes = volumes };
-}
+-- what `up` is for: no volumes go
+abbrev pub up_aim : Bool → Aim
+up_aim orphans = record { purpose = Purpose.Up; orphans = orphans; volumes = false }
+
+-- what `down` is for
+abbrev pub down_aim : Bool → Bool → Aim
+down_aim orphans volumes =
+    record { purpose = Purpose.Down; orphans = orphans; volumes = volumes }
 
 -- the slot with this number
 abbrev pub slot_at : Declared → ℕ → Option Slot
@@ -271,13 +264,9 @@ planned basis =
     map (λ kind. record { kind = kind; needs = needed_by basis (planned_kinds basis) kind })
     (planned_kinds basis)
 
--- the greatest number of actions
-abbrev pub actions_limit : ℕ
-actions_limit = 65536
-
 -- whether a plan has more actions than a run takes
 abbrev pub is_too_long : Basis → Bool
-is_too_long basis = nat_lt actions_limit (length (planned_kinds basis))
+is_too_long basis = nat_lt most_actions (length (planned_kinds basis))
 
 -- how many actions a plan has, as far as 64 bits tell
 abbrev pub action_count : Basis → ℕ

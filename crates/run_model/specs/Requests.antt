@@ -2,6 +2,7 @@
 use Rattle.std.specs.Prelude.{ℕ, if◌then◌else◌, ◌==◌, List, [], ◌∷◌, Option, Some, None, find, length, slice_get, option_map, option_and_then, unwrap_or}
 use Rattle.std.specs.Option.{option_map_or}
 use Rattle.std.specs.Str.{bytes_eq}
+use Rattle.tree_base.specs.Limits.{usual_stop_seconds}
 use Rattle.engine_types.specs.declared.ActionKind.{ActionKind}
 use Rattle.engine_types.specs.declared.ActionKind.TheVariants.{MakeVolume, MakeNetwork, StopContainer, RemoveContainer, CreateSlot, ConnectSlot, StopKept, StartSlot, RemoveNetwork, RemoveVolume}
 use Rattle.engine_types.specs.declared.Attach.{Attach}
@@ -45,7 +46,7 @@ network_id setup past n = of (make_of setup.actions n)
 abbrev pub stop_seconds : Setup → Listed → ℕ
 stop_seconds setup row = unwrap_or setup.limits.stop_seconds
     (option_map_or (λ slot. slot.stop_seconds)
-    (find (λ slot. names_slot slot row.labels) setup.declared.slots) 10)
+    (find (λ slot. names_slot slot row.labels) setup.declared.slots) usual_stop_seconds)
 
 -- the connect of a slot's container to the network of one of its attaches
 abbrev pub connect_request : Setup → List Entry → ℕ → Attach → Option Request

@@ -1,11 +1,13 @@
 -- Whole runs, by their journals as they are written: oldest entry first.
 use Rattle.std.specs.Prelude.{◌≡◌, ℕ, Bool, false, ◌&&◌, List, [], reverse, unwrap_or, Option, option_map}
+use Rattle.engine_types.specs.declared.Aim.{Aim}
 use Rattle.engine_types.specs.declared.Declared.{Declared}
 use Rattle.engine_types.specs.declared.Engine.{Engine}
 use Rattle.engine_types.specs.declared.Entry.{Entry}
 use Rattle.engine_types.specs.declared.Exchange.{Exchange}
 use Rattle.engine_types.specs.declared.RunFault.{RunFault}
 use Rattle.engine_types.specs.declared.RunLimits.{RunLimits}
+use Rattle.engine_types.specs.declared.RunOptions.{RunOptions}
 use Rattle.engine_types.specs.declared.Seen.{Seen}
 use Rattle.run_model.specs.Ending.{EveryWorkerLeft, IsFinal, first_fault, is_seen_bad, status_of}
 use Rattle.run_model.specs.Journals.{Setup, seen_in}
@@ -13,22 +15,13 @@ use Rattle.run_model.specs.Legal.{IsLegal}
 use Rattle.run_model.specs.Lines.{report_text}
 use Rattle.run_model.specs.Logs.{deadline_after, exchanges_of}
 use Rattle.run_model.specs.Observation.{is_up}
-use Rattle.run_model.specs.Plans.{Aim}
 use Rattle.run_model.specs.Rolling.{run_actions}
 use Rattle.run_model.specs.Worlds.{IsWorldOf, Move}
 
--- what the options of a run bound: how many workers there are, whether the run waits for goals, after how many seconds it is late,
--- and how many seconds a stop waits in place of what each slot says
-pub record RunOptions : Type 0 where
-  pub workers : ℕ
-  pub wait : Bool
-  pub wait_seconds : Option ℕ
-  pub stop_seconds : Option ℕ
-
--- the limits of a run with these options; the deadline is counted from the first reading of hand 0's clock
-abbrev pub limits_of : RunOptions → ℕ → RunLimits
-limits_of options first = record {
-  workers = options.workers;
+-- the limits of a run of so many workers with these options; the deadline is counted from the first reading of hand 0's clock
+abbrev pub limits_of : ℕ → RunOptions → ℕ → RunLimits
+limits_of workers options first = record {
+  workers = workers;
   deadline = option_map (deadline_after first) options.wait_seconds;
   wait = options.wait;
   stop_seconds = options.stop_seconds;

@@ -12,3 +12,4 @@ pub mod Reported
 pub mod Backward
 pub mod Firsts
 pub mod Numbers
+pub mod StatusLaws

@@ -1,20 +1,19 @@
 //! The request of what a worker holds, as it was claimed or polled.
 
 ghost use Rattle.std.specs.Prelude.{◌≡◌, IfOk, Some, option_and_then, option_map, reverse};
-ghost use Rattle.std.specs.Option.{option_copied};
-ghost use Rattle.run_model.specs.Requests.{OfAction, action_request, asked, poll_request, request_of, request_out, slot_id, source_of};
-ghost use Rattle.run_report.specs.Claims.{before_claim, before_poll, is_claim_of};
+ghost use Rattle.run_model.specs.Requests.{OfAction, action_request, asked, poll_request, request_of, request_out, source_of};
+ghost use Rattle.run_report.specs.Claims.{before_claim, before_poll};
 ghost use Rattle.run_requests.specs.Setups.{setup_of};
 
 use crate::actions::kind_of;
+use crate::claims::is_claim_of;
 use crate::held::{Held, earlier, held_after};
-use crate::ids::{Past, created_id};
+use crate::ids::Past;
 use crate::polls::latest_poll;
 use engine_types::{ActionKind, Entry, Request};
-use run_lookups::kept_of;
-use run_requests::{Run, request_of};
+use run_requests::{Run, poll_of, request_of};
 use std::alloc::Global;
-use tree_base::{Memory, Text, TryCopy};
+use tree_base::Memory;
 
 /// The request of a worker's latest claim or poll; a listing stands where there is none.
 pub(crate) fn request_out(
@@ -75,20 +74,11 @@ fn before_claim(past: &[Entry], action: u32) -> Option<&[Entry]>
     let mut at = past.len();
     while at > 0 {
         at -= 1;
-        if is_claim_of(&past[at], action) {
+        if is_claim_of(&past[at], action as usize) {
             return Some(earlier(past, at));
         }
     }
     None
-}
-
-fn is_claim_of(entry: &Entry, of: u32) -> bool
-    ensures { result ≡ is_claim_of of entry.now }
-{
-    match entry {
-        Entry::Claim { action, .. } => *action == of,
-        _ => false,
-    }
 }
 
 fn action_request(
@@ -138,6 +128,7 @@ fn asked_by_poll(
     }
 }
 
+/// The request of a poll of a slot after these entries. None where the slot has no container.
 fn poll_request(
     alloc: Global,
     run: &Run<'_>,
@@ -147,29 +138,6 @@ fn poll_request(
     ensures { IfOk result (λ request.
         request ≡ poll_request (setup_of run.now) (reverse past.now) slot) }
 {
-    match slot_id(alloc, run, past, slot)? {
-        Some(id) => Ok(Some(Request::Inspect {
-            id: id.copy(alloc)?,
-        })),
-        None => Ok(None),
-    }
-}
-
-/// The id of a slot's container: that of the kept one, else what its create was told.
-fn slot_id<'a>(
-    alloc: Global,
-    run: &Run<'a>,
-    past: &'a [Entry],
-    slot: u32,
-) -> Result<Option<&'a Text>, Memory>
-    ensures { IfOk result (λ id.
-        option_copied id ≡ slot_id (setup_of run.now) (reverse past.now) slot) }
-{
-    let Some(row) = run.declared.slots.get(slot as usize) else {
-        return Ok(created_id(run, past, slot));
-    };
-    match kept_of(alloc, run.declared, run.seen, row)? {
-        Some(row) => Ok(Some(&row.id)),
-        None => Ok(created_id(run, past, slot)),
-    }
+    let ids = Past { run, entries: past };
+    poll_of(alloc, &ids, slot)
 }

@@ -1,5 +1,5 @@
-ghost use Rattle.std.specs.Prelude.{◌≡◌, ◌<◌, ℕ, IfOk, get_or, length};
-ghost use Rattle.run_report.specs.Claims.{claim_place};
+ghost use Rattle.std.specs.Prelude.{◌≡◌, ◌<◌, ℕ, IfOk, get_or, length, reverse};
+ghost use Rattle.run_report.specs.Claims.{claim_place, is_claim_of, was_claimed};
 ghost use Rattle.run_report.specs.Rows.{with_claim};
 
 use engine_types::Entry;
@@ -32,5 +32,22 @@ fn enter(claims: &mut Vec<usize>, entry: &Entry, place: usize)
         if action < claims.len() {
             claims[action] = place;
         }
+    }
+}
+
+/// Whether an action was claimed. No memory.
+pub(crate) fn was_claimed(past: &[Entry], action: usize) -> bool
+    ensures { result ≡ was_claimed (reverse past.now) action }
+{
+    past.iter().rev().any(|entry| is_claim_of(entry, action))
+}
+
+/// Whether an entry is a claim of an action.
+pub(crate) fn is_claim_of(entry: &Entry, of: usize) -> bool
+    ensures { result ≡ is_claim_of of entry.now }
+{
+    match entry {
+        Entry::Claim { action, .. } => *action as usize == of,
+        _ => false,
     }
 }

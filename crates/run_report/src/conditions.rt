@@ -1,12 +1,13 @@
 //! The condition that a report makes fail.
 
-ghost use Rattle.std.specs.Prelude.{◌≡◌, ◌<◌, length, reverse};
+ghost use Rattle.std.specs.Prelude.{◌≡◌, length, reverse};
 ghost use Rattle.run_model.specs.Conditions.{is_failed_verdict, judge};
 ghost use Rattle.run_report.specs.Conditions.{failed_by_start, failed_by_starts, failed_condition, failed_goal, failed_of, failed_wanted, fails_need, is_against};
 ghost use Rattle.run_report.specs.Rows.{AreRows};
 ghost use Rattle.run_requests.specs.Setups.{setup_of};
 
 use crate::actions::{kind_of, needs_of};
+use crate::claims::was_claimed;
 use crate::rows::Rows;
 use crate::standings::poll_counts;
 use crate::wanted::may_fail;
@@ -15,20 +16,22 @@ use health_watch::judge;
 use run_model::Verdict;
 use run_requests::Run;
 
-/// The condition that the report of a worker's poll of a slot makes fail, after entries of which none failed.
+/// The condition that the report of a worker's poll of a slot makes fail, after entries of which none failed. What it fails of
+/// what the starts require is told.
 pub(crate) fn failed_condition(
     run: &Run<'_>,
-    rows: &Rows,
     past: &[Entry],
     worker: u32,
     slot: u32,
     report: &Report,
+    by_starts: Option<Condition>,
 ) -> Option<Condition>
-    requires { AreRows (setup_of run.now) (reverse past.now) (length past.now) rows.now }
+    requires { by_starts ≡
+        failed_by_starts (setup_of run.now) (reverse past.now) slot report.now }
     ensures { result ≡
         failed_condition (setup_of run.now) (reverse past.now) worker slot report.now }
 {
-    let condition = failed_wanted(run, rows, past, slot, report)?;
+    let condition = failed_wanted(run, past, slot, report, by_starts)?;
     if poll_counts(run, past, worker) {
         Some(condition)
     } else {
@@ -39,22 +42,23 @@ pub(crate) fn failed_condition(
 /// What a report on a slot fails of all that is wanted.
 fn failed_wanted(
     run: &Run<'_>,
-    rows: &Rows,
     past: &[Entry],
     slot: u32,
     report: &Report,
+    by_starts: Option<Condition>,
 ) -> Option<Condition>
-    requires { AreRows (setup_of run.now) (reverse past.now) (length past.now) rows.now }
+    requires { by_starts ≡
+        failed_by_starts (setup_of run.now) (reverse past.now) slot report.now }
     ensures { result ≡ failed_wanted (setup_of run.now) (reverse past.now) slot report.now }
 {
-    match needed(run, rows, past, slot, report) {
+    match by_starts {
         Some(condition) => Some(condition),
         None => failed_goal(run, slot, report),
     }
 }
 
-/// The condition that a report on a slot fails of what the starts require.
-fn needed(
+/// The condition that a report on a slot fails of what the starts require, by the rows of the journal.
+pub(crate) fn needed(
     run: &Run<'_>,
     rows: &Rows,
     past: &[Entry],
@@ -65,25 +69,23 @@ fn needed(
     ensures { result ≡ failed_by_starts (setup_of run.now) (reverse past.now) slot report.now }
 {
     if may_fail(rows.wanted.as_slice(), slot, report, past.len()) {
-        failed_by_starts(run, rows, past, slot, report)
+        failed_by_starts(run, past, slot, report)
     } else {
         None
     }
 }
 
-/// The same, from the first action on.
-fn failed_by_starts(
+/// The same without rows, from the first action on. No memory.
+pub(crate) fn failed_by_starts(
     run: &Run<'_>,
-    rows: &Rows,
     past: &[Entry],
     slot: u32,
     report: &Report,
 ) -> Option<Condition>
-    requires { AreRows (setup_of run.now) (reverse past.now) (length past.now) rows.now }
     ensures { result ≡ failed_by_starts (setup_of run.now) (reverse past.now) slot report.now }
 {
     for at in 0..run.plan.actions.len() {
-        if let Some(condition) = failed_by_start(run, rows, past, slot, report, at) {
+        if let Some(condition) = failed_by_start(run, past, slot, report, at) {
             return Some(condition);
         }
     }
@@ -93,25 +95,20 @@ fn failed_by_starts(
 /// The condition that a report on a slot fails of what an action requires, unless the action was claimed.
 fn failed_by_start(
     run: &Run<'_>,
-    rows: &Rows,
     past: &[Entry],
     slot: u32,
     report: &Report,
     action: usize,
 ) -> Option<Condition>
-    requires rows { AreRows (setup_of run.now) (reverse past.now) (length past.now) rows.now }
-    requires within { action < length run.now.plan.now.actions }
     ensures { result ≡
         failed_by_start (setup_of run.now) (reverse past.now) slot report.now action }
 {
-    if rows.claims[action] < past.len() {
+    let needs = needs_of(run.declared, kind_of(run.plan, action));
+    let condition = failed_of(slot, report, needs)?;
+    if was_claimed(past, action) {
         None
     } else {
-        failed_of(
-            slot,
-            report,
-            needs_of(run.declared, kind_of(run.plan, action)),
-        )
+        Some(condition)
     }
 }
 

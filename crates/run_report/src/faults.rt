@@ -9,7 +9,7 @@ ghost use Rattle.run_report.specs.Rows.{AreRows, AreRowsOf};
 ghost use Rattle.run_requests.specs.Setups.{setup_of};
 
 use crate::asking::request_out;
-use crate::conditions::failed_condition;
+use crate::conditions::{failed_condition, needed};
 use crate::held::{Held, earlier, held_after};
 use crate::lines::slot_name;
 use crate::rows::Rows;
@@ -190,7 +190,8 @@ fn report_fault(
         (slot_name (setup_of run.now) slot) condition report.now)
         (failed_condition (setup_of run.now) (reverse past.now) worker slot report.now)) }
 {
-    match failed_condition(run, rows, past, worker, slot, report) {
+    let by_starts = needed(run, rows, past, slot, report);
+    match failed_condition(run, past, worker, slot, report, by_starts) {
         Some(condition) => condition_fault(alloc, run, slot, condition, report),
         None => Ok(None),
     }

@@ -1,9 +1,9 @@
-//! The ids of containers and networks that entries told.
+//! What requests name: kept containers and the seconds of stops by search, and the ids that entries told.
 
-ghost use Rattle.std.specs.Prelude.{◌≡◌, Some, if◌then◌else◌, option_and_then, reverse};
+ghost use Rattle.std.specs.Prelude.{◌≡◌, Some, if◌then◌else◌, reverse};
 ghost use Rattle.std.specs.Option.{option_copied};
 ghost use Rattle.run_model.specs.Journals.{Badly, Well, ended_as, is_good, standing};
-ghost use Rattle.run_model.specs.Plans.{create_of, kind_of};
+ghost use Rattle.run_model.specs.Plans.{kind_of};
 ghost use Rattle.run_model.specs.Requests.{made_id};
 ghost use Rattle.run_report.specs.Telling.{standing_by};
 ghost use Rattle.run_requests.specs.Asking.{ids_of};
@@ -11,10 +11,11 @@ ghost use Rattle.run_requests.specs.Setups.{setup_of};
 
 use crate::actions::{create_of, kind_of, make_of};
 use crate::standings::deciding;
-use engine_types::{ActionKind, Entry, Outcome, Plan, Reply};
-use run_lookups::is_good;
-use run_requests::{Run, ToldIds};
-use tree_base::Text;
+use engine_types::{ActionKind, Entry, Listed, Outcome, Plan, Reply};
+use run_lookups::{is_good, kept_of};
+use run_requests::{Run, ToldIds, stop_seconds};
+use std::alloc::Global;
+use tree_base::{Memory, Text};
 
 /// What entries of a run's journal told.
 #[derive(Clone, Copy)]
@@ -26,6 +27,20 @@ pub(crate) struct Past<'a> {
 impl ToldIds for Past<'_> {
     ghost ids = { λ past. ids_of (setup_of past.run.now) (reverse past.entries.now) };
 
+    fn kept(&self, alloc: Global, slot: u32) -> Result<Option<&Listed>, Memory> {
+        match self.run.declared.slots.get(slot as usize) {
+            Some(declared) => kept_of(alloc, self.run.declared, self.run.seen, declared),
+            None => Ok(None),
+        }
+    }
+
+    fn stop_seconds(&self, alloc: Global, container: u64) -> Result<Option<u64>, Memory> {
+        match self.run.seen.containers.get(container as usize) {
+            Some(row) => Ok(Some(stop_seconds(alloc, self.run, row)?)),
+            None => Ok(None),
+        }
+    }
+
     fn creator(&self, slot: u32) -> Option<usize> {
         create_of(self.run.plan, slot)
     }
@@ -36,18 +51,6 @@ impl ToldIds for Past<'_> {
 
     fn told(&self, action: usize) -> Option<&Text> {
         told_id(self.run, self.entries, action)
-    }
-}
-
-/// What the create of a slot's container was told.
-pub(crate) fn created_id<'a>(run: &Run<'_>, past: &'a [Entry], slot: u32) -> Option<&'a Text>
-    ensures { option_copied result ≡ option_and_then
-        (λ a. made_id (standing (setup_of run.now) (reverse past.now) a))
-        (create_of run.now.plan.now.actions slot) }
-{
-    match create_of(run.plan, slot) {
-        Some(create) => told_id(run, past, create),
-        None => None,
     }
 }
 

@@ -1,13 +1,14 @@
-//! What a journal tells of the end of its run: the report, and the fault of the first entry that fails.
+//! What a journal tells of the end of its run: the report, and the fault of the first entry that fails, with its exit status.
 //!
 //! Contracts say each exactly, by the definitions of `run_model`, for every journal: of any number of workers, with polls,
-//! conditions, goals, stops and limits. Both go through the journal once.
+//! conditions, goals, stops and limits. All go through the journal once; the status takes no memory.
 #![tactic(auto)]
 
 mod actions;
 mod asking;
 mod claims;
 mod conditions;
+mod exit_status;
 mod faults;
 mod held;
 mod ids;
@@ -17,7 +18,7 @@ mod reporting;
 mod rows;
 mod standings;
 mod wanted;
-mod well;
 
+pub use exit_status::status;
 pub use faults::fault;
 pub use reporting::report;

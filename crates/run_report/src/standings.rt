@@ -11,8 +11,8 @@ ghost use Rattle.run_requests.specs.Setups.{setup_of};
 use crate::actions::{kind_of, start_of};
 use crate::held::{Held, earlier, held_after};
 use crate::polls::latest_poll;
-use crate::well::is_well;
 use engine_types::{Entry, Outcome, Plan};
+use run_lookups::is_well;
 use run_requests::Run;
 
 /// The latest entry that says how an action stands.

@@ -7,6 +7,7 @@ use Rattle.std.specs.Str.{bytes_eq}
 use Rattle.engine_types.specs.declared.Action.{Action}
 use Rattle.engine_types.specs.declared.ActionKind.{ActionKind}
 use Rattle.engine_types.specs.declared.ActionKind.TheVariants.{ConnectSlot, CreateSlot, MakeNetwork, MakeVolume, RemoveContainer, RemoveNetwork, RemoveVolume, StopKept, StartSlot, StopContainer}
+use Rattle.engine_types.specs.declared.Aim.{Aim}
 use Rattle.engine_types.specs.declared.Attach.{Attach}
 use Rattle.engine_types.specs.declared.Entry.{Entry}
 use Rattle.engine_types.specs.declared.Listed.{Listed}
@@ -19,7 +20,7 @@ use Rattle.engine_types.specs.declared.VolumeSpec.{VolumeSpec}
 use Rattle.run_model.specs.EngineRules.{Among, is_live}
 use Rattle.run_model.specs.Journals.{Setup, Standing, Well, is_well, standing}
 use Rattle.run_model.specs.Observation.{is_up, listing_fault, network_fault}
-use Rattle.run_model.specs.Plans.{Aim, Basis, CarriesOut, IsWhole, is_create_of, is_make_of, is_needed_by, is_network_seen, is_removed, is_restarted, is_unattached, is_unstarted, is_wanted, keeps_live, kept, kept_of, kind_of, make_of, slot_at}
+use Rattle.run_model.specs.Plans.{Basis, CarriesOut, IsWhole, is_create_of, is_make_of, is_needed_by, is_network_seen, is_removed, is_restarted, is_unattached, is_unstarted, is_wanted, keeps_live, kept, kept_of, kind_of, make_of, slot_at}
 use Rattle.run_model.specs.Requests.{connect_request, made_id, network_id, request_of, seen_network_id, slot_id, stop_seconds}
 use Rattle.run_model.specs.Numbers.{places}
 use Rattle.run_model.proofs.DistinctLists.{among_places, from_filter, from_place}

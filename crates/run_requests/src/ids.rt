@@ -7,24 +7,18 @@ ghost use Rattle.run_requests.specs.Setups.{setup_of};
 use crate::run::Run;
 use crate::told::ToldIds;
 use engine_types::Seen;
-use run_lookups::kept_of;
 use std::alloc::Global;
 use tree_base::{Memory, Text};
 
 /// The id of a slot's container: that of the kept one, else what its create was told.
-pub(crate) fn slot_id<'a, T: ToldIds>(
+pub(crate) fn slot_id<T: ToldIds>(
     alloc: Global,
-    run: &Run<'a>,
-    ids: &'a T,
+    ids: &T,
     slot: u32,
-) -> Result<Option<&'a Text>, Memory>
-    ensures { IfOk result (λ id.
-        option_copied id ≡ slot_id_by (setup_of run.now) (T.ids ids.now) slot) }
+) -> Result<Option<&Text>, Memory>
+    ensures { IfOk result (λ id. option_copied id ≡ slot_id_by (T.ids ids.now) slot) }
 {
-    let Some(row) = run.declared.slots.get(slot as usize) else {
-        return Ok(created_id(ids, slot));
-    };
-    match kept_of(alloc, run.declared, run.seen, row)? {
+    match ids.kept(alloc, slot)? {
         Some(row) => Ok(Some(&row.id)),
         None => Ok(created_id(ids, slot)),
     }
@@ -52,8 +46,8 @@ pub(crate) fn network_id<'a, T: ToldIds>(
     }
 }
 
-/// The id of the first network of a name that was seen. No memory.
-pub fn seen_network_id<'a>(seen: &'a Seen, name: &Text) -> Option<&'a Text>
+/// The id of the first network of a name that was seen.
+fn seen_network_id<'a>(seen: &'a Seen, name: &Text) -> Option<&'a Text>
     ensures { option_copied result ≡
         option_map (λ row. row.id) (find (λ row. bytes_eq row.name name.now) seen.now.networks) }
 {

@@ -1,9 +1,9 @@
-//! The request of an action of a run, made here and nowhere else: for the worker that sends it, and for the line of a
-//! refusal that names it. What is declared and seen says most of it; the ids that creates and makes told come from a
-//! look-up that the caller brings.
+//! The requests of a run, of an action and of a poll, made here and nowhere else: for the worker that sends them, and for the
+//! line of a refusal that names one. What is declared and seen says most of them; the containers that slots keep, how long
+//! stops wait, and the ids that creates and makes told come from a look-up that the caller brings.
 //!
-//! The contract of `request_of` says that it is the defined request over these ids. Over the ids that a journal tells it is
-//! the request of `run_model`'s definitions.
+//! The contracts of `request_of` and `poll_of` say that each is the defined request over that look-up. Over one that tells what
+//! a journal tells it is the request of `run_model`'s definitions.
 #![tactic(auto)]
 
 mod ids;
@@ -12,7 +12,7 @@ mod run;
 mod seconds;
 mod told;
 
-pub use ids::seen_network_id;
-pub use requests::request_of;
+pub use requests::{poll_of, request_of};
 pub use run::Run;
+pub use seconds::stop_seconds;
 pub use told::ToldIds;

@@ -1,16 +1,13 @@
 ghost use Rattle.std.specs.Prelude.{◌≡◌, IfOk, Some, option_map, slice_get};
-ghost use Rattle.engine_types.specs.declared.ActionKind.TheVariants.{ConnectSlot, RemoveNetwork, StartSlot};
+ghost use Rattle.engine_types.specs.declared.ActionKind.TheVariants.{ConnectSlot, RemoveNetwork, StartSlot, StopContainer, StopKept};
 ghost use Rattle.run_model.specs.Plans.{slot_at};
-ghost use Rattle.run_model.specs.Requests.{stop_seconds};
-ghost use Rattle.run_requests.specs.Asking.{connect_by, request_by};
+ghost use Rattle.run_requests.specs.Asking.{connect_by, poll_by, request_by};
 ghost use Rattle.run_requests.specs.Setups.{setup_of};
 
 use crate::ids::{network_id, slot_id};
 use crate::run::Run;
-use crate::seconds::stop_seconds;
 use crate::told::ToldIds;
 use engine_types::{ActionKind, Attach, Declared, Request, Seen};
-use run_lookups::stop_kept;
 use std::alloc::Global;
 use tree_base::{Memory, TryCopy};
 
@@ -28,14 +25,26 @@ pub fn request_of<T: ToldIds>(
     match kind {
         ActionKind::MakeVolume { volume } => make_volume(alloc, run.declared, volume),
         ActionKind::MakeNetwork { network } => make_network(alloc, run.declared, network),
-        ActionKind::StopContainer { container } => stop(alloc, run, container),
+        ActionKind::StopContainer { container } => stop(alloc, run, ids, container),
         ActionKind::RemoveContainer { container } => remove(alloc, run.seen, container),
         ActionKind::CreateSlot { slot } => create(alloc, run.declared, slot),
         ActionKind::ConnectSlot { slot, attach } => connect_slot(alloc, run, ids, slot, attach),
-        ActionKind::StopKept { slot } => stop_kept(alloc, run.declared, run.seen, slot),
+        ActionKind::StopKept { slot } => stop_kept(alloc, run, ids, slot),
         ActionKind::StartSlot { slot } => start(alloc, run, ids, slot),
         ActionKind::RemoveNetwork { network } => remove_network(alloc, run, ids, network),
         ActionKind::RemoveVolume { volume } => remove_volume(alloc, run.declared, volume),
+    }
+}
+
+/// The request of a poll of a slot: the Engine is asked for the state of its container. None where it has none.
+pub fn poll_of<T: ToldIds>(alloc: Global, ids: &T, slot: u32) -> Result<Option<Request>, Memory>
+    ensures { IfOk result (λ request. request ≡ poll_by (T.ids ids.now) slot) }
+{
+    match slot_id(alloc, ids, slot)? {
+        Some(id) => Ok(Some(Request::Inspect {
+            id: id.copy(alloc)?,
+        })),
+        None => Ok(None),
     }
 }
 
@@ -65,17 +74,45 @@ fn make_network(alloc: Global, declared: &Declared, network: u32) -> Result<Opti
     }
 }
 
-fn stop(alloc: Global, run: &Run<'_>, container: u64) -> Result<Option<Request>, Memory>
-    ensures { IfOk result (λ request. request
-        ≡ option_map (λ row. Request.Stop row.id (stop_seconds (setup_of run.now) row))
-        (slice_get run.now.seen.now.containers container)) }
+fn stop<T: ToldIds>(
+    alloc: Global,
+    run: &Run<'_>,
+    ids: &T,
+    container: u64,
+) -> Result<Option<Request>, Memory>
+    ensures { IfOk result (λ request.
+        request ≡ request_by (setup_of run.now) (T.ids ids.now) (StopContainer container)) }
 {
-    match run.seen.containers.get(container as usize) {
-        Some(row) => {
-            let seconds = stop_seconds(alloc, run, row)?;
-            let id = row.id.copy(alloc)?;
-            Ok(Some(Request::Stop { id, seconds }))
-        }
+    let Some(row) = run.seen.containers.get(container as usize) else {
+        return Ok(None);
+    };
+    match ids.stop_seconds(alloc, container)? {
+        Some(seconds) => Ok(Some(Request::Stop {
+            id: row.id.copy(alloc)?,
+            seconds,
+        })),
+        None => Ok(None),
+    }
+}
+
+/// The stop of the container that a slot keeps: it waits as long as the slot says.
+fn stop_kept<T: ToldIds>(
+    alloc: Global,
+    run: &Run<'_>,
+    ids: &T,
+    slot: u32,
+) -> Result<Option<Request>, Memory>
+    ensures { IfOk result (λ request.
+        request ≡ request_by (setup_of run.now) (T.ids ids.now) (StopKept slot)) }
+{
+    let Some(declared) = run.declared.slots.get(slot as usize) else {
+        return Ok(None);
+    };
+    match ids.kept(alloc, slot)? {
+        Some(row) => Ok(Some(Request::Stop {
+            id: row.id.copy(alloc)?,
+            seconds: declared.stop_seconds,
+        })),
         None => Ok(None),
     }
 }
@@ -140,7 +177,7 @@ fn connect<T: ToldIds>(
     let Some(network) = network_id(run, ids, attach.network) else {
         return Ok(None);
     };
-    match slot_id(alloc, run, ids, slot)? {
+    match slot_id(alloc, ids, slot)? {
         Some(container) => Ok(Some(Request::Connect {
             network: network.copy(alloc)?,
             container: container.copy(alloc)?,
@@ -159,7 +196,7 @@ fn start<T: ToldIds>(
     ensures { IfOk result (λ request.
         request ≡ request_by (setup_of run.now) (T.ids ids.now) (StartSlot slot)) }
 {
-    match slot_id(alloc, run, ids, slot)? {
+    match slot_id(alloc, ids, slot)? {
         Some(id) => Ok(Some(Request::Start {
             id: id.copy(alloc)?,
         })),

@@ -1,13 +1,25 @@
-ghost use Rattle.std.specs.Prelude.{◌≡◌};
+ghost use Rattle.std.specs.Prelude.{◌≡◌, IfOk};
 ghost use Rattle.std.specs.Option.{option_copied};
 ghost use Rattle.run_requests.specs.Asking.{Ids};
 
-use tree_base::Text;
+use engine_types::Listed;
+use std::alloc::Global;
+use tree_base::{Memory, Text};
 
-/// What a run's actions were told so far.
+/// What requests name beside what is declared: the containers that slots keep, how long stops wait, and the ids that a run's
+/// actions were told so far.
 pub trait ToldIds {
     /// The look-up, as definitions see it.
     ghost ids: { Self → Ids };
+
+    /// The container that a slot keeps. Memory where there is none to look for it.
+    fn kept(&self, alloc: Global, slot: u32) -> Result<Option<&Listed>, Memory>
+        ensures { IfOk result (λ row. option_copied row ≡ (ids self.now).kept_by slot) };
+
+    /// How many seconds the stop of the container at a place waits, of those that were seen. Memory where there is none to look
+    /// for it.
+    fn stop_seconds(&self, alloc: Global, container: u64) -> Result<Option<u64>, Memory>
+        ensures { IfOk result (λ seconds. seconds ≡ (ids self.now).waits container) };
 
     /// The number of the action that creates a slot's container. No memory.
     fn creator(&self, slot: u32) -> Option<usize>

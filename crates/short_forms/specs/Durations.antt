@@ -5,6 +5,7 @@ use Rattle.std.specs.List.{list_all, onto_first}
 use Rattle.std.specs.Map.{lookup}
 use Rattle.std.specs.Option.{option_and_then, option_map}
 use Rattle.std.specs.Str.{bytes_eq}
+use Rattle.tree_base.specs.Limits.{greatest_duration}
 use Rattle.short_forms.specs.Digits.{digit_runs, scaled}
 
 -- the units, each with its microseconds
@@ -14,10 +15,6 @@ units = (codes "h", 3600 * 10 ^ 6) ∷ (codes "m", 60 * 10 ^ 6) ∷ (codes "s", 
 -- the microseconds of a unit, where it is one
 abbrev pub unit_micros : List ℕ → Option ℕ
 unit_micros unit = lookup (bytes_eq unit) units
-
--- the greatest duration, in microseconds
-abbrev pub greatest : ℕ
-greatest = 9 * 10 ^ 15
 
 -- how many digits a fraction may have, zeros at its end aside
 abbrev pub places : ℕ
@@ -49,7 +46,7 @@ sum_of (text ∷ texts) = option_and_then (λ first. option_map (λ rest. first 
 
 -- whole microseconds, where they are at most the greatest duration
 abbrev pub whole_micros : ℕ → Option ℕ
-whole_micros parts = if (parts % 10 ^ places == 0) && nat_le (parts / 10 ^ places) greatest then Some (parts / 10 ^ places) else None
+whole_micros parts = if (parts % 10 ^ places == 0) && nat_le (parts / 10 ^ places) greatest_duration then Some (parts / 10 ^ places) else None
 
 -- the microseconds of a duration: `0`, or the sum of one amount or more
 abbrev pub duration_of : List ℕ → Option ℕ

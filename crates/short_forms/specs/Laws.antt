@@ -2,27 +2,25 @@
 use Rattle.std.specs.Prelude.{◌≡◌, ◌≤◌, ℕ, Bool, true, ◌&&◌, nat_lt, List, map, length, Some}
 use Rattle.std.specs.Fmt.{decimal}
 use Rattle.std.specs.List.{join_with_byte, list_all}
-use Rattle.short_forms.specs.Decimals as decimals
+use Rattle.tree_base.specs.Limits.{greatest_decimal, greatest_duration, greatest_number}
 use Rattle.short_forms.specs.Decimals.{decimal_of}
-use Rattle.short_forms.specs.Durations as durations
 use Rattle.short_forms.specs.Durations.{duration_of}
 use Rattle.short_forms.specs.Printed.{decimal_text, duration_text}
-use Rattle.short_forms.specs.Sizes as sizes
 use Rattle.short_forms.specs.Sizes.{size_of}
 use Rattle.short_forms.specs.Spelling.{Piece, is_plain, is_word, word_bytes, word_text}
 use Rattle.short_forms.specs.Words.{words_of}
 
 -- a duration, as a page prints it, reads back to its microseconds
 abbrev pub DurationsReadBack : Type 0
-DurationsReadBack = (micros : ℕ) → micros ≤ durations.greatest → duration_of (duration_text micros) ≡ Some micros
+DurationsReadBack = (micros : ℕ) → micros ≤ greatest_duration → duration_of (duration_text micros) ≡ Some micros
 
 -- a size, as a page prints it, reads back to its bytes
 abbrev pub SizesReadBack : Type 0
-SizesReadBack = (bytes : ℕ) → bytes ≤ sizes.greatest → size_of (decimal bytes) ≡ Some bytes
+SizesReadBack = (bytes : ℕ) → bytes ≤ greatest_number → size_of (decimal bytes) ≡ Some bytes
 
 -- a decimal, as a page prints it, reads back to its billionths
 abbrev pub DecimalsReadBack : Type 0
-DecimalsReadBack = (billionths : ℕ) → billionths ≤ decimals.greatest → decimal_of (decimal_text billionths) ≡ Some billionths
+DecimalsReadBack = (billionths : ℕ) → billionths ≤ greatest_decimal → decimal_of (decimal_text billionths) ≡ Some billionths
 
 -- a word that needs no quotes
 abbrev pub is_plain_word : List ℕ → Bool

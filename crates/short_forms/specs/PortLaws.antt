@@ -2,6 +2,7 @@
 use Rattle.std.specs.Prelude.{◌≡◌, ◌≤◌, ℕ, Bool, true, ◌&&◌, nat_lt, List, [], ◌∷◌, ◌++◌, All, codes, Option, None, Some, IfSome, unwrap_or, if◌then◌else◌}
 use Rattle.std.specs.Fmt.{decimal}
 use Rattle.std.specs.Option.{option_and_then, option_map}
+use Rattle.tree_base.specs.Limits.{greatest_port}
 use Rattle.tree_base.specs.declared.tree.Tree.{Tree}
 use Rattle.tree_base.specs.declared.tree.Tree.TheVariants.{Map, Scalar}
 use Rattle.short_forms.specs.Digits.{number_up_to}
@@ -46,7 +47,7 @@ if_given read (Some text) = option_map Some (read text)
 
 -- a target: a number from 1 to 65,535
 abbrev pub target_in : List ℕ → Option ℕ
-target_in text = option_and_then (λ n. if nat_lt 0 n then Some n else None) (number_up_to 65535 text)
+target_in text = option_and_then (λ n. if nat_lt 0 n then Some n else None) (number_up_to greatest_port text)
 
 -- a protocol: `tcp` where none is named
 abbrev pub protocol_in : Option (List ℕ) → Option (List ℕ)
@@ -69,7 +70,7 @@ port_of_tree tree = option_and_then port_of_entries (entries_of tree)
 -- a port as it is kept: its target is a port, its protocol is known, and what it is published as is spelled without need
 pub record IsPort (port : Port) : Type 0 where
   pub some : 1 ≤ port.target
-  pub most : port.target ≤ 65535
+  pub most : port.target ≤ greatest_port
   pub protocol : is_protocol port.protocol ≡ true
   pub published : IfSome port.published (λ text. published_in text ≡ Some text)
 

@@ -4,6 +4,7 @@ use Rattle.std.specs.Fmt.{decimal}
 use Rattle.std.specs.List.{list_all, range_with_len}
 use Rattle.std.specs.Option.{is_some, option_and_then, option_map}
 use Rattle.std.specs.Str.{bytes_eq}
+use Rattle.tree_base.specs.Limits.{greatest_port, most_ports}
 use Rattle.short_forms.specs.Cuts.{cut_once, parts_at}
 use Rattle.short_forms.specs.Digits.{number_up_to}
 use Rattle.short_forms.specs.declared.ports.Port.{Port}
@@ -20,12 +21,12 @@ is_address text = (length (parts_at 46 text) == 4) && list_all is_octet (parts_a
 
 -- a range of at most 1,000 ports, from a first one to a last one that isn't below it
 abbrev pub range : ℕ → ℕ → Option Span
-range first last = if nat_le first last && nat_lt (last - first) 1000 then Some (Range first last) else None
+range first last = if nat_le first last && nat_lt (last - first) most_ports then Some (Range first last) else None
 
 -- one port up to 65,535, or a range of such
 abbrev pub span_in : List ℕ → Option (List ℕ × List ℕ) → Option Span
-span_in text None = option_map One (number_up_to 65535 text)
-span_in text (Some (first, last)) = option_and_then (λ a. option_and_then (range a) (number_up_to 65535 last)) (number_up_to 65535 first)
+span_in text None = option_map One (number_up_to greatest_port text)
+span_in text (Some (first, last)) = option_and_then (λ a. option_and_then (range a) (number_up_to greatest_port last)) (number_up_to greatest_port first)
 
 -- the span of a text, which is a range where it has a `-`
 abbrev pub span_of : List ℕ → Option Span
@@ -91,5 +92,5 @@ ports_of text = ports_by text (cut_once 47 text)
 
 -- what a span of ports is: a range doesn't fall, and its ports are at most 65,535
 abbrev pub IsSpan : Span → Type 0
-IsSpan (One port) = port ≤ 65535
-IsSpan (Range first last) = (first ≤ last) × (last ≤ 65535)
+IsSpan (One port) = port ≤ greatest_port
+IsSpan (Range first last) = (first ≤ last) × (last ≤ greatest_port)

@@ -8,8 +8,7 @@ ghost use Rattle.short_forms.specs.Decimals.{billionths_in, decimal_of};
 use crate::digits::{digit_runs, number, padded};
 use crate::form::{Form, FormRefusal};
 use tree_base::Text;
-
-const GREATEST: u64 = 9_000_000_000_000_000_000;
+use tree_base::limits::GREATEST_DECIMAL;
 
 const PLACES: usize = 9;
 
@@ -41,9 +40,9 @@ fn from_runs(whole: &[u8], fraction: &[u8]) -> Option<u64>
     if fraction.len() > PLACES {
         return None;
     }
-    let whole = number(whole, GREATEST / BILLION)?;
+    let whole = number(whole, GREATEST_DECIMAL / BILLION)?;
     let sum = u128::from(whole) * u128::from(BILLION) + padded(fraction, PLACES);
-    if sum <= u128::from(GREATEST) {
+    if sum <= u128::from(GREATEST_DECIMAL) {
         Some(sum as u64)
     } else {
         None

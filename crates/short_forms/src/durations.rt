@@ -11,8 +11,7 @@ use crate::digits::{digit_runs, number, padded};
 use crate::fixed_point::FixedPoint;
 use crate::form::{Form, FormRefusal};
 use tree_base::Text;
-
-const GREATEST: u64 = 9_000_000_000_000_000;
+use tree_base::limits::GREATEST_DURATION;
 
 /// Digits of a fraction in the upper and in the lower half of a `Micros`.
 const UPPER_PLACES: usize = 20;
@@ -157,7 +156,7 @@ fn fixed_point(whole: &[u8], fraction: &[u8]) -> Option<FixedPoint>
     requires few { length fraction.now ≤ 39 }
     ensures { option_map parts_of result ≡ capped (scaled 39 whole.now fraction.now) }
 {
-    let whole = number(whole, GREATEST)?;
+    let whole = number(whole, GREATEST_DURATION)?;
     let (upper, lower) = fraction.split_at(fraction.len().min(UPPER_PLACES));
     Some(FixedPoint {
         whole,
@@ -176,7 +175,7 @@ fn plus(total: &FixedPoint, number: &FixedPoint, unit: u64) -> Option<FixedPoint
     let lower = total.lower + number.lower * unit;
     let upper = total.upper + number.upper * unit + lower / LOWER;
     let whole = u128::from(total.whole) + u128::from(number.whole) * unit + upper / UPPER;
-    if whole > u128::from(GREATEST) {
+    if whole > u128::from(GREATEST_DURATION) {
         return None;
     }
     Some(FixedPoint {

@@ -2,6 +2,7 @@ ghost use Rattle.std.specs.Prelude.{◌≡◌, ◌==◌, [], ◌∷◌, ◌+◌,
 ghost use Rattle.std.specs.Fmt.{decimal};
 ghost use Rattle.std.specs.List.{list_all};
 ghost use Rattle.std.specs.Option.{option_map};
+ghost use Rattle.tree_base.specs.Limits.{greatest_port};
 ghost use Rattle.short_forms.specs.Answers.{Gives, answer_of};
 ghost use Rattle.short_forms.specs.Cuts.{parts_at};
 ghost use Rattle.short_forms.specs.Digits.{number_up_to};
@@ -12,6 +13,7 @@ use crate::cuts::cut_text;
 use crate::digits::number;
 use crate::form::{Form, FormRefusal};
 use std::alloc::Global;
+use tree_base::limits::{GREATEST_PORT, MOST_PORTS};
 use tree_base::{List, Memory, Text, TryCopy};
 
 /// A port of a service (Compose Specification, "ports").
@@ -37,10 +39,6 @@ impl TryCopy for Port {
         })
     }
 }
-
-const GREATEST: u64 = 65_535;
-
-const MOST_PORTS: u32 = 1_000;
 
 /// One port, or a range of ports.
 #[derive(Drop, Clone, Copy)]
@@ -288,10 +286,10 @@ fn first_of(span: Span) -> u32
 
 /// The number of a port, at most 65,535; None where a text is none. No memory.
 pub fn port_number(text: &str) -> Option<u32>
-    ensures value { result ≡ number_up_to 65535 text.now }
-    ensures range { IfSome result (λ port. port ≤ 65535) }
+    ensures value { result ≡ number_up_to greatest_port text.now }
+    ensures range { IfSome result (λ port. port ≤ greatest_port) }
 {
-    let port = number(text.as_bytes(), GREATEST)?;
+    let port = number(text.as_bytes(), GREATEST_PORT)?;
     u32::try_from(port).ok()
 }
 
@@ -346,8 +344,8 @@ fn ports_from(
     first: u32,
     last: u32,
 ) -> Result<List<Port>, Memory>
-    requires targets { (first ≤ last) × (last ≤ 65535) }
-    requires hosts { IfSome low (λ low. low ≤ 65535) }
+    requires targets { (first ≤ last) × (last ≤ greatest_port) }
+    requires hosts { IfSome low (λ low. low ≤ greatest_port) }
     ensures { IfOk result (λ l. l ≡
         ports_from (λ place. port_at host_ip.now protocol.now (host_text low place))
         first (last - first + 1)) }
@@ -362,8 +360,8 @@ fn ports_from(
 
 /// What the port at a place of a range is published as.
 fn host_text(alloc: Global, low: Option<u32>, place: u32) -> Result<Option<Text>, Memory>
-    requires low { IfSome low (λ low. low ≤ 65535) }
-    requires place { place ≤ 65535 }
+    requires low { IfSome low (λ low. low ≤ greatest_port) }
+    requires place { place ≤ greatest_port }
     ensures { IfOk result (λ t. t ≡ host_text low place) }
 {
     match low {

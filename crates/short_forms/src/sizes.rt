@@ -7,8 +7,7 @@ ghost use Rattle.short_forms.specs.Sizes.{size_in, size_of, unit_bytes};
 use crate::digits::number;
 use crate::form::{Form, FormRefusal};
 use tree_base::Text;
-
-const GREATEST: u64 = 9_223_372_036_854_775_807;
+use tree_base::limits::GREATEST_NUMBER;
 
 /// The bytes of a size, as `64m`: digits and at most one unit of `b`, `k`, `kb`, `m`, `mb`, `g`, `gb` in either
 /// case, by 1,024 (Compose Specification, "Specifying byte values"). At most 9,223,372,036,854,775,807. No memory.
@@ -38,9 +37,9 @@ fn times(digits: &[u8], unit: u64) -> Option<u64>
     requires { 1 ≤ unit }
     ensures { result ≡ size_in digits.now unit }
 {
-    let count = number(digits, GREATEST)?;
+    let count = number(digits, GREATEST_NUMBER)?;
     let bytes = u128::from(count) * u128::from(unit);
-    if bytes <= u128::from(GREATEST) {
+    if bytes <= u128::from(GREATEST_NUMBER) {
         Some(bytes as u64)
     } else {
         None

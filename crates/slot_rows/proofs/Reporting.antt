@@ -4,6 +4,7 @@ use Rattle.std.proofs.lemmas.Bool.{cases_eq, eq-eqb, eqb-true, true≢false}
 use Rattle.std.specs.List.{list_any}
 use Rattle.std.specs.Option.{option_map_or}
 use Rattle.std.specs.Prelude.{option_map}
+use Rattle.engine_types.specs.declared.Aim.{Aim}
 use Rattle.engine_types.specs.declared.Condition.{Condition}
 use Rattle.engine_types.specs.declared.Entry.{Entry}
 use Rattle.engine_types.specs.declared.Outcome.{Outcome}
@@ -11,7 +12,7 @@ use Rattle.engine_types.specs.declared.Report.{Report}
 use Rattle.run_model.specs.Conditions.{fails, has_failed, is_failed_verdict, is_met_verdict, is_started, judge, meets, poll_counts, report_of, was_met}
 use Rattle.run_model.specs.Journals.{Holding, Nothing, Setup, Watch, Work, ended_as, holding, is_watch_of, is_work_on, standing}
 use Rattle.run_model.specs.Legal.{IsLegal, is_looked_at, workers}
-use Rattle.run_model.specs.Plans.{Aim, kind_of}
+use Rattle.run_model.specs.Plans.{kind_of}
 use Rattle.run_model.specs.declared.verdict.Verdict.{Verdict}
 use Rattle.journal_laws.proofs.Holders.{is_watcher}
 use Rattle.journal_laws.proofs.Reports.{polled}

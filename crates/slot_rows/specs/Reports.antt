@@ -1,12 +1,12 @@
 -- What the end of a poll says of a slot.
 use Rattle.std.specs.Prelude.{◌≡◌, ℕ, false, List, ◌∷◌, Option, Some, None, option_map}
+use Rattle.engine_types.specs.declared.Aim.{Aim}
 use Rattle.engine_types.specs.declared.Condition.{Condition}
 use Rattle.engine_types.specs.declared.Entry.{Entry}
 use Rattle.engine_types.specs.declared.Outcome.{Outcome}
 use Rattle.run_model.specs.Conditions.{is_started, judge, report_of}
 use Rattle.run_model.specs.Journals.{Setup, Watch, holding, standing}
 use Rattle.run_model.specs.Legal.{IsLegal, is_looked_at}
-use Rattle.run_model.specs.Plans.{Aim}
 use Rattle.run_model.specs.declared.verdict.Verdict.{Verdict}
 use Rattle.slot_rows.specs.Slots.{verdict_in}
 use Rattle.slot_rows.specs.declared.slot_row.SlotRow.{SlotRow}

@@ -1,4 +1,5 @@
 ghost use Rattle.std.specs.Prelude.{◌≡◌, ◌<◌, IfOk, get_or, length, map, set};
+ghost use Rattle.tree_base.specs.Limits.{count_bound};
 ghost use Rattle.rank_rows.specs.Ranks.{least};
 ghost use Rattle.slot_rows.specs.Keys.{no_slot, slot_key};
 
@@ -30,7 +31,7 @@ impl Model for SlotRows {
 impl SlotRows {
     /// The rows of slots. The whole room of their order is taken here.
     pub fn new(alloc: Global, rows: Vec<SlotRow>) -> Result<SlotRows, Memory>
-        requires { length rows.items < 4294967296 }
+        requires { length rows.items < count_bound }
         ensures { IfOk result (λ slots. slots ≡ rows.items) }
     {
         let count = rows.len() as u32;

@@ -1,4 +1,5 @@
 ghost use Rattle.std.specs.Prelude.{◌≡◌, ◌+◌, ◌<◌, ◌==◌, ◌∷◌, ◌++◌, ℕ, [], if◌then◌else◌, get_or, length, set, IfOk, OnOk};
+ghost use Rattle.tree_base.specs.Limits.{count_bound};
 ghost use Rattle.ledger_rows.specs.Counts.{counted};
 ghost use Rattle.run_model.specs.Plans.{kind_of, slot_needs};
 ghost use Rattle.start_rows.specs.Asks.{asked_by, with_ask};
@@ -18,7 +19,7 @@ pub fn asking_rows(
     declared: &Declared,
     actions: &[Action],
 ) -> Result<List<List<u32>>, Memory>
-    requires small { length actions.now < 4294967296 }
+    requires small { length actions.now < count_bound }
     ensures size { IfOk result (λ rows. length rows ≡ length declared.now.slots) }
     ensures each { IfOk result (λ rows. (s a : ℕ) → s < length declared.now.slots
         → counted (λ b. b == a) (get_or rows s [])

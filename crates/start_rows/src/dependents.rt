@@ -1,4 +1,5 @@
 ghost use Rattle.std.specs.Prelude.{◌≡◌, ◌<◌, ◌==◌, ℕ, [], None, Some, IfOk, get_or, length};
+ghost use Rattle.tree_base.specs.Limits.{count_bound};
 ghost use Rattle.run_model.specs.EngineRules.{Among};
 ghost use Rattle.run_model.specs.Plans.{needs_of};
 ghost use Rattle.ledger_rows.specs.Counts.{counted};
@@ -18,7 +19,7 @@ pub fn dependent_rows(
     actions: &[Action],
     starts: &[Option<u32>],
 ) -> Result<List<List<u32>>, Memory>
-    requires small { length actions.now < 4294967296 }
+    requires small { length actions.now < count_bound }
     requires needs { (a b : ℕ) → Among (needs_of actions.now a) b → b < length actions.now }
     requires starts { (s b : ℕ) → get_or starts.now s None ≡ Some b → b < length actions.now }
     ensures size { IfOk result (λ rows. length rows ≡ length actions.now) }

@@ -1,4 +1,5 @@
 ghost use Rattle.std.specs.Prelude.{◌≡◌, ◌+◌, ◌<◌, ℕ, None, Some, IfOk, get_or, length};
+ghost use Rattle.tree_base.specs.Limits.{count_bound};
 ghost use Rattle.ledger_rows.specs.Counts.{counted};
 ghost use Rattle.run_model.specs.Plans.{kind_of, needs_of, slot_needs};
 ghost use Rattle.start_rows.specs.Firsts.{first_lack, keeps_first};
@@ -21,7 +22,7 @@ pub fn first_lacks(
         → get_or lacks.items a 0 ≡ first_lack declared.now actions.now starts.now a) }
     ensures few { IfOk result (λ lacks. (a : ℕ) → a < length actions.now
         → length (needs_of actions.now a)
-        + length (slot_needs declared.now (kind_of actions.now a)) < 4294967296) }
+        + length (slot_needs declared.now (kind_of actions.now a)) < count_bound) }
 {
     let mut lacks = Vec::new(alloc);
     for action in actions {
@@ -36,7 +37,7 @@ fn lack_of(declared: &Declared, action: &Action, starts: &[Option<u32>]) -> Resu
     ensures lack { IfOk result (λ lack. lack ≡ length action.now.needs
         + counted (keeps_first starts.now) (slot_needs declared.now (Some action.now.kind))) }
     ensures few { IfOk result (λ lack. length action.now.needs
-        + length (slot_needs declared.now (Some action.now.kind)) < 4294967296) }
+        + length (slot_needs declared.now (Some action.now.kind)) < count_bound) }
 {
     let needs = slot_needs(declared, action.kind);
     small(needs.len())?;

@@ -3,6 +3,7 @@ pub mod Answers
 pub mod ByteOrder
 pub mod Entries
 pub mod Lending
+pub mod Limits
 pub mod Paths
 pub mod Reserved
 pub mod Trees

@@ -2,11 +2,14 @@
 //!
 //! Contracts see a `Text` as the list of its bytes, a `List` as the list of its items, and a map as the
 //! list of its entries in the order of their first puts. Each call is exact by that list, a copy equals
-//! the value that it copies, and a call that finds no memory leaves its value as it was.
+//! the value that it copies, and a call that finds no memory leaves its value as it was. The limits of the
+//! whole program stand here too.
 #![tactic(auto)]
 
 mod boxed;
 mod comparison;
+mod copier;
+pub mod limits;
 mod list;
 mod memory;
 mod place;
@@ -19,6 +22,7 @@ mod tree;
 mod try_copy;
 
 pub use boxed::Boxed;
+pub use copier::Copier;
 pub use list::{List, item_at};
 pub use memory::Memory;
 pub use place::{Place, Var};

@@ -2,12 +2,13 @@
 use Rattle.std.proofs.Common.{◌≡◌, ℕ, zero, suc, ◌+◌, ◌*◌, ◌<◌, ◌≤◌, Bool, true, false, cond, List, [], ◌∷◌, length, if◌then◌else◌, refl, sym, ap, ◌∙◌, arith, ne_eqb, inl, inr, ◌⊎◌, subst}
 use Rattle.std.proofs.lemmas.Bool.{eq-eqb, eqb-true, cases_eq, leb-true, leb-false}
 use Rattle.std.specs.Prelude.{◌==◌, nat_le}
+use Rattle.engine_types.specs.declared.Aim.{Aim}
+use Rattle.tree_base.specs.Limits.{most_entries}
 use Rattle.engine_types.specs.declared.Entry.{Entry}
 use Rattle.engine_types.specs.declared.LateWhy.{LateWhy}
 use Rattle.engine_types.specs.declared.Outcome.{Outcome}
 use Rattle.run_model.specs.Journals.{Nothing, Setup, Watch, Work, has_left, has_stopped, holding, is_ending, is_open}
-use Rattle.run_model.specs.Legal.{Decision, Full, Go, IsLegal, Look, Pause, Take, answer_to, decision, entries_limit, is_other_out, next_action, next_poll}
-use Rattle.run_model.specs.Plans.{Aim}
+use Rattle.run_model.specs.Legal.{Decision, Full, Go, IsLegal, Look, Pause, Take, answer_to, decision, is_other_out, next_action, next_poll}
 
 -- how many entries of a worker may still come once the journal is full
 abbrev pub part : Bool → Bool → Bool → ℕ
@@ -116,16 +117,16 @@ full_falls past w n l h = falls (room_of past) (room_of (Entry.Late w LateWhy.En
     (λ v apart. rw (ne_eqb w v (λ e. apart (sym e))) (same_part (is_open (holding past v)) (has_stopped past v) (has_left past v)))
 
 -- once the journal is full an ask is answered so
-full_decides : (setup : Setup) (past : List Entry) (w : ℕ) (d : Decision) → nat_le entries_limit (length past) ≡ true → decision setup past w ≡ d → d ≡ Full
+full_decides : (setup : Setup) (past : List Entry) (w : ℕ) (d : Decision) → nat_le most_entries (length past) ≡ true → decision setup past w ≡ d → d ≡ Full
 full_decides setup past w d full e = sym e ∙ ap (λ (t : Bool). answer_to t (is_ending past) (next_action setup past) (next_poll setup past) (is_other_out setup past w)) full
 
 -- the entries so far, with those that may still come
-pub bounded : (aim : Aim) (setup : Setup) (past : List Entry) → IsLegal aim setup past → length past + total (room_of past) setup.limits.workers ≤ entries_limit + 3 * setup.limits.workers
+pub bounded : (aim : Aim) (setup : Setup) (past : List Entry) → IsLegal aim setup past → length past + total (room_of past) setup.limits.workers ≤ most_entries + 3 * setup.limits.workers
 bounded aim setup [] legal = let t = total_most [] setup.limits.workers in omega (arith, t)
-bounded aim setup (e ∷ past) legal = on (nat_le entries_limit (length past)) refl (bounded aim setup past legal.0)
+bounded aim setup (e ∷ past) legal = on (nat_le most_entries (length past)) refl (bounded aim setup past legal.0)
   where
-    full : nat_le entries_limit (length past) ≡ true → (x : Entry) → IsLegal aim setup (x ∷ past) → total (room_of (x ∷ past)) setup.limits.workers + 1 ≤ total (room_of past) setup.limits.workers
-    full h (Entry.Seen observation) l = let short : length past ≡ 0 = ap (λ (p : List Entry). length p) l.1.0 in let long = leb-true entries_limit (length past) h in absurd (omega (arith, short, long))
+    full : nat_le most_entries (length past) ≡ true → (x : Entry) → IsLegal aim setup (x ∷ past) → total (room_of (x ∷ past)) setup.limits.workers + 1 ≤ total (room_of past) setup.limits.workers
+    full h (Entry.Seen observation) l = let short : length past ≡ 0 = ap (λ (p : List Entry). length p) l.1.0 in let long = leb-true most_entries (length past) h in absurd (omega (arith, short, long))
     full h (Entry.Claim w a) l = absurd (cc (full_decides setup past w (Take a) h l.1.1))
     full h (Entry.Poll w s) l = absurd (cc (full_decides setup past w (Look s) h l.1.1))
     full h (Entry.Ended w outcome) l = ended_falls past w setup.limits.workers outcome (open_below aim setup past w l.0 l.1) l.1
@@ -134,11 +135,11 @@ bounded aim setup (e ∷ past) legal = on (nat_le entries_limit (length past)) r
     full h (Entry.Stop w) l = stop_falls past w setup.limits.workers l.1.0.below l.1.1
     full h (Entry.Late w (LateWhy.Deadline reading)) l = late_falls past w setup.limits.workers reading l.1.0.below l.1.1
     full h (Entry.Late w LateWhy.Entries) l = full_falls past w setup.limits.workers l.1.0.below l.1.0.here
-    full h (Entry.Short w) l = let long = leb-true entries_limit (length past) h in let few = l.1.1 in absurd (omega (arith, long, few))
+    full h (Entry.Short w) l = let long = leb-true most_entries (length past) h in let few = l.1.1 in absurd (omega (arith, long, few))
 
-    on : (t : Bool) → nat_le entries_limit (length past) ≡ t → length past + total (room_of past) setup.limits.workers ≤ entries_limit + 3 * setup.limits.workers → length (e ∷ past) + total (room_of (e ∷ past)) setup.limits.workers ≤ entries_limit + 3 * setup.limits.workers
+    on : (t : Bool) → nat_le most_entries (length past) ≡ t → length past + total (room_of past) setup.limits.workers ≤ most_entries + 3 * setup.limits.workers → length (e ∷ past) + total (room_of (e ∷ past)) setup.limits.workers ≤ most_entries + 3 * setup.limits.workers
     on true h r = let d = full h e legal in omega (arith, d, r)
-    on false h r = let l = leb-false entries_limit (length past) h in let t = total_most (e ∷ past) setup.limits.workers in omega (arith, l, t)
+    on false h r = let l = leb-false most_entries (length past) h in let t = total_most (e ∷ past) setup.limits.workers in omega (arith, l, t)
 
-pub is_short : (aim : Aim) (setup : Setup) (past : List Entry) → IsLegal aim setup past → setup.limits.workers ≤ 16 → length past ≤ entries_limit + 48
+pub is_short : (aim : Aim) (setup : Setup) (past : List Entry) → IsLegal aim setup past → setup.limits.workers ≤ 16 → length past ≤ most_entries + 48
 is_short aim setup past legal few = let b = bounded aim setup past legal in omega (arith, b, few)

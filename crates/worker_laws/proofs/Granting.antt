@@ -2,11 +2,11 @@
 use Rattle.std.proofs.Common.{◌≡◌, ℕ, suc, ◌<◌, Bool, true, false, List, [], ◌∷◌, length, Option, if◌then◌else◌, refl, sym, ap, ◌∙◌, arith}
 use Rattle.std.proofs.lemmas.Bool.{eq-eqb, ne_eqb}
 use Rattle.std.specs.Prelude.{◌==◌, unwrap_or}
+use Rattle.engine_types.specs.declared.Aim.{Aim}
 use Rattle.engine_types.specs.declared.Entry.{Entry}
 use Rattle.engine_types.specs.declared.Request.{Request}
 use Rattle.run_model.specs.Journals.{Holding, Nothing, Out, Setup, Watch, Work, holding, is_free, standing}
 use Rattle.run_model.specs.Legal.{IsLegal}
-use Rattle.run_model.specs.Plans.{Aim}
 use Rattle.run_model.specs.Requests.{OfAction, OfPoll, action_request, asked, poll_place, poll_request, request_out}
 use Rattle.run_model.proofs.LegalLaws.{claim_allowed}
 use Rattle.run_model.proofs.PlanLaws.{both}

@@ -1,11 +1,12 @@
 -- The entries of one worker, and what they tell of it.
 use Rattle.std.specs.Prelude.{◌≡◌, ℕ, ◌+◌, ◌≤◌, if◌then◌else◌, ◌==◌, List, [], ◌∷◌, ◌++◌, filter, length, reverse, unwrap_or}
+use Rattle.engine_types.specs.declared.Aim.{Aim}
+use Rattle.tree_base.specs.Limits.{most_entries, most_workers}
 use Rattle.engine_types.specs.declared.Entry.{Entry}
 use Rattle.engine_types.specs.declared.Request.{Request}
 use Rattle.run_model.specs.Journals.{Setup, has_left, has_stopped, holding}
-use Rattle.run_model.specs.Legal.{IsLegal, entries_limit}
+use Rattle.run_model.specs.Legal.{IsLegal}
 use Rattle.run_model.specs.Logs.{asks, asks_unstopped, exchanges_of, late_reading, pauses, was_stopped}
-use Rattle.run_model.specs.Plans.{Aim}
 use Rattle.run_model.specs.Requests.{action_request, poll_request, request_out}
 
 -- the worker under whose number an entry stands; the observation is worker 0's
@@ -67,4 +68,4 @@ SeenOnesSuffice = (setup : Setup) (begun seen more : List Entry) (w : ℕ)
 -- no legal journal of at most 16 workers has more than 48 entries beyond the greatest number before an ask
 abbrev pub JournalsAreShort : Type 0
 JournalsAreShort = (aim : Aim) (setup : Setup) (past : List Entry) → IsLegal aim setup past
-    → setup.limits.workers ≤ 16 → length past ≤ entries_limit + 48
+    → setup.limits.workers ≤ most_workers → length past ≤ most_entries + 48

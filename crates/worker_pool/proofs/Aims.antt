@@ -1,11 +1,11 @@
 -- A journal that goes on from one that is legal for an aim is legal for it.
 use Rattle.std.proofs.Common.{◌≡◌, List, [], ◌∷◌, ◌++◌, reverse, sym, ◌∙◌, subst}
 use Rattle.std.proofs.lemmas.List.{reverse-append}
+use Rattle.engine_types.specs.declared.Aim.{Aim}
 use Rattle.engine_types.specs.declared.Entry.{Entry}
 use Rattle.engine_types.specs.declared.LateWhy.{LateWhy}
 use Rattle.run_model.specs.Journals.{Setup}
 use Rattle.run_model.specs.Legal.{IsLegal, MayStand}
-use Rattle.run_model.specs.Plans.{Aim}
 use Rattle.journal_laws.specs.Courses.{Course, setup_of}
 use Rattle.journal_laws.specs.Laws.{IsLegalRun}
 use Rattle.ledger_run.specs.Turns.{with_more}

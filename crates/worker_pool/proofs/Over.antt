@@ -1,8 +1,9 @@
 -- A run that went on until each of its workers left.
 use Rattle.std.proofs.Common.{◌≡◌, ◌<◌, List, refl, sym, subst, arith}
+use Rattle.engine_types.specs.declared.Aim.{Aim}
 use Rattle.engine_types.specs.declared.Entry.{Entry}
 use Rattle.run_model.specs.Ending.{EveryWorkerLeft, IsRunOver}
-use Rattle.run_model.specs.Plans.{Aim, IsOrderly, IsWhole}
+use Rattle.run_model.specs.Plans.{IsOrderly, IsWhole}
 use Rattle.journal_laws.specs.Courses.{Course, entries, setup_of}
 use Rattle.journal_laws.specs.Laws.{IsLegalRun}
 use Rattle.ledger_core.specs.Beginning.{run_of}

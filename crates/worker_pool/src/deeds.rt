@@ -9,6 +9,7 @@ use ledger_turns::{LedgerAnswer, LedgerCall, SharedLedger};
 use outside_api::Hand;
 use std::alloc::Global;
 use std::sync::Wait;
+use tree_base::limits::{BEFORE_POLL, WHILE_IDLE};
 use turn_ledger::{TurnSeat, Turns};
 
 /// Makes the exchange of a permit, outside any turn, and ends the permit with what came of it.
@@ -34,12 +35,6 @@ fn exchange<R: Wait, H: Hand>(
     let outcome = hand.exchange(alloc, request);
     drop(turns.act(rt, seat, LedgerCall::End(permit, outcome)));
 }
-
-/// How long the hand pauses before a poll, in milliseconds.
-const BEFORE_POLL: u32 = 500;
-
-/// How long it pauses where there is nothing to do yet, in milliseconds.
-const WHILE_IDLE: u32 = 250;
 
 /// Asks in a turn, and does what is answered outside any turn. Whether the worker goes on.
 pub(crate) fn act<R: Wait, H: Hand>(

@@ -1,6 +1,7 @@
 ghost use Rattle.std.specs.Prelude.{◌≡◌, ◌<◌, ◌≤◌, All, IfErr, IfOk, [], ◌+◌, length, vec_capacity, vec_len};
+ghost use Rattle.engine_types.specs.declared.Aim.{Aim};
 ghost use Rattle.run_model.specs.Ending.{EveryWorkerLeft, IsRunOver};
-ghost use Rattle.run_model.specs.Plans.{Aim, IsOrderly, IsWhole};
+ghost use Rattle.run_model.specs.Plans.{IsOrderly, IsWhole};
 ghost use Rattle.journal_laws.specs.Courses.{entries, setup_of};
 ghost use Rattle.journal_laws.specs.Laws.{IsLegalRun};
 ghost use Rattle.ledger_core.specs.Beginning.{run_of};

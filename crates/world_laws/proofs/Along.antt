@@ -2,6 +2,7 @@
 use Rattle.std.proofs.Common.{◌≡◌, ℕ, zero, suc, true, false, List, [], ◌∷◌, Option, Some, None, refl, sym, ap, ◌∙◌, subst, slice_get}
 use Rattle.std.specs.List.{list_all}
 use Rattle.std.specs.Prelude.{option_map}
+use Rattle.engine_types.specs.declared.Aim.{Aim}
 use Rattle.engine_types.specs.declared.Engine.{Engine}
 use Rattle.engine_types.specs.declared.Entry.{Entry}
 use Rattle.engine_types.specs.declared.Exchange.{Exchange}
@@ -14,7 +15,6 @@ use Rattle.engine_types.specs.declared.SeenEnd.{SeenEnd}
 use Rattle.run_model.specs.EngineRules.{Answers, ChangesItself}
 use Rattle.run_model.specs.Journals.{Holding, Nothing, Setup, Watch, Work, holding, seen_in}
 use Rattle.run_model.specs.Legal.{IsLegal}
-use Rattle.run_model.specs.Plans.{Aim}
 use Rattle.run_model.specs.Requests.{OfAction, OfPoll, OfSeen, Source, asked}
 use Rattle.run_model.specs.Told.{is_look}
 use Rattle.run_model.specs.Worlds.{Changed, Did, IsLeft, MayAct, Move, Took, effect_of, entries_of, is_unsure, outcome_of}

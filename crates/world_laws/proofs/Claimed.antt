@@ -3,12 +3,13 @@ use Rattle.std.proofs.Common.{◌≡◌, ◌⊎◌, ℕ, Bool, true, false, List
 use Rattle.std.proofs.lemmas.Bool.{eqb-true, eq-eqb}
 use Rattle.std.specs.Prelude.{if◌then◌else◌, option_and_then, option_map, length, ◌==◌}
 use Rattle.engine_types.specs.declared.ActionKind.{ActionKind}
+use Rattle.engine_types.specs.declared.Aim.{Aim}
 use Rattle.engine_types.specs.declared.Entry.{Entry}
 use Rattle.engine_types.specs.declared.Reply.{Reply}
 use Rattle.engine_types.specs.declared.Request.{Request}
 use Rattle.run_model.specs.Journals.{Holding, Nothing, Out, Setup, Watch, Well, Work, ended_as, holding, is_free, standing}
 use Rattle.run_model.specs.Legal.{IsLegal}
-use Rattle.run_model.specs.Plans.{Aim, kind_of}
+use Rattle.run_model.specs.Plans.{kind_of}
 use Rattle.run_model.specs.Requests.{OfAction, OfPoll, action_request, asked, poll_request, request_of, slot_id}
 use Rattle.run_model.proofs.LegalLaws.{claim_allowed}
 use Rattle.run_model.proofs.PlanLaws.{both}

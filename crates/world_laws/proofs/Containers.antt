@@ -7,6 +7,7 @@ use Rattle.std.specs.List.{list_all, list_any}
 use Rattle.std.specs.Option.{option_map_or}
 use Rattle.std.specs.Prelude.{if◌then◌else◌, ◌==◌}
 use Rattle.std.specs.Str.{bytes_eq}
+use Rattle.engine_types.specs.declared.Aim.{Aim}
 use Rattle.tree_base.specs.declared.Var.{Var}
 use Rattle.engine_types.specs.declared.Action.{Action}
 use Rattle.engine_types.specs.declared.ActionKind.{ActionKind}
@@ -21,7 +22,7 @@ use Rattle.run_model.specs.EngineRules.{Among, container_at, image_at, is_of_pro
 use Rattle.run_model.specs.Exact.{IsExactSlot, agrees_in}
 use Rattle.run_model.specs.Journals.{Setup, is_good}
 use Rattle.run_model.specs.Labels.{has_declared_service, is_of_slot, is_orphan, names_service}
-use Rattle.run_model.specs.Plans.{Aim, Basis, CarriesOut, is_kept, is_removed, is_unattached, is_wanted, kept_of, kind_of, network_name, seen_image, slot_at}
+use Rattle.run_model.specs.Plans.{Basis, CarriesOut, is_kept, is_removed, is_unattached, is_wanted, kept_of, kind_of, network_name, seen_image, slot_at}
 use Rattle.run_model.specs.Worlds.{Move}
 use Rattle.run_model.proofs.DistinctLists.{at_place, from_place}
 use Rattle.run_model.proofs.KeptLaws.{any_from_list, any_of_list, declared_named}

@@ -3,6 +3,7 @@ use Rattle.std.proofs.Common.{◌≡◌, ◌⊎◌, ℕ, Bool, true, false, List
 use Rattle.std.proofs.lemmas.Bool.{eqb-true, eq-eqb}
 use Rattle.std.specs.Prelude.{if◌then◌else◌, ◌==◌}
 use Rattle.engine_types.specs.declared.ActionKind.{ActionKind}
+use Rattle.engine_types.specs.declared.Aim.{Aim}
 use Rattle.engine_types.specs.declared.Engine.{Engine}
 use Rattle.engine_types.specs.declared.Entry.{Entry}
 use Rattle.engine_types.specs.declared.Outcome.{Outcome}
@@ -10,7 +11,7 @@ use Rattle.engine_types.specs.declared.Reply.{Reply}
 use Rattle.engine_types.specs.declared.Request.{Request}
 use Rattle.run_model.specs.Journals.{Badly, Free, Holding, Nothing, Out, Setup, Standing, Watch, Well, Work, ended_as, holding, is_good, is_well, standing}
 use Rattle.run_model.specs.Legal.{IsLegal}
-use Rattle.run_model.specs.Plans.{Aim, kind_of}
+use Rattle.run_model.specs.Plans.{kind_of}
 use Rattle.run_model.specs.Requests.{OfAction, OfPoll, OfSeen, Source, asked, made_id}
 use Rattle.run_model.specs.Worlds.{Changed, Did, FitsOutcome, MayMove, Move, Took, World, effect_of, entries_of, is_source}
 use Rattle.world_laws.proofs.Claimed.{IsTail, well_later}

@@ -1,10 +1,11 @@
 -- A run that came to its end without a failing entry, in one of its worlds.
 use Rattle.std.proofs.Common.{◌≡◌, ℕ, ◌<◌, List, Some, true, length}
+use Rattle.engine_types.specs.declared.Aim.{Aim}
 use Rattle.engine_types.specs.declared.Engine.{Engine}
 use Rattle.run_model.specs.Journals.{Setup, is_well, seen_in, standing}
 use Rattle.run_model.specs.Legal.{IsLegal}
 use Rattle.run_model.specs.Observation.{is_up}
-use Rattle.run_model.specs.Plans.{Aim, Basis, HasPlan, IsWhole}
+use Rattle.run_model.specs.Plans.{Basis, HasPlan, IsWhole}
 use Rattle.run_model.specs.Worlds.{Move, World, entries_of}
 use Rattle.world_laws.specs.OwnSpecs.{HasOwnSpecs}
 

@@ -7,6 +7,7 @@ use Rattle.std.specs.Str.{bytes_eq}
 use Rattle.engine_types.specs.declared.Action.{Action}
 use Rattle.engine_types.specs.declared.ActionKind.{ActionKind}
 use Rattle.engine_types.specs.declared.ActionKind.TheVariants.{RemoveContainer, RemoveNetwork, RemoveVolume}
+use Rattle.engine_types.specs.declared.Aim.{Aim}
 use Rattle.engine_types.specs.declared.ContainerRow.{ContainerRow}
 use Rattle.engine_types.specs.declared.Declared.{Declared}
 use Rattle.engine_types.specs.declared.Engine.{Engine}
@@ -21,7 +22,7 @@ use Rattle.run_model.specs.EngineRules.{Among, ListsNetworks, ListsVolumes, cont
 use Rattle.run_model.specs.Journals.{Setup, is_good}
 use Rattle.run_model.specs.Labels.{has_declared_service}
 use Rattle.run_model.specs.Observation.{first_in, is_up, network_fault}
-use Rattle.run_model.specs.Plans.{Aim, Basis, CarriesOut, is_kept, is_network_seen, is_removed, is_volume_seen, is_wanted}
+use Rattle.run_model.specs.Plans.{Basis, CarriesOut, is_kept, is_network_seen, is_removed, is_volume_seen, is_wanted}
 use Rattle.run_model.specs.Requests.{seen_network_id}
 use Rattle.run_model.specs.Runs.{run_setup}
 use Rattle.tree_base.specs.ByteOrder.{by_key}

@@ -3,6 +3,7 @@ use Rattle.std.proofs.Common.{◌≡◌, ◌⊎◌, ℕ, Bool, true, false, ◌|
 use Rattle.std.proofs.lemmas.Slice.Eq.{bytes_eq-Decides}
 use Rattle.std.specs.List.{AllZip, list_any}
 use Rattle.std.specs.Str.{bytes_eq}
+use Rattle.engine_types.specs.declared.Aim.{Aim}
 use Rattle.tree_base.specs.declared.Var.{Var}
 use Rattle.engine_types.specs.declared.ActionKind.TheVariants.{CreateSlot, RemoveContainer}
 use Rattle.engine_types.specs.declared.ContainerRow.{ContainerRow}
@@ -18,7 +19,7 @@ use Rattle.run_model.specs.EngineRules.{Among, Answers, Creates, container_at, c
 use Rattle.run_model.specs.Journals.{Setup}
 use Rattle.run_model.specs.Labels.{is_lost_state}
 use Rattle.run_model.specs.Legal.{IsLegal}
-use Rattle.run_model.specs.Plans.{Aim, kind_of, seen_image, slot_at}
+use Rattle.run_model.specs.Plans.{kind_of, seen_image, slot_at}
 use Rattle.run_model.specs.Requests.{OfAction}
 use Rattle.run_model.specs.Worlds.{Did, Move, Took}
 use Rattle.run_model.proofs.DistinctLists.{from_place}

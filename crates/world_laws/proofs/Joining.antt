@@ -4,6 +4,7 @@ use Rattle.std.proofs.lemmas.Slice.Eq.{bytes_eq-Decides}
 use Rattle.std.specs.List.{list_any}
 use Rattle.std.specs.Str.{bytes_eq}
 use Rattle.engine_types.specs.declared.ActionKind.TheVariants.{ConnectSlot}
+use Rattle.engine_types.specs.declared.Aim.{Aim}
 use Rattle.engine_types.specs.declared.Attach.{Attach}
 use Rattle.engine_types.specs.declared.ContainerRow.{ContainerRow}
 use Rattle.engine_types.specs.declared.Engine.{Engine}
@@ -13,7 +14,7 @@ use Rattle.engine_types.specs.declared.Request.{Request}
 use Rattle.engine_types.specs.declared.Slot.{Slot}
 use Rattle.run_model.specs.EngineRules.{Connects, container_at, network_has_name}
 use Rattle.run_model.specs.Journals.{Setup}
-use Rattle.run_model.specs.Plans.{Aim, kind_of, network_name, slot_at}
+use Rattle.run_model.specs.Plans.{kind_of, network_name, slot_at}
 use Rattle.run_model.specs.Requests.{OfAction}
 use Rattle.run_model.specs.Worlds.{Move, Took, entries_of}
 use Rattle.run_model.proofs.DistinctLists.{from_place}

@@ -6,6 +6,7 @@ use Rattle.std.specs.Prelude.{filter, option_and_then}
 use Rattle.std.specs.Str.{bytes_eq}
 use Rattle.engine_types.specs.declared.ActionKind.{ActionKind}
 use Rattle.engine_types.specs.declared.ActionKind.TheVariants.{MakeVolume, MakeNetwork, StopContainer, RemoveContainer, CreateSlot, ConnectSlot, StopKept, StartSlot, RemoveNetwork, RemoveVolume}
+use Rattle.engine_types.specs.declared.Aim.{Aim}
 use Rattle.engine_types.specs.declared.Declared.{Declared}
 use Rattle.engine_types.specs.declared.Engine.{Engine}
 use Rattle.engine_types.specs.declared.Entry.{Entry}
@@ -15,7 +16,7 @@ use Rattle.engine_types.specs.declared.Seen.{Seen}
 use Rattle.engine_types.specs.declared.Slot.{Slot}
 use Rattle.run_model.specs.EngineRules.{Among}
 use Rattle.run_model.specs.Journals.{Setup, standing}
-use Rattle.run_model.specs.Plans.{Aim, agrees_seen, create_of, is_create_of, is_kept, kept, kept_of, kind_of, slot_at}
+use Rattle.run_model.specs.Plans.{agrees_seen, create_of, is_create_of, is_kept, kept, kept_of, kind_of, slot_at}
 use Rattle.run_model.specs.Requests.{made_id, slot_id}
 use Rattle.run_model.specs.Numbers.{places}
 use Rattle.run_model.specs.Worlds.{Move, entries_of}

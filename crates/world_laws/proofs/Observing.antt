@@ -3,6 +3,7 @@ use Rattle.std.proofs.Common.{◌≡◌, Bool, true, false, List, [], ◌∷◌,
 use Rattle.std.specs.List.{IsDistinct}
 use Rattle.std.specs.Prelude.{if◌then◌else◌}
 use Rattle.std.specs.Str.{bytes_eq}
+use Rattle.engine_types.specs.declared.Aim.{Aim}
 use Rattle.engine_types.specs.declared.Declared.{Declared}
 use Rattle.engine_types.specs.declared.Entry.{Entry}
 use Rattle.engine_types.specs.declared.Listed.{Listed}
@@ -13,7 +14,7 @@ use Rattle.engine_types.specs.declared.SeenFault.{SeenFault}
 use Rattle.run_model.specs.Journals.{Setup, seen_in}
 use Rattle.run_model.specs.Legal.{IsLegal, IsObserved, seen_end, whole_end}
 use Rattle.run_model.specs.Observation.{Asks, Ends, Onward, Strays, observed}
-use Rattle.run_model.specs.Plans.{Aim, Basis, action_count, is_too_long}
+use Rattle.run_model.specs.Plans.{Basis, action_count, is_too_long}
 use Rattle.run_model.specs.Told.{IsTold}
 use Rattle.run_model.proofs.ToldLaws.{seen_is_told}
 use Rattle.world_laws.proofs.FirstRows.{distinct_first}

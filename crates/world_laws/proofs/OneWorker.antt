@@ -2,11 +2,12 @@
 use Rattle.std.proofs.Common.{◌≡◌, ℕ, ◌<◌, ◌≤◌, Bool, true, false, List, [], ◌∷◌, length, Option, Some, None, refl, sym, ap, ◌∙◌, subst, arith}
 use Rattle.std.proofs.lemmas.Bool.{both_ways, eq-eqb, eqb-false, eqb-true, ne_eqb}
 use Rattle.std.specs.Prelude.{if◌then◌else◌, ◌==◌}
+use Rattle.engine_types.specs.declared.Aim.{Aim}
 use Rattle.engine_types.specs.declared.Entry.{Entry}
 use Rattle.run_model.specs.EngineRules.{Among}
 use Rattle.run_model.specs.Journals.{Holding, Nothing, Out, Setup, Standing, Watch, Well, Work, ended_as, holding, is_free, is_open, is_well, is_work_on, standing}
 use Rattle.run_model.specs.Legal.{IsLegal}
-use Rattle.run_model.specs.Plans.{Aim, kind_of, needs_of}
+use Rattle.run_model.specs.Plans.{kind_of, needs_of}
 use Rattle.run_model.specs.Requests.{OfAction, OfPoll, Source, poll_place, source_of}
 use Rattle.run_model.specs.Worlds.{outcome_of}
 use Rattle.run_model.proofs.LegalLaws.{claim_allowed, ended_not_free}

@@ -4,6 +4,7 @@ use Rattle.std.specs.Prelude.{option_and_then, option_map}
 use Rattle.engine_types.specs.declared.Action.{Action}
 use Rattle.engine_types.specs.declared.ActionKind.{ActionKind}
 use Rattle.engine_types.specs.declared.ActionKind.TheVariants.{MakeVolume, MakeNetwork, StopContainer, RemoveContainer, CreateSlot, ConnectSlot, StopKept, StartSlot, RemoveNetwork, RemoveVolume}
+use Rattle.engine_types.specs.declared.Aim.{Aim}
 use Rattle.engine_types.specs.declared.Engine.{Engine}
 use Rattle.engine_types.specs.declared.Entry.{Entry}
 use Rattle.engine_types.specs.declared.Listed.{Listed}
@@ -16,7 +17,7 @@ use Rattle.run_model.specs.EngineRules.{Answers, container_at, has_volume, netwo
 use Rattle.run_model.specs.Journals.{Setup}
 use Rattle.run_model.specs.Legal.{IsLegal}
 use Rattle.run_model.specs.Observation.{is_up}
-use Rattle.run_model.specs.Plans.{Aim, CarriesOut, is_make_of, kind_of, make_of}
+use Rattle.run_model.specs.Plans.{CarriesOut, is_make_of, kind_of, make_of}
 use Rattle.run_model.specs.Requests.{OfAction, request_of, seen_network_id}
 use Rattle.run_model.specs.Numbers.{places}
 use Rattle.run_model.specs.Worlds.{Did, Move, Took, entries_of}

@@ -7,6 +7,7 @@ use Rattle.std.specs.Str.{bytes_eq}
 use Rattle.engine_types.specs.declared.Action.{Action}
 use Rattle.engine_types.specs.declared.ActionKind.{ActionKind}
 use Rattle.engine_types.specs.declared.ActionKind.TheVariants.{MakeVolume, MakeNetwork}
+use Rattle.engine_types.specs.declared.Aim.{Aim}
 use Rattle.engine_types.specs.declared.Engine.{Engine}
 use Rattle.engine_types.specs.declared.Entry.{Entry}
 use Rattle.engine_types.specs.declared.NetRow.{NetRow}
@@ -20,7 +21,7 @@ use Rattle.engine_types.specs.declared.VolumeSpec.{VolumeSpec}
 use Rattle.run_model.specs.EngineRules.{Among, Answers, ChangesItself, ListsNetworks, ListsVolumes, SameNetworks, has_volume, image_at, network_at}
 use Rattle.run_model.specs.Journals.{Setup}
 use Rattle.run_model.specs.Observation.{listing_fault}
-use Rattle.run_model.specs.Plans.{Aim, CarriesOut, kind_of, seen_image}
+use Rattle.run_model.specs.Plans.{CarriesOut, kind_of, seen_image}
 use Rattle.run_model.specs.Requests.{OfAction, OfPoll, request_of}
 use Rattle.run_model.specs.Worlds.{Changed, Did, Move, Took, effect_of}
 use Rattle.run_model.proofs.RollLaws.{carries}

@@ -12,6 +12,7 @@ use Rattle.std.specs.Str.{bytes_eq}
 use Rattle.engine_types.specs.declared.Action.{Action}
 use Rattle.engine_types.specs.declared.ActionKind.{ActionKind}
 use Rattle.engine_types.specs.declared.ActionKind.TheVariants.{MakeVolume, MakeNetwork}
+use Rattle.engine_types.specs.declared.Aim.{Aim}
 use Rattle.engine_types.specs.declared.Declared.{Declared}
 use Rattle.engine_types.specs.declared.Engine.{Engine}
 use Rattle.engine_types.specs.declared.Entry.{Entry}
@@ -31,7 +32,7 @@ use Rattle.run_model.specs.Exact.{IsExactNetwork}
 use Rattle.run_model.specs.Journals.{Setup, is_good, standing}
 use Rattle.run_model.specs.Legal.{IsLegal}
 use Rattle.run_model.specs.Observation.{first_in, is_up, network_fault, volume_fault}
-use Rattle.run_model.specs.Plans.{Aim, Basis, CarriesOut, is_make_of, is_network_seen, is_volume_seen, is_wanted, kind_of, make_of, seen_image}
+use Rattle.run_model.specs.Plans.{Basis, CarriesOut, is_make_of, is_network_seen, is_volume_seen, is_wanted, kind_of, make_of, seen_image}
 use Rattle.tree_base.specs.ByteOrder.{IsAscending, by_key, is_before}
 use Rattle.run_model.specs.Requests.{OfAction, OfPoll, made_id, network_id, seen_network_id}
 use Rattle.run_model.specs.Numbers.{places}

@@ -4,6 +4,7 @@ use Rattle.std.proofs.lemmas.Bool.{eq-eqb, ne_eqb}
 use Rattle.std.proofs.lemmas.List.{append-nil, append_assoc, reverse-append}
 use Rattle.std.specs.Option.{IsSomeAnd}
 use Rattle.std.specs.Prelude.{if◌then◌else◌, ◌&&◌, option_and_then}
+use Rattle.engine_types.specs.declared.Aim.{Aim}
 use Rattle.engine_types.specs.declared.Engine.{Engine}
 use Rattle.engine_types.specs.declared.Entry.{Entry}
 use Rattle.engine_types.specs.declared.Exchange.{Exchange}
@@ -16,7 +17,7 @@ use Rattle.run_model.specs.Journals.{Holding, Nothing, Setup, Watch, Work, holdi
 use Rattle.run_model.specs.Legal.{IsLegal}
 use Rattle.run_model.specs.Logs.{exchanges_of}
 use Rattle.run_model.specs.Observation.{is_up}
-use Rattle.run_model.specs.Plans.{Aim, HasPlan, IsWhole}
+use Rattle.run_model.specs.Plans.{HasPlan, IsWhole}
 use Rattle.run_model.specs.Requests.{OfAction, OfPoll, OfSeen, Source, asked, poll_place, request_out, source_of}
 use Rattle.run_model.specs.Runs.{run_setup}
 use Rattle.run_model.specs.Worlds.{Did, Effect, Fits, FitsLast, FitsOutcome, FitsSeen, IsLeft, IsWorldOf, Changed, MayAct, Move, Took, World, effect_of, entries_of, is_source, is_unsure, outcome_of, seen_effects}

@@ -2,6 +2,7 @@
 use Rattle.std.proofs.Common.{◌≡◌, ℕ, ◌<◌, length, true, false, List, [], ◌∷◌, Option, Some, None, refl, sym, ap, ◌∙◌, subst, inl, inr, reverse, ◌⊎◌}
 use Rattle.std.specs.List.{list_any}
 use Rattle.std.specs.Prelude.{is_some, unwrap_or}
+use Rattle.engine_types.specs.declared.Aim.{Aim}
 use Rattle.engine_types.specs.declared.Engine.{Engine}
 use Rattle.engine_types.specs.declared.Entry.{Entry}
 use Rattle.engine_types.specs.declared.LateWhy.{LateWhy}
@@ -10,7 +11,6 @@ use Rattle.engine_types.specs.declared.SeenEnd.{SeenEnd}
 use Rattle.run_model.specs.Ending.{IsRunOver, is_seen_bad}
 use Rattle.run_model.specs.Journals.{Setup, has_left, holding, is_open, is_well, seen_in, standing}
 use Rattle.run_model.specs.Legal.{IsLegal, workers}
-use Rattle.run_model.specs.Plans.{Aim}
 use Rattle.run_model.specs.Runs.{IsRun, IsWorldOfRun, Task, run_fault, run_setup, unseen}
 use Rattle.run_model.specs.Worlds.{Move}
 use Rattle.run_model.proofs.KeptLaws.{any_from_list}

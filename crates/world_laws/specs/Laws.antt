@@ -1,5 +1,6 @@
 -- Laws of the worlds of a run.
 use Rattle.std.specs.Prelude.{◌≡◌, ℕ, ◌<◌, List, [], ◌∷◌, Option, None, Some, IsSomeAnd, true, false, length}
+use Rattle.engine_types.specs.declared.Aim.{Aim}
 use Rattle.engine_types.specs.declared.Engine.{Engine}
 use Rattle.engine_types.specs.declared.Entry.{Entry}
 use Rattle.engine_types.specs.declared.Observed.{Observed}
@@ -8,7 +9,7 @@ use Rattle.run_model.specs.Exact.{IsExact, IsGone}
 use Rattle.run_model.specs.Journals.{Setup, is_well, seen_in, standing}
 use Rattle.run_model.specs.Legal.{IsLegal}
 use Rattle.run_model.specs.Observation.{is_up}
-use Rattle.run_model.specs.Plans.{Aim, IsWhole}
+use Rattle.run_model.specs.Plans.{IsWhole}
 use Rattle.run_model.specs.Runs.{IsLeftByAll, IsRun, IsWorldOfRun, Task, run_exchanges, run_fault}
 use Rattle.run_model.specs.Worlds.{Did, Move, World, entries_of}
 use Rattle.world_laws.specs.OwnSpecs.{HasOwnSpecs}

@@ -1,6 +1,7 @@
 -- Lines as lists of characters, and the places of their characters.
 use Rattle.std.specs.Prelude.{ℕ, ◌+◌, List, [], ◌∷◌, take, drop, min, ◌==◌, if◌then◌else◌}
 use Rattle.std.specs.Str.{chars}
+use Rattle.tree_base.specs.Limits.{greatest_place}
 use Rattle.tree_base.specs.declared.place.Place.{Place}
 use Rattle.yaml_lines.specs.declared.lines.Line.{Line}
 use Rattle.yaml_lines.specs.declared.row.Row.{Row}
@@ -8,7 +9,7 @@ use Rattle.yaml_lines.specs.Blanks.{spaces}
 
 -- one more, where a number past the greatest of 32 bits is that number
 abbrev pub one_more : ℕ → ℕ
-one_more n = min (n + 1) 4294967295
+one_more n = min (n + 1) greatest_place
 
 -- a line by its characters
 abbrev pub row_of : Line → Row

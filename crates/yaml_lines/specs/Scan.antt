@@ -2,6 +2,7 @@
 use Rattle.std.specs.Prelude.{ℕ, ◌+◌, List, [], ◌∷◌, Bool, false, not, length, take, min, Result, Ok, Err, nat_lt, ◌==◌, ◌&&◌, ◌||◌, if◌then◌else◌}
 use Rattle.std.specs.Str.Lines.{lines}
 use Rattle.std.specs.Str.Lossy.{utf8_valid_len}
+use Rattle.tree_base.specs.Limits.{greatest_place}
 use Rattle.tree_base.specs.declared.place.Place.{Place}
 use Rattle.yaml_lines.specs.declared.lines.Line.{Line}
 use Rattle.yaml_lines.specs.declared.lines.Lines.{Lines}
@@ -50,7 +51,7 @@ without_mark bytes = bytes
 
 -- a line with its number and its indentation
 abbrev pub line_of : ℕ → List ℕ → Line
-line_of number text = record { number = number; indent = min (spaces text) 4294967295; text = text }
+line_of number text = record { number = number; indent = min (spaces text) greatest_place; text = text }
 
 -- lines with their numbers
 abbrev pub numbered : ℕ → List (List ℕ) → List Line

@@ -1,5 +1,6 @@
 ghost use Rattle.std.specs.Prelude.{◌≡◌, ◌≤◌, length, min, take, IfOk};
 ghost use Rattle.std.specs.Str.Lines.{lines};
+ghost use Rattle.tree_base.specs.Limits.{greatest_place};
 ghost use Rattle.yaml_lines.specs.Answers.{Gives};
 ghost use Rattle.yaml_lines.specs.Blanks.{spaces};
 ghost use Rattle.yaml_lines.specs.Scan.{starts_with_byte, is_control, clean_len, place_of_byte, without_mark, numbered, line_of, scan_of};
@@ -128,7 +129,7 @@ fn bad_at(which: YamlFault, file: u32, bytes: &[u8], at: usize) -> YamlRefusal
 
 /// How many spaces stand at the front; a number past the greatest is that number.
 fn indent(bytes: &[u8]) -> u32
-    ensures { result ≡ min (spaces bytes.now) 4294967295 }
+    ensures { result ≡ min (spaces bytes.now) greatest_place }
 {
     let mut indent = 0u32;
     for byte in bytes {

@@ -1,5 +1,6 @@
 -- What was read so far, and the limits: one thing is read after the other, and the first refusal ends it.
 use Rattle.std.specs.Prelude.{ℕ, ◌+◌, [], Result, Ok, Err, nat_lt, if◌then◌else◌}
+use Rattle.tree_base.specs.Limits.{most_nodes, most_text}
 use Rattle.tree_base.specs.declared.place.Place.{Place}
 use Rattle.tree_base.specs.declared.tree.Tree.{Tree}
 use Rattle.tree_base.specs.Trees.{node_count, depth, text_size}
@@ -45,13 +46,13 @@ place_of p row (Before place) = place
 -- more bytes of keys and scalars: at most 16,777,216 in all
 abbrev pub more_text : Progress → Row → Spot → ℕ → Result Progress YamlRefusal
 more_text p row spot bytes =
-    if nat_lt 16777216 (p.text + bytes) then Err (TooMuchText (place_of p row spot))
+    if nat_lt most_text (p.text + bytes) then Err (TooMuchText (place_of p row spot))
     else Ok (record p { text = p.text + bytes })
 
 -- more nodes and bytes: at most 200,000 nodes in all, and the nodes are asked first
 abbrev pub more_nodes : Progress → Row → Spot → ℕ → ℕ → Result Progress YamlRefusal
 more_nodes p row spot nodes bytes =
-    if nat_lt 200000 (p.nodes + nodes) then Err (TooManyNodes (place_of p row spot))
+    if nat_lt most_nodes (p.nodes + nodes) then Err (TooManyNodes (place_of p row spot))
     else more_text (record p { nodes = p.nodes + nodes }) row spot bytes
 
 -- a node that takes so many levels of those that are left, with its nodes and bytes: the levels are asked first

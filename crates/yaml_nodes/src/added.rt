@@ -1,5 +1,6 @@
 ghost use Rattle.std.specs.Prelude.{◌≡◌, ◌≤◌, ◌+◌, ◌-◌, ◌++◌, drop, is_none, length, sum_by, OnOk, SomeIff};
 ghost use Rattle.std.specs.Map.{keys_of, values_of};
+ghost use Rattle.tree_base.specs.Limits.{most_nodes, most_text};
 ghost use Rattle.tree_base.specs.Entries.{value_at};
 ghost use Rattle.tree_base.specs.Trees.{node_count, text_size};
 ghost use Rattle.yaml_lines.specs.Answers.{Gives};
@@ -80,7 +81,7 @@ fn text_left(trees: &[Tree], budget: u64) -> Option<u64>
 
 /// How many nodes there are with those of trees; None past the limit, which the walk doesn't pass.
 fn nodes_with(progress: &Progress, trees: &[Tree]) -> Option<u64>
-    ensures { SomeIff result (progress.now.nodes + sum_by node_count trees.now ≤ 200000)
+    ensures { SomeIff result (progress.now.nodes + sum_by node_count trees.now ≤ most_nodes)
         (progress.now.nodes + sum_by node_count trees.now) }
 {
     let budget = progress.nodes_left()?;
@@ -91,7 +92,7 @@ fn nodes_with(progress: &Progress, trees: &[Tree]) -> Option<u64>
 /// How many bytes of keys and scalars there are with those of pairs; None past the limit, which the walk doesn't pass.
 fn text_with(progress: &Progress, keys: &[Text], trees: &[Tree]) -> Option<u64>
     ensures { SomeIff result
-        (progress.now.text + (sum_by length keys.now + sum_by text_size trees.now) ≤ 16777216)
+        (progress.now.text + (sum_by length keys.now + sum_by text_size trees.now) ≤ most_text)
         (progress.now.text + (sum_by length keys.now + sum_by text_size trees.now)) }
 {
     let budget = progress.text_left()?;

@@ -1,4 +1,5 @@
 ghost use Rattle.std.specs.Prelude.{◌≡◌, ◌≤◌, ◌+◌, ◌-◌, IfOk, IfErr, SomeIff};
+ghost use Rattle.tree_base.specs.Limits.{most_nodes, most_text};
 ghost use Rattle.tree_base.specs.Trees.{node_count, depth, text_size};
 ghost use Rattle.yaml_lines.specs.Answers.{Fails, Gives};
 ghost use Rattle.yaml_lines.specs.declared.refusal.YamlRefusal.TheVariants.{Bad};
@@ -7,14 +8,9 @@ ghost use Rattle.yaml_nodes.specs.Progress.{result_left, at_start, place_of, mor
 
 use crate::spot::Spot;
 use std::alloc::Global;
+use tree_base::limits::{MOST_NODES, MOST_TEXT};
 use tree_base::{Map, Place, Tree};
 use yaml_lines::{Row, YamlFault, YamlRefusal, place_in};
-
-/// How many nodes a file may have.
-const MOST_NODES: u64 = 200_000;
-
-/// How many bytes of keys and scalars a file may have.
-const MOST_TEXT: u64 = 16_777_216;
 
 /// What was read so far of a file.
 #[derive(Drop)]
@@ -118,21 +114,21 @@ impl Progress {
 
     /// How many more nodes may be counted; None past the limit.
     pub(crate) fn nodes_left(&self) -> Option<u64>
-        ensures { SomeIff result (self.now.nodes ≤ 200000) (200000 - self.now.nodes) }
+        ensures { SomeIff result (self.now.nodes ≤ most_nodes) (most_nodes - self.now.nodes) }
     {
         MOST_NODES.checked_sub(self.nodes)
     }
 
     /// How many more bytes of keys and scalars may be counted; None past the limit.
     pub(crate) fn text_left(&self) -> Option<u64>
-        ensures { SomeIff result (self.now.text ≤ 16777216) (16777216 - self.now.text) }
+        ensures { SomeIff result (self.now.text ≤ most_text) (most_text - self.now.text) }
     {
         MOST_TEXT.checked_sub(self.text)
     }
 
     /// How many nodes there are with those of a tree; None past the limit, which the walk doesn't pass.
     fn nodes_with(&self, tree: &Tree) -> Option<u64>
-        ensures { SomeIff result (self.now.nodes + node_count tree.now ≤ 200000)
+        ensures { SomeIff result (self.now.nodes + node_count tree.now ≤ most_nodes)
             (self.now.nodes + node_count tree.now) }
     {
         let more = tree.nodes_within(self.nodes_left()?)?;
@@ -142,7 +138,7 @@ impl Progress {
     /// How many bytes of keys and scalars there are with those of a tree; None past the limit, which the walk doesn't
     /// pass.
     fn text_with(&self, tree: &Tree) -> Option<u64>
-        ensures { SomeIff result (self.now.text + text_size tree.now ≤ 16777216)
+        ensures { SomeIff result (self.now.text + text_size tree.now ≤ most_text)
             (self.now.text + text_size tree.now) }
     {
         let more = tree.text_within(self.text_left()?)?;

@@ -1,5 +1,6 @@
 -- What the lines of a text spell.
 use Rattle.std.specs.Prelude.{ℕ, List, [], ◌∷◌, Bool, false, Result, Ok, map, drop, codes, ◌&&◌, if◌then◌else◌}
+use Rattle.tree_base.specs.Limits.{most_levels}
 use Rattle.yaml_groups.specs.declared.line.LogicalLine.{LogicalLine}
 use Rattle.yaml_groups.specs.Grouped.{grouped}
 use Rattle.tree_base.specs.declared.tree.Tree.{Tree}
@@ -32,4 +33,4 @@ document levels file lines = below (node levels) no_owner no_properties (at_star
 
 -- what lines spell: a tree of at most 64 levels, or the first refusal
 abbrev pub reading : Lines → Result Tree YamlRefusal
-reading lines = document 64 lines.file (grouped 0 0 (map row_of lines.lines))
+reading lines = document most_levels lines.file (grouped 0 0 (map row_of lines.lines))

@@ -5,13 +5,11 @@ ghost use Rattle.yaml_tree.specs.Reading.{is_start, behind_start, document, read
 use crate::node::below;
 use crate::owner::Owner;
 use std::alloc::Global;
+use tree_base::limits::MOST_LEVELS;
 use tree_base::{List, Tree};
 use yaml_groups::{LogicalLine, grouped};
 use yaml_lines::{Lines, Row, YamlRefusal, is_rest_blank, rows_of};
 use yaml_nodes::{Progress, no_properties};
-
-/// How many levels a tree may have.
-const LEVELS: u32 = 64;
 
 /// Whether a line is `---` with a comment at most (YAML 1.2, chapter 9.1.4).
 fn is_start(chars: &[char]) -> bool
@@ -70,5 +68,5 @@ pub fn read(alloc: Global, lines: &Lines) -> Result<Tree, YamlRefusal>
 {
     let rows = rows_of(alloc, lines)?;
     let grouped = grouped(alloc, rows)?;
-    document(alloc, LEVELS, lines.file, grouped.as_slice())
+    document(alloc, MOST_LEVELS, lines.file, grouped.as_slice())
 }

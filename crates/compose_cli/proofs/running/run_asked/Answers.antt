@@ -9,7 +9,6 @@ use Rattle.ledger_run.specs.Tellings.{telling}
 use Rattle.project_run.specs.Whole.{task_of}
 use Rattle.refusals.specs.Origins.{IsOfLoading}
 use Rattle.refusals.specs.declared.Part.{Part}
-use Rattle.project_run.specs.Options.{aim_of, options_of}
 use Rattle.run_model.specs.Runs.{limits_of}
 use Rattle.compose_cli.proofs.running.run_asked.Goals as goal
 
@@ -36,9 +35,9 @@ returns-in-Ok-clause-quiet_loading g c = λ loading. absurd (c.run_declared.ensu
 
 pub returns-in-Ok-clause-ran : goal.returns-in-Ok-clause-ran
 returns-in-Ok-clause-ran g c = if_begun c.run_declared.result.journal c.run_declared.ensures.ran (λ ran.
-    for_declared_by (g.F.Files.told c.args.files.now) c.args.asked.options.command c.args.asked.project c.in-Ok.declared (options_of c.options_for-options.result) (options_for 1 c.args.asked.options.command) (λ declared bounds. RanAlone
+    for_declared_by (g.F.Files.told c.args.files.now) c.args.asked.options.command c.args.asked.project c.in-Ok.declared c.options_for-options.result (options_for c.args.asked.options.command) (λ declared bounds. RanAlone
     (λ h. telling (g.P.Hand.Hand.log h) (g.P.Hand.Hand.heard h) (g.P.Hand.Hand.faults h) (g.P.Hand.Hand.clock h) (g.P.Hand.Hand.engine h)) (g.P.Plug.engine c.args.plug.now)
-    (task_of declared (aim_of c.args.aim) (limits_of bounds (first_reading (λ h. g.P.Hand.Hand.clock h) c.run_declared.result.hands))) c.run_declared.result
+    (task_of declared c.args.aim (limits_of 1 bounds (first_reading (λ h. g.P.Hand.Hand.clock h) c.run_declared.result.hands))) c.run_declared.result
     (g.O.Sink.written c.args.out.now) (g.O.Sink.written c.run_declared.new.out) (g.O.Sink.faults c.args.out.now) (g.O.Sink.faults c.run_declared.new.out))
     c.options_for-options.ensures c.in-Ok.ensures.told c.in-Ok.ensures.declared ran)
 

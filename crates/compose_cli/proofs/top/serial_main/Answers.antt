@@ -19,12 +19,11 @@ use Rattle.refusals.specs.Origins.{IsOfLoading}
 use Rattle.refusals.specs.Saying.{IsSaid}
 use Rattle.refusals.specs.declared.Part.{Part}
 use Rattle.ledger_run.specs.Tellings.{telling}
-use Rattle.project_run.specs.Options.{aim_of}
 use Rattle.compose_cli.proofs.top.serial_main.Goals as goal
 
 pub returns-in-Some-clause-ran : goal.returns-in-Some-clause-ran
 returns-in-Some-clause-ran g c = if_begun c.run_asked.result.journal c.run_asked.ensures.ran (λ ran.
-    task_by c.args.words.now c.args.env.now c.args.cwd.now (g.F.Files.told c.args.files.now) (g.F.Files.told c.project_asked.new.files) 1 (first_reading (λ h. g.P.Hand.Hand.clock h) c.run_asked.result.hands) (aim_of c.in-Some.aim) c.in-Ok.asked
+    task_by c.args.words.now c.args.env.now c.args.cwd.now (g.F.Files.told c.args.files.now) (g.F.Files.told c.project_asked.new.files) 1 (first_reading (λ h. g.P.Hand.Hand.clock h) c.run_asked.result.hands) c.in-Some.aim c.in-Ok.asked
     (λ task. RanAlone (λ h. telling (g.P.Hand.Hand.log h) (g.P.Hand.Hand.heard h) (g.P.Hand.Hand.faults h) (g.P.Hand.Hand.clock h) (g.P.Hand.Hand.engine h)) (g.P.Plug.engine c.args.plug.now) task c.run_asked.result (g.O.Sink.written c.args.out.now) (g.O.Sink.written c.run_asked.new.out) (g.O.Sink.faults c.args.out.now) (g.O.Sink.faults c.run_asked.new.out))
     c.project_asked.ensures.kept (command_is c.args.words.now c.args.env.now c.in-Ok.asked.options c.in-Ok.ensures.options) (aims c.in-Ok.asked.options.command c.aim_for.result c.in-Some.aim c.aim_for.ensures c.in-Some.is) c.in-Ok.ensures.told c.in-Ok.ensures.text ran)
 
@@ -38,19 +37,19 @@ pub returns-in-Some-clause-loading : goal.returns-in-Some-clause-loading
 returns-in-Some-clause-loading g c = IfSome-map (g.F.Files.told c.args.files.now) _ _ c.in-Ok.ensures.told (λ contents means. means_unrefused _ (meaning c.args.words.now c.args.env.now c.args.cwd.now contents) c.in-Ok.asked means)
 
 pub returns-in-Some-clause-page : goal.returns-in-Some-clause-page
-returns-in-Some-clause-page g c = λ config zero. absurd (no_config (command_of c.args.words.now c.args.env.now) (aim_of c.in-Some.aim) (asked c.args.words.now c.args.env.now c.in-Ok.asked.options.command c.aim_for.result c.in-Some.aim (command_is c.args.words.now c.args.env.now c.in-Ok.asked.options c.in-Ok.ensures.options) c.aim_for.ensures c.in-Some.is) config)
+returns-in-Some-clause-page g c = λ config zero. absurd (no_config (command_of c.args.words.now c.args.env.now) c.in-Some.aim (asked c.args.words.now c.args.env.now c.in-Ok.asked.options.command c.aim_for.result c.in-Some.aim (command_is c.args.words.now c.args.env.now c.in-Ok.asked.options c.in-Ok.ensures.options) c.aim_for.ensures c.in-Some.is) config)
 
 pub returns-in-Some-clause-page_prefix : goal.returns-in-Some-clause-page_prefix
-returns-in-Some-clause-page_prefix g c = λ config. absurd (no_config (command_of c.args.words.now c.args.env.now) (aim_of c.in-Some.aim) (asked c.args.words.now c.args.env.now c.in-Ok.asked.options.command c.aim_for.result c.in-Some.aim (command_is c.args.words.now c.args.env.now c.in-Ok.asked.options c.in-Ok.ensures.options) c.aim_for.ensures c.in-Some.is) config)
+returns-in-Some-clause-page_prefix g c = λ config. absurd (no_config (command_of c.args.words.now c.args.env.now) c.in-Some.aim (asked c.args.words.now c.args.env.now c.in-Ok.asked.options.command c.aim_for.result c.in-Some.aim (command_is c.args.words.now c.args.env.now c.in-Ok.asked.options c.in-Ok.ensures.options) c.aim_for.ensures c.in-Some.is) config)
 
 pub returns-in-Some-clause-page_fault : goal.returns-in-Some-clause-page_fault
-returns-in-Some-clause-page_fault g c = λ config e. absurd (no_config (command_of c.args.words.now c.args.env.now) (aim_of c.in-Some.aim) (asked c.args.words.now c.args.env.now c.in-Ok.asked.options.command c.aim_for.result c.in-Some.aim (command_is c.args.words.now c.args.env.now c.in-Ok.asked.options c.in-Ok.ensures.options) c.aim_for.ensures c.in-Some.is) config)
+returns-in-Some-clause-page_fault g c = λ config e. absurd (no_config (command_of c.args.words.now c.args.env.now) c.in-Some.aim (asked c.args.words.now c.args.env.now c.in-Ok.asked.options.command c.aim_for.result c.in-Some.aim (command_is c.args.words.now c.args.env.now c.in-Ok.asked.options c.in-Ok.ensures.options) c.aim_for.ensures c.in-Some.is) config)
 
 pub returns-in-Some-clause-page_kind : goal.returns-in-Some-clause-page_kind
-returns-in-Some-clause-page_kind g c = λ config. absurd (no_config (command_of c.args.words.now c.args.env.now) (aim_of c.in-Some.aim) (asked c.args.words.now c.args.env.now c.in-Ok.asked.options.command c.aim_for.result c.in-Some.aim (command_is c.args.words.now c.args.env.now c.in-Ok.asked.options c.in-Ok.ensures.options) c.aim_for.ensures c.in-Some.is) config)
+returns-in-Some-clause-page_kind g c = λ config. absurd (no_config (command_of c.args.words.now c.args.env.now) c.in-Some.aim (asked c.args.words.now c.args.env.now c.in-Ok.asked.options.command c.aim_for.result c.in-Some.aim (command_is c.args.words.now c.args.env.now c.in-Ok.asked.options c.in-Ok.ensures.options) c.aim_for.ensures c.in-Some.is) config)
 
 pub returns-in-Some-clause-page_complete : goal.returns-in-Some-clause-page_complete
-returns-in-Some-clause-page_complete g c = λ config. absurd (no_config (command_of c.args.words.now c.args.env.now) (aim_of c.in-Some.aim) (asked c.args.words.now c.args.env.now c.in-Ok.asked.options.command c.aim_for.result c.in-Some.aim (command_is c.args.words.now c.args.env.now c.in-Ok.asked.options c.in-Ok.ensures.options) c.aim_for.ensures c.in-Some.is) config)
+returns-in-Some-clause-page_complete g c = λ config. absurd (no_config (command_of c.args.words.now c.args.env.now) c.in-Some.aim (asked c.args.words.now c.args.env.now c.in-Ok.asked.options.command c.aim_for.result c.in-Some.aim (command_is c.args.words.now c.args.env.now c.in-Ok.asked.options c.in-Ok.ensures.options) c.aim_for.ensures c.in-Some.is) config)
 
 pub returns-in-Some-clause-unbegun : goal.returns-in-Some-clause-unbegun
 returns-in-Some-clause-unbegun g c = if_runs c.args.words.now c.args.env.now _ c.run_asked.ensures.unbegun
@@ -144,7 +143,7 @@ pub returns-in-Err-clause-quiet_unbegun : goal.returns-in-Err-clause-quiet_unbeg
 returns-in-Err-clause-quiet_unbegun g c = if_runs c.args.words.now c.args.env.now _ (λ empty. refl)
 
 pub returns-in-Some-clause-config : goal.returns-in-Some-clause-config
-returns-in-Some-clause-config g c = λ none. let bad : Some (aim_of c.in-Some.aim) ≡ None = sym (asked c.args.words.now c.args.env.now c.in-Ok.asked.options.command c.aim_for.result c.in-Some.aim (command_is c.args.words.now c.args.env.now c.in-Ok.asked.options c.in-Ok.ensures.options) c.aim_for.ensures c.in-Some.is) ∙ none in absurd (cc bad)
+returns-in-Some-clause-config g c = λ none. let bad : Some c.in-Some.aim ≡ None = sym (asked c.args.words.now c.args.env.now c.in-Ok.asked.options.command c.aim_for.result c.in-Some.aim (command_is c.args.words.now c.args.env.now c.in-Ok.asked.options c.in-Ok.ensures.options) c.aim_for.ensures c.in-Some.is) ∙ none in absurd (cc bad)
 
 pub returns-in-None-clause-dialled : goal.returns-in-None-clause-dialled
 returns-in-None-clause-dialled g c = counts_none (g.P.Plug.dialled c.args.plug.now) c.print_page.result c.print_page.ensures.nothing
@@ -180,7 +179,7 @@ pub returns-in-None-clause-digest_fault : goal.returns-in-None-clause-digest_fau
 returns-in-None-clause-digest_fault g c = λ path e. absurd (page_no_loading (page_for c.in-Ok.asked.options.command c.in-Ok.asked.project) (g.O.Sink.written c.args.out.now) (g.O.Sink.written c.print_page.new.out) (g.O.Sink.faults c.args.out.now) (g.O.Sink.faults c.print_page.new.out) c.print_page.result.refusal c.print_page.ensures.printed (subst IsOfLoading (sym e) tt))
 
 pub run_asked-requires-clause-reachable : goal.run_asked-requires-clause-reachable
-run_asked-requires-clause-reachable g c = reachable c.args.env.now c.args.words.now c.in-Ok.asked.options c.args.cwd.now (aim_of c.in-Some.aim) c.in-Ok.ensures.options (aims c.in-Ok.asked.options.command c.aim_for.result c.in-Some.aim c.aim_for.ensures c.in-Some.is)
+run_asked-requires-clause-reachable g c = reachable c.args.env.now c.args.words.now c.in-Ok.asked.options c.args.cwd.now c.in-Some.aim c.in-Ok.ensures.options (aims c.in-Ok.asked.options.command c.aim_for.result c.in-Some.aim c.aim_for.ensures c.in-Some.is)
 
 pub run_asked-requires-clause-acyclic : goal.run_asked-requires-clause-acyclic
 run_asked-requires-clause-acyclic g c = spelled_acyclic c.args.words.now c.args.env.now c.args.cwd.now (g.F.Files.told c.args.files.now) c.in-Ok.asked.project c.in-Ok.ensures.text

@@ -1,8 +1,9 @@
 use Rattle.std.proofs.Common.{◌≡◌, ℕ, List, Option, None, length, get_or, ap, ◌∙◌, arith}
+use Rattle.run_model.specs.Plans.{basis_of}
 use Rattle.engine_types.specs.declared.Action.{Action}
 use Rattle.plan_rows.specs.Firsts.{first_of}
 use Rattle.start_rows.proofs.Starting.{firsts}
-use Rattle.ledger_start.proofs.Plans.{basis_of, few_actions}
+use Rattle.ledger_start.proofs.Plans.{few_actions}
 use Rattle.ledger_start.proofs.actions.first_actions.Goals as goal
 
 pub first_rows-requires : goal.first_rows-requires
