@@ -47,6 +47,7 @@ FORMS = {
     "copy": is_text,
     "files": is_named,
     "in": is_text,
+    "removed": is_text,
     "variables": is_named_texts,
     "call": is_words,
     "input": is_built,

@@ -1,11 +1,16 @@
-ghost use Rattle.std.specs.Prelude.{◌<◌, ◌^◌, length};
+ghost use Rattle.std.specs.Prelude.{◌≡◌, ◌<◌, ◌^◌, length, IfErr};
+ghost use Rattle.asked_project.specs.Asking.{options_asked};
+ghost use Rattle.refusals.specs.Saying.{IsSaid};
+ghost use Rattle.compose.specs.Calls.{is_conflict, is_create, is_name_used};
+ghost use Rattle.compose.specs.Ends.{IsStatusOf};
 
+use crate::ends::end;
 use crate::null_sink::NullSink;
 use compose_cli::{Ended, serial_main};
 use engine_plugs::MainPlug;
 use engine_types::{Outcome, Reply, Request};
 use outside_files::{DiskFiles, OutSink};
-use refusals::{Refusal, say_if_any, status_of};
+use refusals::Refusal;
 use std::thread;
 use std::time::Duration;
 use tree_base::limits::{BEFORE_CALL_AGAIN, MOST_CALLS_AGAIN};
@@ -29,17 +34,21 @@ pub(crate) fn status_of_calls(
     directory: &Text,
 ) -> u8
     requires { length words.now < 2 ^ 32 }
+    ensures { IfErr (options_asked words.now variables.now) (λ refusal.
+        IsStatusOf refusal result) }
 {
+    let mut err = OutSink::new(rt.stderr());
     for _ in 0..MOST_CALLS_AGAIN {
         let refusal = refusal_of_call(rt, words, variables, directory);
         if !is_name_used(&refusal) {
-            return end(rt, refusal);
+            return end(rt.alloc(), refusal, &mut err);
         }
         // By a call, since the drop of each variant of a refusal would be proved at this place.
         drop(refusal);
         thread::sleep(rt, Duration::from_millis(BEFORE_CALL_AGAIN));
     }
-    end(rt, refusal_of_call(rt, words, variables, directory))
+    let refusal = refusal_of_call(rt, words, variables, directory);
+    end(rt.alloc(), refusal, &mut err)
 }
 
 /// Makes the top call: what it is refused with. Its line is not written yet.
@@ -50,6 +59,7 @@ fn refusal_of_call(
     directory: &Text,
 ) -> Option<Refusal>
     requires { length words.now < 2 ^ 32 }
+    ensures { IfErr (options_asked words.now variables.now) (λ refusal. IsSaid refusal result) }
 {
     let mut files = DiskFiles::new(rt);
     let mut plug = MainPlug::new(rt);
@@ -77,32 +87,29 @@ fn refusal_of_call(
 }
 
 /// Whether a call is refused because the Engine answered a create that its name is used.
-fn is_name_used(refusal: &Option<Refusal>) -> bool {
+fn is_name_used(refusal: &Option<Refusal>) -> bool
+    ensures { result ≡ is_name_used refusal.now }
+{
     match refusal {
         Some(Refusal::Request { request, outcome }) => is_create(request) && is_conflict(outcome),
         _ => false,
     }
 }
 
-fn is_conflict(outcome: &Outcome) -> bool {
+fn is_conflict(outcome: &Outcome) -> bool
+    ensures { result ≡ is_conflict outcome.now }
+{
     match outcome {
         Outcome::Answered(Reply::Refused { status, .. }) => *status == CONFLICT,
         _ => false,
     }
 }
 
-fn is_create(request: &Request) -> bool {
+fn is_create(request: &Request) -> bool
+    ensures { result ≡ is_create request.now }
+{
     matches!(
         request,
         Request::Create { .. } | Request::MakeNetwork { .. } | Request::MakeVolume { .. }
     )
-}
-
-/// Writes the line of what the last call is refused with, if anything: the exit status.
-fn end(rt: &HostRuntime, refusal: Option<Refusal>) -> u8 {
-    let mut err = OutSink::new(rt.stderr());
-    let refusal = say_if_any(rt.alloc(), refusal, &mut err);
-    let status = status_of(&refusal);
-    drop(refusal);
-    status
 }

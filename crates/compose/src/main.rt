@@ -2,85 +2,70 @@
 //! the disk and the standard streams to the top call of `compose_cli`, and ends with the status that this answers.
 //! Where a create is refused because its name is used, it makes the call again a moment later. Questions about the
 //! program itself, `--help` and `--version`, it answers before.
+//!
+//! Contracts say what is taken of words, variables and a directory that are told, when there is none of these, and that
+//! the status is that of the refusal whose line is written. The process itself tells nothing: there they say nothing.
 #![tactic(auto)]
 
 mod calls;
+mod directory;
+mod ends;
+mod given;
 mod null_sink;
-mod variables;
+mod process;
 
 ghost use Rattle.std.specs.Prelude.{◌<◌, ◌^◌, length};
 
 use calls::status_of_calls;
-use compose_words::{Notice, help_text, notice_of, version_text};
-use outside_files::{OutSink, write_all};
-use std::env;
+use compose_words::notice_of;
+use directory::working_directory;
+use ends::{answer_notice, end, end_without_directory};
+use given::{variables, words};
+use outside_files::OutSink;
+use refusals::Refusal;
 use std::process::ExitCode;
-use tree_base::limits::MOST_WORDS;
-use tree_base::{List, Memory, Text};
-use variables::variables;
-
-/// The exit status where memory is wanted before the top call begins.
-const NO_MEMORY: u8 = 9;
-
-/// The exit status where the output fails.
-const NO_OUTPUT: u8 = 7;
+use tree_base::{List, Text};
 
 fn main(rt: HostRuntime) -> ExitCode {
-    match run(&rt) {
-        Ok(status) => ExitCode::from(status),
-        Err(_) => ExitCode::from(NO_MEMORY),
+    ExitCode::from(run(&rt))
+}
+
+/// Answers the words of the command line: the exit status.
+fn run(rt: &HostRuntime) -> u8 {
+    match words(rt.alloc(), rt) {
+        Ok(words) => answer(rt, &words),
+        Err(refusal) => {
+            let mut err = OutSink::new(rt.stderr());
+            end(rt.alloc(), Some(Refusal::Words(refusal)), &mut err)
+        }
     }
 }
 
-fn run(rt: &HostRuntime) -> Result<u8, Memory> {
-    let words = words(rt)?;
-    match notice_of(&words) {
-        Some(notice) => answer(rt, notice),
-        None if words.len() <= MOST_WORDS => call(rt, &words),
-        None => Err(Memory),
-    }
-}
-
-/// Writes what is asked about the program.
-fn answer(rt: &HostRuntime, notice: Notice) -> Result<u8, Memory> {
-    let text = match notice {
-        Notice::Help => help_text(rt.alloc())?,
-        Notice::Version => version_text(rt.alloc())?,
-    };
-    let mut out = OutSink::new(rt.stdout());
-    if write_all(&mut out, text.as_str().as_bytes()) {
-        Ok(0)
-    } else {
-        Ok(NO_OUTPUT)
-    }
-}
-
-/// Makes the top call, more than once where `status_of_calls` says so.
-fn call(rt: &HostRuntime, words: &List<Text>) -> Result<u8, Memory>
+/// Answers a question about the program, or makes the call.
+fn answer(rt: &HostRuntime, words: &List<Text>) -> u8
     requires { length words.now < 2 ^ 32 }
 {
-    let variables = variables(rt)?;
-    let directory = working_directory(rt)?;
-    Ok(status_of_calls(rt, words, &variables, &directory))
-}
-
-/// The words of the command line after the program's name.
-fn words(rt: &HostRuntime) -> Result<List<Text>, Memory> {
-    let alloc = rt.alloc();
-    let mut words = List::new(alloc);
-    let Ok(args) = env::args(rt) else {
-        return Err(Memory);
-    };
-    for word in args.skip(1) {
-        words.push(Text::from_string(word))?;
+    match notice_of(words) {
+        Some(notice) => {
+            let mut out = OutSink::new(rt.stdout());
+            let mut err = OutSink::new(rt.stderr());
+            answer_notice(rt.alloc(), notice, &mut out, &mut err)
+        }
+        None => call(rt, words),
     }
-    Ok(words)
 }
 
-/// The working directory: the variable `PWD`, or the root where it is unset.
-fn working_directory(rt: &HostRuntime) -> Result<Text, Memory> {
-    match env::var(rt, "PWD") {
-        Ok(directory) => Ok(Text::from_string(directory)),
-        Err(_) => Text::from_str(rt.alloc(), "/"),
+/// Makes the top call, more than once where `status_of_calls` says so; none where variables or working directory can't
+/// be had.
+fn call(rt: &HostRuntime, words: &List<Text>) -> u8
+    requires { length words.now < 2 ^ 32 }
+{
+    let mut err = OutSink::new(rt.stderr());
+    let Ok(variables) = variables(rt.alloc(), rt) else {
+        return end(rt.alloc(), Some(Refusal::Memory), &mut err);
+    };
+    match working_directory(rt.alloc(), rt, &variables) {
+        Ok(directory) => status_of_calls(rt, words, &variables, &directory),
+        Err(refusal) => end_without_directory(refusal, &mut err),
     }
 }

@@ -1,0 +1,4 @@
+pub mod Calls
+pub mod Directories
+pub mod Ends
+pub mod Given
