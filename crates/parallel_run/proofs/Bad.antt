@@ -2,6 +2,7 @@
 use Rattle.std.proofs.Common.{◌≡◌, ◌⊎◌, ℕ, ◌+◌, ◌<◌, Bool, true, false, List, [], ◌∷◌, ◌++◌, Option, None, Some, if◌then◌else◌, reverse, refl, sym, ap, ◌∙◌, subst, inl, inr, arith}
 use Rattle.std.proofs.lemmas.Bool.{ne_eqb}
 use Rattle.std.specs.Prelude.{◌==◌, option_map, slice_get}
+use Rattle.engine_types.specs.declared.Aim.{Aim}
 use Rattle.engine_types.specs.declared.Declared.{Declared}
 use Rattle.engine_types.specs.declared.Entry.{Entry}
 use Rattle.engine_types.specs.declared.Exchange.{Exchange}
@@ -22,10 +23,9 @@ use Rattle.project_run.specs.Options.{clock_begun}
 use Rattle.project_run.specs.Timing.{IsTimed, run_readings}
 use Rattle.project_run.specs.Whole.{IsCaused, task_of}
 use Rattle.project_run.specs.declared.opening.Opening.{Opening}
-use Rattle.project_run.specs.declared.options as asked
+use Rattle.engine_types.specs.declared.RunOptions.{RunOptions}
 use Rattle.run_model.specs.Ending.{is_seen_bad}
 use Rattle.run_model.specs.Logs.{GrowsBy, deadline_after}
-use Rattle.run_model.specs.Plans.{Aim}
 use Rattle.run_model.specs.Runs.{IsLeftByAll, IsRun, Task}
 use Rattle.worker_pool.specs.Crew.{EachPair}
 
@@ -40,7 +40,7 @@ never_late : (deadline : Option ℕ) (last : ℕ) → None ≡ late_by deadline 
 never_late None last = refl
 never_late (Some d) last = refl
 
-module _ (declared : Declared) (aim : Aim) (options : asked.RunOptions.RunOptions) (workers : ℕ) (observed : Observed) (clock : Clock) (before now : Telling)
+module _ (declared : Declared) (aim : Aim) (options : RunOptions) (workers : ℕ) (observed : Observed) (clock : Clock) (before now : Telling)
     (unused : before.clock ≡ new_clock) (read : clock ≡ clock_begun options.wait_seconds clock.first)
     (opens : Opens declared aim (Opening.Ended observed) (record before { clock = clock }) now) where
   abbrev bounds : RunLimits

@@ -1,5 +1,6 @@
 -- What the workers of a run leave, by the calls that it was made of.
 use Rattle.std.proofs.Common.{◌≡◌, ◌⊎◌, ℕ, List, [], ◌∷◌, Option, refl, sym, ap, ◌∙◌, subst}
+use Rattle.engine_types.specs.declared.Aim.{Aim}
 use Rattle.engine_types.specs.declared.Declared.{Declared}
 use Rattle.engine_types.specs.declared.Entry.{Entry}
 use Rattle.engine_types.specs.declared.Observed.{Observed}
@@ -15,7 +16,6 @@ use Rattle.parallel_run.specs.Together.{AreCarriedOut, IsUnbegun, IsWorkedOn}
 use Rattle.project_run.specs.Carrying.{come_to}
 use Rattle.run_model.specs.Ending.{EveryWorkerLeft}
 use Rattle.run_model.specs.Legal.{Saw}
-use Rattle.run_model.specs.Plans.{Aim}
 use Rattle.worker_pool.specs.Crew.{EachPair, HasDone}
 
 -- workers may share a ledger that was begun with what may begin

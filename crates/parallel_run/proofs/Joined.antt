@@ -2,6 +2,7 @@
 use Rattle.std.proofs.Common.{◌≡◌, ◌⊎◌, ℕ, ◌+◌, ◌<◌, ◌≤◌, Bool, true, false, List, [], ◌∷◌, ◌++◌, Option, None, Some, if◌then◌else◌, reverse, refl, sym, ap, ◌∙◌, subst, inl, inr, arith}
 use Rattle.std.proofs.lemmas.Bool.{ne_eqb}
 use Rattle.std.specs.Prelude.{◌==◌, option_map, slice_get}
+use Rattle.engine_types.specs.declared.Aim.{Aim}
 use Rattle.engine_types.specs.declared.Declared.{Declared}
 use Rattle.engine_types.specs.declared.Entry.{Entry}
 use Rattle.engine_types.specs.declared.Exchange.{Exchange}
@@ -26,17 +27,17 @@ use Rattle.parallel_run.specs.Together.{HasRun, limits_by}
 use Rattle.project_run.proofs.Joining.{seen_after}
 use Rattle.project_run.proofs.Timed.{run_timed, same_deadline}
 use Rattle.project_run.specs.Opening.{Opens}
-use Rattle.project_run.specs.Options.{basis_of, bounded, clock_begun}
+use Rattle.project_run.specs.Options.{bounded, clock_begun}
 use Rattle.project_run.specs.Timing.{IsTimed, run_readings}
 use Rattle.project_run.specs.Whole.{IsCaused, task_of}
 use Rattle.project_run.specs.declared.opening.Opening.{Opening}
-use Rattle.project_run.specs.declared.options as asked
+use Rattle.engine_types.specs.declared.RunOptions.{RunOptions}
 use Rattle.run_ends.proofs.Leaving.{left_ends}
 use Rattle.run_model.specs.Ending.{EveryWorkerLeft, IsRunOver}
 use Rattle.run_model.specs.Journals.{Setup, seen_in}
 use Rattle.run_model.specs.Legal.{IsLegal, Saw}
 use Rattle.run_model.specs.Logs.{GrowsBy, asks_unstopped, deadline_after, exchanges_of}
-use Rattle.run_model.specs.Plans.{Aim}
+use Rattle.run_model.specs.Plans.{basis_of}
 use Rattle.run_model.specs.Rolling.{run_actions}
 use Rattle.run_model.specs.Runs.{IsLeftByAll, IsRun, Task, run_exchanges, run_seen, run_setup}
 use Rattle.worker_pool.specs.Crew.{EachPair, HasDone}
@@ -58,7 +59,7 @@ first_timed deadline past old new t = record {
   late = t.late;
 }
 
-module _ (declared : Declared) (aim : Aim) (options : asked.RunOptions.RunOptions) (workers : ℕ) (limits : RunLimits) (observed : Observed) (plan : Plan) (journal : List Entry) (clock : Clock) (before mid now : Telling)
+module _ (declared : Declared) (aim : Aim) (options : RunOptions) (workers : ℕ) (limits : RunLimits) (observed : Observed) (plan : Plan) (journal : List Entry) (clock : Clock) (before mid now : Telling)
     (unused : before.clock ≡ new_clock) (read : clock ≡ clock_begun options.wait_seconds clock.first) (bound : limits ≡ bounded aim (limits_by workers options clock.first))
     (may : MayBegin declared observed plan limits)
     (opens : Opens declared aim (Opening.Planned observed plan) (record before { clock = clock }) mid)

@@ -1,6 +1,7 @@
 -- A run from how it opened on, with all its hands.
 use Rattle.std.proofs.Common.{◌≡◌, ◌⊎◌, ℕ, zero, suc, ◌+◌, ◌<◌, ◌≤◌, Bool, true, false, List, [], ◌∷◌, length, get_or, Option, None, Some, reverse, refl, sym, ap, ◌∙◌, subst, inl, inr, arith}
 use Rattle.std.specs.Prelude.{All, ◌&&◌}
+use Rattle.engine_types.specs.declared.Aim.{Aim}
 use Rattle.engine_types.specs.declared.Declared.{Declared}
 use Rattle.engine_types.specs.declared.Entry.{Entry}
 use Rattle.engine_types.specs.declared.Observed.{Observed}
@@ -23,10 +24,10 @@ use Rattle.project_run.specs.Opening.{Opens}
 use Rattle.project_run.specs.Options.{bounded}
 use Rattle.project_run.specs.Whole.{task_of}
 use Rattle.project_run.specs.declared.opening.Opening.{Opening}
-use Rattle.project_run.specs.declared.options as asked
+use Rattle.engine_types.specs.declared.RunOptions.{RunOptions}
 use Rattle.run_laws.specs.Orders.{HasSmallNumbers, NeedsDependencies}
 use Rattle.run_model.specs.Journals.{Setup}
-use Rattle.run_model.specs.Plans.{Aim, IsWhole}
+use Rattle.run_model.specs.Plans.{IsWhole}
 use Rattle.run_model.specs.Runs.{Task, run_setup}
 use Rattle.worker_pool.specs.Crew.{EachPair, HasDone}
 
@@ -53,7 +54,7 @@ may_begin_with declared aim observed plan bounds limits before now whole small a
       few_workers = let n : limits.workers ≡ bounds.workers = ap (λ (l : RunLimits). l.workers) bound in omega (arith, n, few);
     }
 
-module _ {H : Type 0} (tell : H → Telling) (declared : Declared) (aim : Aim) (options : asked.RunOptions.RunOptions) (limits : RunLimits) (hands opened : List H) (some : 0 < length hands)
+module _ {H : Type 0} (tell : H → Telling) (declared : Declared) (aim : Aim) (options : RunOptions) (limits : RunLimits) (hands opened : List H) (some : 0 < length hands)
     (unused : All (λ h. (tell h).clock ≡ new_clock) hands) where
   abbrev task_with : List H → Task
   task_with after = task_of declared aim (limits_by (length hands) options (first_reading (λ h. (tell h).clock) after))

@@ -1,5 +1,6 @@
 -- What a run of several workers leaves.
 use Rattle.std.specs.Prelude.{◌≡◌, ◌⊎◌, ℕ, List, [], ◌∷◌, length, reverse}
+use Rattle.engine_types.specs.declared.Aim.{Aim}
 use Rattle.engine_types.specs.declared.Declared.{Declared}
 use Rattle.engine_types.specs.declared.Entry.{Entry}
 use Rattle.engine_types.specs.declared.Observed.{Observed}
@@ -17,21 +18,11 @@ use Rattle.project_run.specs.Options.{bounded, clock_begun}
 use Rattle.project_run.specs.Timing.{IsTimed}
 use Rattle.project_run.specs.Whole.{IsCaused}
 use Rattle.project_run.specs.declared.opening.Opening.{Opening}
-use Rattle.project_run.specs.declared.options as asked
+use Rattle.engine_types.specs.declared.RunOptions.{RunOptions}
 use Rattle.run_model.specs.Ending.{EveryWorkerLeft}
 use Rattle.run_model.specs.Logs.{GrowsBy}
-use Rattle.run_model.specs.Plans.{Aim}
-use Rattle.run_model.specs.Runs.{IsLeftByAll, IsRun, RunOptions, Task, limits_of, run_exchanges}
+use Rattle.run_model.specs.Runs.{IsLeftByAll, IsRun, Task, limits_of, run_exchanges}
 use Rattle.worker_pool.specs.Crew.{EachPair, HasDone}
-
--- the options of a run of so many workers, in the words of runs
-abbrev pub options_of : ℕ → asked.RunOptions.RunOptions → RunOptions
-options_of workers options = record {
-  workers = workers;
-  wait = options.wait;
-  wait_seconds = options.wait_seconds;
-  stop_seconds = options.stop_seconds;
-}
 
 -- the first reading of hand 0's clock
 abbrev pub first_reading : {H : Type 0} → (H → Clock) → List H → ℕ
@@ -39,12 +30,12 @@ first_reading clock [] = 0
 first_reading clock (hand ∷ others) = (clock hand).first
 
 -- the limits of a run of so many workers, by the first reading of hand 0's clock
-abbrev pub limits_by : ℕ → asked.RunOptions.RunOptions → ℕ → RunLimits
-limits_by workers options first = limits_of (options_of workers options) first
+abbrev pub limits_by : ℕ → RunOptions → ℕ → RunLimits
+limits_by workers options first = limits_of workers options first
 
 -- the run opened with hand 0, whose clock was read first where there is to be a deadline; the other hands are as they were
 pub record OpensWith {H : Type 0} (tell : H → Telling) (declared : Declared) (aim : Aim)
-    (options : asked.RunOptions.RunOptions) (limits : RunLimits) (opening : Opening)
+    (options : RunOptions) (limits : RunLimits) (opening : Opening)
     (before after : List H) : Type 0 where
   pub first : H
   pub opened : H

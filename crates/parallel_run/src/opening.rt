@@ -2,12 +2,11 @@ ghost use Rattle.std.specs.Prelude.{◌≡◌, ◌<◌, ◌≤◌, All, length};
 ghost use Rattle.ledger_run.specs.Tellings.{telling};
 ghost use Rattle.outside_api.specs.Clock.{new_clock};
 ghost use Rattle.parallel_run.specs.Together.{OpensWith};
-ghost use Rattle.project_run.specs.Options.{aim_of};
 ghost use Rattle.run_model.specs.Plans.{IsWhole};
 
-use engine_types::{Declared, RunLimits};
+use engine_types::{Aim, Declared, RunLimits, RunOptions};
 use outside_api::Hand;
-use project_run::{Aim, Opening, RunOptions, limits_for, open};
+use project_run::{Opening, limits_for, open};
 use std::alloc::Global;
 use tree_base::List;
 
@@ -32,7 +31,7 @@ pub(crate) fn open_with<H: Hand>(
     requires whole { IsWhole declared.now }
     requires unused { All (λ h. H.clock h ≡ new_clock) hands }
     ensures { OpensWith (λ h. telling (H.log h) (H.heard h) (H.faults h) (H.clock h) (H.engine h))
-        declared.now (aim_of aim) options result.limits result.opening hands result.hands }
+        declared.now aim options result.limits result.opening hands result.hands }
 {
     let mut hands = hands.into_vec();
     let (limits, opening) = open_first(alloc, hands.as_mut_slice(), declared, aim, options);
@@ -56,7 +55,7 @@ fn open_first<H: Hand>(
     requires whole { IsWhole declared.now }
     requires unused { All (λ h. H.clock h ≡ new_clock) hands.old }
     ensures { OpensWith (λ h. telling (H.log h) (H.heard h) (H.faults h) (H.clock h) (H.engine h))
-        declared.now (aim_of aim) options result.0 result.1 hands.old hands.new }
+        declared.now aim options result.0 result.1 hands.old hands.new }
 {
     let workers = hands.len() as u32;
     let first = &mut hands[0];

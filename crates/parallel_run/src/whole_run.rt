@@ -5,7 +5,6 @@ ghost use Rattle.outside_api.specs.Accounts.{account};
 ghost use Rattle.outside_api.specs.Clock.{new_clock};
 ghost use Rattle.parallel_run.specs.Together.{LeavesTogether, first_reading, limits_by};
 ghost use Rattle.plan_core.specs.Order.{HasNoCycle};
-ghost use Rattle.project_run.specs.Options.{aim_of};
 ghost use Rattle.project_run.specs.Timing.{IsTimed};
 ghost use Rattle.project_run.specs.Whole.{IfBegun, IsCaused, IsFault, IsReport, SparesKept, task_of};
 ghost use Rattle.project_run.specs.Worlds.{EndsExact, EndsGone, MakesOnce, RollsFew, SparesAgreeing};
@@ -20,9 +19,9 @@ ghost use Rattle.world_laws.specs.OwnSpecs.{HasOwnSpecs};
 use crate::carrying::carry_out;
 use crate::opening::{Begun, open_with};
 use crate::ran_together::RanTogether;
-use engine_types::{Declared, Entry, RunFault};
+use engine_types::{Aim, Declared, Entry, RunFault, RunOptions};
 use outside_api::Hand;
-use project_run::{Aim, Opening, Ran, RunOptions, ended};
+use project_run::{Opening, Ran, ended};
 use std::alloc::Global;
 use std::sync::Wait;
 use std::thread::Threads;
@@ -63,51 +62,51 @@ pub fn run_parallel<R: Threads + Wait + Sync, H: Hand + Send>(
     requires unused { All (λ h. H.clock h ≡ new_clock) hands }
     ensures empty { result.ran.journal ≡ [] → (result.ran.fault ≡ Some Fault.Memory)
         × (result.hands ≡ hands) }
-    ensures run { IfBegun result.ran.journal (IsRun (task_of declared (aim_of aim)
+    ensures run { IfBegun result.ran.journal (IsRun (task_of declared aim
         (limits_by (length hands) options (first_reading (λ h. H.clock h) result.hands)))
         result.ran.journal) }
-    ensures left { IfBegun result.ran.journal (IsLeftByAll (task_of declared (aim_of aim)
+    ensures left { IfBegun result.ran.journal (IsLeftByAll (task_of declared aim
         (limits_by (length hands) options (first_reading (λ h. H.clock h) result.hands)))
         result.ran.journal) }
     ensures log { IfBegun result.ran.journal (EachPair (λ w before after.
-        GrowsBy (run_exchanges (task_of declared (aim_of aim)
+        GrowsBy (run_exchanges (task_of declared aim
         (limits_by (length hands) options (first_reading (λ h. H.clock h) result.hands)))
         result.ran.journal w) (H.log before) (H.log after)) 0 hands result.hands) }
-    ensures cause { EachPair (λ w before after. IsCaused (task_of declared (aim_of aim)
+    ensures cause { EachPair (λ w before after. IsCaused (task_of declared aim
         (limits_by (length hands) options (first_reading (λ h. H.clock h) result.hands)))
         result.ran.journal w (account (H.log before) (H.heard before) (H.faults before))
         (account (H.log after) (H.heard after) (H.faults after))) 0 hands result.hands }
     ensures timed { IfBegun result.ran.journal (EachPair (λ w before after.
-        IsTimed (task_of declared (aim_of aim)
+        IsTimed (task_of declared aim
         (limits_by (length hands) options (first_reading (λ h. H.clock h) result.hands)))
         result.ran.journal w (H.clock before) (H.clock after)) 0 hands result.hands) }
-    ensures fault { IfBegun result.ran.journal (IsFault (run_fault (task_of declared (aim_of aim)
+    ensures fault { IfBegun result.ran.journal (IsFault (run_fault (task_of declared aim
         (limits_by (length hands) options (first_reading (λ h. H.clock h) result.hands)))
         result.ran.journal) result.ran.fault) }
-    ensures report { IsReport (run_report (task_of declared (aim_of aim)
+    ensures report { IsReport (run_report (task_of declared aim
         (limits_by (length hands) options (first_reading (λ h. H.clock h) result.hands)))
         result.ran.journal) result.ran.fault result.ran.report }
-    ensures kept { is_up aim.purpose ≡ true → SparesKept (task_of declared (aim_of aim)
+    ensures kept { is_up aim.purpose ≡ true → SparesKept (task_of declared aim
         (limits_by (length hands) options (first_reading (λ h. H.clock h) result.hands)))
         result.ran.journal }
     ensures exact { result.ran.fault ≡ None → is_up aim.purpose ≡ true → HasOwnSpecs declared
-        → EndsExact (task_of declared (aim_of aim)
+        → EndsExact (task_of declared aim
         (limits_by (length hands) options (first_reading (λ h. H.clock h) result.hands)))
         result.ran.journal }
     ensures once { IfBegun result.ran.journal (is_up aim.purpose ≡ true → HasOwnSpecs declared
-        → MakesOnce (task_of declared (aim_of aim)
+        → MakesOnce (task_of declared aim
         (limits_by (length hands) options (first_reading (λ h. H.clock h) result.hands)))
         result.ran.journal) }
     ensures agreeing { IfBegun result.ran.journal (is_up aim.purpose ≡ true
-        → HasOwnSpecs declared → SparesAgreeing (task_of declared (aim_of aim)
+        → HasOwnSpecs declared → SparesAgreeing (task_of declared aim
         (limits_by (length hands) options (first_reading (λ h. H.clock h) result.hands)))
         result.ran.journal) }
     ensures rolls { IfBegun result.ran.journal (is_up aim.purpose ≡ true
-        → RollsFew (task_of declared (aim_of aim)
+        → RollsFew (task_of declared aim
         (limits_by (length hands) options (first_reading (λ h. H.clock h) result.hands)))
         result.ran.journal) }
     ensures gone { result.ran.fault ≡ None → is_up aim.purpose ≡ false
-        → EndsGone (task_of declared (aim_of aim)
+        → EndsGone (task_of declared aim
         (limits_by (length hands) options (first_reading (λ h. H.clock h) result.hands)))
         result.ran.journal }
 {
@@ -164,13 +163,13 @@ fn run<R: Threads + Wait + Sync, H: Hand + Send>(
     requires empty { journal.items ≡ [] }
     requires room { 1 ≤ journal.spare }
     ensures leaves { LeavesTogether (λ h. telling (H.log h) (H.heard h) (H.faults h) (H.clock h)
-        (H.engine h)) (task_of declared (aim_of aim)
+        (H.engine h)) (task_of declared aim
         (limits_by (length hands) options (first_reading (λ h. H.clock h) result.hands)))
         result.ran.journal hands result.hands }
-    ensures fault { IsFault (run_fault (task_of declared (aim_of aim)
+    ensures fault { IsFault (run_fault (task_of declared aim
         (limits_by (length hands) options (first_reading (λ h. H.clock h) result.hands)))
         result.ran.journal) result.ran.fault }
-    ensures report { IsReport (run_report (task_of declared (aim_of aim)
+    ensures report { IsReport (run_report (task_of declared aim
         (limits_by (length hands) options (first_reading (λ h. H.clock h) result.hands)))
         result.ran.journal) result.ran.fault result.ran.report }
 {
