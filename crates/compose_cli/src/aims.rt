@@ -12,7 +12,7 @@ const UNBOUND: RunOptions = RunOptions {
 };
 
 /// What a command's run is for; None for `config`, which runs nothing. No memory.
-pub(crate) fn aim_for(command: &Command) -> Option<Aim>
+pub fn aim_for(command: &Command) -> Option<Aim>
     ensures { result ≡ aim_for command.now }
 {
     match command {
@@ -39,7 +39,7 @@ pub(crate) fn aim_for(command: &Command) -> Option<Aim>
 }
 
 /// What a command's options bound of its run. No memory.
-pub(crate) fn options_for(command: &Command) -> RunOptions
+pub fn options_for(command: &Command) -> RunOptions
     ensures { result ≡ options_for command.now }
 {
     match command {

@@ -17,6 +17,10 @@ mod run;
 mod running;
 mod top;
 
+pub use aims::{aim_for, options_for};
 pub use compose_config::{ConfigEnd, config_run};
 pub use ended::Ended;
+pub use page::print_page;
+pub use reaching::{Place, place_asked};
+pub use run::{refused, write_report};
 pub use top::serial_main;

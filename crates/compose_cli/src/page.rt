@@ -14,7 +14,7 @@ use std::mem::forget;
 use tree_base::List;
 
 /// Prints the page of a project that was asked for, or nothing with `--quiet`. No hand is made.
-pub(crate) fn print_page<H, O: Sink, G: Sink>(
+pub fn print_page<H, O: Sink, G: Sink>(
     alloc: Global,
     asked: Asked,
     out: &mut O,

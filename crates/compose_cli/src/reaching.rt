@@ -10,13 +10,13 @@ use tree_base::{Env, Memory, Text};
 
 /// Where a run is: the Engine that it speaks with, and the file whose coming asks it to stop.
 #[derive(Drop)]
-pub(crate) struct Place {
-    pub(crate) target: Target,
-    pub(crate) stop_file: Option<Text>,
+pub struct Place {
+    pub target: Target,
+    pub stop_file: Option<Text>,
 }
 
-/// Where the run is that options ask for.
-pub(crate) fn place_asked(
+/// Where the run is that options ask for, whose socket is one that can be reached. Memory where there is none for the paths.
+pub fn place_asked(
     alloc: Global,
     options: &Options,
     env: &Env,

@@ -83,7 +83,7 @@ pub(crate) fn run_declared<P: Plug, O: Sink, G: Sink>(
 }
 
 /// Ends a call that made no hand: writes the line of the refusal.
-pub(crate) fn refused<H, G: Sink>(alloc: Global, refusal: Refusal, err: &mut G) -> Ended<H>
+pub fn refused<H, G: Sink>(alloc: Global, refusal: Refusal, err: &mut G) -> Ended<H>
     ensures nothing { SendsNothing result }
     ensures refusal { IsSaid refusal result.refusal }
     ensures status { result.status ≡ status_of result.refusal }
@@ -152,7 +152,7 @@ fn run_with<H: Hand, O: Sink, G: Sink>(
 }
 
 /// Writes the report; where that fails and the run went well, the refusal is a fault of the output.
-fn write_report<O: Sink>(fault: Option<RunFault>, report: &Text, out: &mut O) -> Option<Refusal>
+pub fn write_report<O: Sink>(fault: Option<RunFault>, report: &Text, out: &mut O) -> Option<Refusal>
     ensures refused { IsRefusalOf fault (O.faults out.old) (O.faults out.new) result }
     ensures origin { IsOfRun result }
     ensures written { Says report.now (O.written out.old) (O.written out.new)
