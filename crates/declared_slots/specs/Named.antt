@@ -1,5 +1,5 @@
 -- What a slot is called, what its image is and when that is pulled, and how long its stop waits (Compose Specification: services).
-use Rattle.std.specs.Prelude.{ℕ, ◌+◌, ◌/◌, Bool, if◌then◌else◌, List, [], ◌∷◌, ◌++◌, Option, Some, None, codes, decimal, is_some, unwrap_or}
+use Rattle.std.specs.Prelude.{ℕ, ◌+◌, ◌*◌, ◌/◌, Bool, if◌then◌else◌, List, [], ◌∷◌, ◌++◌, Option, Some, None, codes, decimal, is_some, unwrap_or}
 use Rattle.std.specs.Str.{bytes_eq}
 use Rattle.tree_base.specs.Limits.{usual_stop_seconds}
 use Rattle.attribute_types.specs.Lookups.{kept_at, number_at, text_at}
