@@ -8,9 +8,9 @@ use Rattle.engine_types.specs.declared.DeclaredService.{DeclaredService}
 use Rattle.engine_types.specs.declared.Need.{Need}
 use Rattle.engine_types.specs.declared.Slot.{Slot}
 use Rattle.plan_core.specs.Order.{HasNoCycle}
-use Rattle.run_laws.specs.Orders.{HasSmallNumbers, NeedsDependencies}
+use Rattle.run_laws.specs.Orders.{NeedsDependencies}
 use Rattle.run_model.specs.EngineRules.{Among}
-use Rattle.run_model.specs.Plans.{IsWhole, is_running, is_slot_before}
+use Rattle.run_model.specs.Plans.{HasSmallNumbers, IsWhole, is_running, is_slot_before}
 use Rattle.tree_base.specs.ByteOrder.{IsAscending, is_before}
 use Rattle.cases_runs.specs.Whole.{are_served, is_alone, is_ascending, is_attached, is_nil, is_owned, is_serial, is_served, some_at_a_time, stand_alone}
 

@@ -1,8 +1,8 @@
 ghost use Rattle.std.specs.Prelude.{◌≡◌, true};
 ghost use Rattle.std.specs.List.{list_all};
 ghost use Rattle.plan_core.specs.Order.{HasNoCycle};
-ghost use Rattle.run_laws.specs.Orders.{HasSmallNumbers, NeedsDependencies};
-ghost use Rattle.run_model.specs.Plans.{IsWhole, is_slot_before};
+ghost use Rattle.run_laws.specs.Orders.{NeedsDependencies};
+ghost use Rattle.run_model.specs.Plans.{HasSmallNumbers, IsWhole, is_slot_before};
 ghost use Rattle.tree_base.specs.ByteOrder.{is_before};
 ghost use Rattle.cases_runs.specs.Whole.{are_served, is_alone, is_ascending, is_attached, is_nil, is_owned, is_served, is_serial, some_at_a_time, stand_alone};
 

@@ -9,9 +9,9 @@ use Rattle.engine_types.specs.declared.Declared.{Declared}
 use Rattle.engine_types.specs.declared.Purpose.{Purpose}
 use Rattle.engine_types.specs.declared.Seen.{Seen}
 use Rattle.plan_core.specs.Order.{HasNoCycle, PlansAreOrderly}
-use Rattle.run_laws.specs.Orders.{HasSmallNumbers, NeedsDependencies, RunsAreOrderly}
+use Rattle.run_laws.specs.Orders.{NeedsDependencies, RunsAreOrderly}
 use Rattle.run_model.specs.Numbers.{places}
-use Rattle.run_model.specs.Plans.{Basis, IsOrderly, IsWhole, basis_of, is_needed_by, is_wanted, planned, possible, up_aim}
+use Rattle.run_model.specs.Plans.{Basis, HasSmallNumbers, IsOrderly, IsWhole, basis_of, is_needed_by, is_wanted, planned, possible, up_aim}
 use Rattle.run_model.specs.Rolling.{is_added, is_awaited, run_actions}
 
 abbrev pub basis_with : Declared → Seen → Aim → Basis

@@ -11,10 +11,10 @@ use Rattle.engine_types.specs.declared.Seen.{Seen}
 use Rattle.engine_types.specs.declared.SeenEnd.{SeenEnd}
 use Rattle.run_model.specs.Legal.{IsObserved}
 use Rattle.run_model.specs.Observation.{is_up}
-use Rattle.run_model.specs.Plans.{AreKeptPlaces, Basis, IsWhole, planned}
+use Rattle.run_model.specs.Plans.{AreKeptPlaces, Basis, HasSmallNumbers, IsWhole, planned}
 use Rattle.run_model.specs.Rolling.{run_actions}
 use Rattle.plan_core.specs.Order.{HasNoCycle}
-use Rattle.run_laws.specs.Orders.{HasSmallNumbers, NeedsDependencies}
+use Rattle.run_laws.specs.Orders.{NeedsDependencies}
 
 -- the actions are those of the plan
 abbrev pub AreThePlans : Basis → List Action → Type 0

@@ -25,9 +25,9 @@ use Rattle.project_run.specs.Options.{bounded}
 use Rattle.project_run.specs.Whole.{task_of}
 use Rattle.project_run.specs.declared.opening.Opening.{Opening}
 use Rattle.engine_types.specs.declared.RunOptions.{RunOptions}
-use Rattle.run_laws.specs.Orders.{HasSmallNumbers, NeedsDependencies}
+use Rattle.run_laws.specs.Orders.{NeedsDependencies}
 use Rattle.run_model.specs.Journals.{Setup}
-use Rattle.run_model.specs.Plans.{IsWhole}
+use Rattle.run_model.specs.Plans.{HasSmallNumbers, IsWhole}
 use Rattle.run_model.specs.Runs.{Task, run_setup}
 use Rattle.worker_pool.specs.Crew.{EachPair, HasDone}
 

@@ -17,10 +17,10 @@ use Rattle.project_run.specs.Opening.{Opens}
 use Rattle.project_run.specs.Options.{bounded}
 use Rattle.project_run.specs.declared.opening.Opening.{Opening}
 use Rattle.run_laws.proofs.RunOrders.{runs_are_orderly}
-use Rattle.run_laws.specs.Orders.{HasSmallNumbers, NeedsDependencies}
+use Rattle.run_laws.specs.Orders.{NeedsDependencies}
 use Rattle.run_model.proofs.RollLaws.{has_plan}
 use Rattle.run_model.specs.Observation.{is_up}
-use Rattle.run_model.specs.Plans.{Basis, HasPlan, IsOrderly, IsWhole, basis_of}
+use Rattle.run_model.specs.Plans.{Basis, HasPlan, HasSmallNumbers, IsOrderly, IsWhole, basis_of}
 use Rattle.run_model.specs.Rolling.{run_actions}
 
 -- the actions of a run of either purpose can be carried out in some order

@@ -10,7 +10,7 @@ use Rattle.engine_types.specs.declared.RunLimits.{RunLimits}
 use Rattle.ledger_run.proofs.Stepping.{exchanges_are}
 use Rattle.run_model.specs.EngineRules.{Made, Paused, Step, TellsSteps}
 use Rattle.run_model.specs.Observation.{is_up}
-use Rattle.run_model.specs.Plans.{IsWhole}
+use Rattle.run_model.specs.Plans.{HasSmallNumbers, IsWhole}
 use Rattle.run_model.specs.Runs.{IsRun, Task, run_fault, run_setup}
 use Rattle.world_laws.proofs.ExactWorlds.{exact_in_each_world}
 use Rattle.world_laws.proofs.GoneWorlds.{gone_in_each_world}
@@ -20,7 +20,6 @@ use Rattle.project_run.specs.Whole.{IfBegun, IsFault, run_steps, task_of}
 use Rattle.cut_laws.proofs.AcrossRuns.{made_once_after_runs}
 use Rattle.cut_laws.proofs.Sparing.{run_spares_agreeing}
 use Rattle.rolling_update.proofs.Counts.{rolls_at_most}
-use Rattle.run_laws.specs.Orders.{HasSmallNumbers}
 use Rattle.project_run.specs.Worlds.{EndsExact, EndsGone, GoesThrough, MakesOnce, RollsFew, SparesAgreeing}
 
 -- a hand that tells no Engine goes on so

@@ -36,7 +36,7 @@ use Rattle.project_run.specs.Timing.{IsTimed}
 use Rattle.project_run.specs.Whole.{IsCaused, Leaves, run_steps, task_of}
 use Rattle.project_run.specs.declared.opening.Opening.{Opening}
 use Rattle.run_ends.proofs.Leaving.{left_ends}
-use Rattle.run_laws.specs.Orders.{HasSmallNumbers, NeedsDependencies}
+use Rattle.run_laws.specs.Orders.{NeedsDependencies}
 use Rattle.run_model.specs.Ending.{EveryWorkerLeft, IsRunOver, first_fault, is_seen_bad}
 use Rattle.run_model.specs.EngineRules.{Step, TellsSteps, exchanges_in, unpaused}
 use Rattle.run_model.specs.Journals.{Setup, has_left, seen_in}
@@ -44,7 +44,7 @@ use Rattle.run_model.specs.Legal.{IsLegal, IsObserved, Saw, seen_end, whole_end}
 use Rattle.run_model.specs.Lines.{report_text}
 use Rattle.run_model.specs.Logs.{GrowsBy, deadline_after, exchanges_of}
 use Rattle.run_model.specs.Observation.{Asks, Ends, Onward, Strays, is_asked, observed as observed_by}
-use Rattle.run_model.specs.Plans.{IsWhole, basis_of}
+use Rattle.run_model.specs.Plans.{HasSmallNumbers, IsWhole, basis_of}
 use Rattle.run_model.specs.Rolling.{run_actions}
 use Rattle.run_model.specs.Runs.{IsLeftByAll, IsRun, Task, run_exchanges, run_fault, run_report, run_seen, run_setup}
 use Rattle.world_laws.proofs.ToldRuns.{unpaused_are}

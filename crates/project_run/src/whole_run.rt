@@ -8,11 +8,11 @@ ghost use Rattle.project_run.specs.Options.{limits_by};
 ghost use Rattle.project_run.specs.Timing.{IsTimed};
 ghost use Rattle.project_run.specs.Whole.{IfBegun, IsCaused, IsFault, IsReport, Leaves, SparesKept, run_steps, task_of};
 ghost use Rattle.project_run.specs.Worlds.{EndsExact, EndsGone, GoesThrough, MakesOnce, RollsFew, SparesAgreeing};
-ghost use Rattle.run_laws.specs.Orders.{HasSmallNumbers, NeedsDependencies};
+ghost use Rattle.run_laws.specs.Orders.{NeedsDependencies};
 ghost use Rattle.run_model.specs.EngineRules.{TellsSteps};
 ghost use Rattle.run_model.specs.Logs.{GrowsBy};
 ghost use Rattle.run_model.specs.Observation.{is_up};
-ghost use Rattle.run_model.specs.Plans.{IsWhole};
+ghost use Rattle.run_model.specs.Plans.{HasSmallNumbers, IsWhole};
 ghost use Rattle.run_model.specs.Runs.{IsLeftByAll, IsRun, run_exchanges, run_fault, run_report};
 ghost use Rattle.world_laws.specs.OwnSpecs.{HasOwnSpecs};
 

@@ -27,7 +27,7 @@ use Rattle.run_model.specs.Labels.{is_of_slot}
 use Rattle.run_model.specs.Legal.{IsLegal}
 use Rattle.run_model.specs.Numbers.{places}
 use Rattle.run_model.specs.Observation.{is_up}
-use Rattle.run_model.specs.Plans.{HasPlan, IsWhole, is_kept, is_needed_by, is_start_of, is_wanted, kind_of, slot_at, start_of}
+use Rattle.run_model.specs.Plans.{HasPlan, HasSmallNumbers, IsWhole, is_kept, is_needed_by, is_start_of, is_wanted, kind_of, slot_at, start_of}
 use Rattle.run_model.specs.Requests.{OfAction, OfPoll, OfSeen, request_of, slot_id}
 use Rattle.run_model.specs.Runs.{IsWorldOfRun, Task, run_setup}
 use Rattle.run_model.specs.Told.{IsTold, answered, is_look}
@@ -53,7 +53,6 @@ use Rattle.world_laws.proofs.Observing.{IsSeenWell, good_end, told_by}
 use Rattle.world_laws.proofs.Planning.{leaves, seen_ids}
 use Rattle.world_laws.proofs.ResourceMoves.{plan_of}
 use Rattle.rolling_update.specs.Filled.{CutRunsEmptyAtMost, EmptiesAtMost, FilledUnlessLacking, IsUndisturbed, empty_slots, has_live, is_empty}
-use Rattle.rolling_update.specs.Laws.{HasShortNumbers}
 use Rattle.rolling_update.specs.Moments.{is_stop_of, lacking, lacks, was_emptied, was_live, was_started, was_stopped}
 use Rattle.rolling_update.proofs.Claims.{IsClaimed, legal_tail, needed_well, still_well}
 use Rattle.rolling_update.proofs.Counts.{cut_runs_roll_at_most, legal_before, legal_of, rolls_at_most, starts_it}
@@ -168,7 +167,7 @@ module _ (aim : Aim) (setup : Setup) (first : Engine) (a : ℕ) (request : Reque
   held : Holds setup before old
   held = holds aim setup first moves old run
 
-  short : HasShortNumbers setup.declared
+  short : HasSmallNumbers setup.declared
   short slot m = (run.own slot m).number
 
   -- an action that another one needs had its effect before that one's
@@ -405,7 +404,7 @@ module _ (aim : Aim) (setup : Setup) (first : Engine) (moves : List Move) (now :
       let less : length (empty_slots setup now key) ≤ length (lacking setup moves key) = fewer (is_empty setup now key) (lacks setup moves key) (places setup.declared.slots) empty_lacks in
       omega (arith, less, most)
 
-short_numbers : (declared : Declared) → HasOwnSpecs declared → HasShortNumbers declared
+short_numbers : (declared : Declared) → HasOwnSpecs declared → HasSmallNumbers declared
 short_numbers declared own slot m = (own slot m).number
 
 -- a moment of a run that has begun

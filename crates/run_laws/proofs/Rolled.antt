@@ -13,13 +13,12 @@ use Rattle.engine_types.specs.declared.Slot.{Slot}
 use Rattle.tree_base.specs.declared.place.Var.{Var}
 use Rattle.run_model.specs.EngineRules.{Among, is_live, is_of_project}
 use Rattle.run_model.specs.Labels.{is_of_slot, names_service, names_slot}
-use Rattle.run_model.specs.Plans.{Basis, is_in_way, is_unstarted}
+use Rattle.run_model.specs.Plans.{Basis, HasSmallNumbers, is_in_way, is_unstarted}
 use Rattle.run_model.specs.Rolling.{has_name_of_another, has_seen, is_crossed, is_rolled, is_same_slot, roll_of, rolled_before, waits_for}
 use Rattle.run_model.proofs.PlanLaws.{some_from}
 use Rattle.plan_core.proofs.OrderlyPlans.{service_is}
 use Rattle.plan_core.proofs.SlotTexts.{number_is}
 use Rattle.plan_core.proofs.Splits.{by_cases}
-use Rattle.run_laws.specs.Orders.{HasSmallNumbers}
 
 -- what passes one test and is among the elements passes a test of any
 pub any_of : {X : Type 0} (p : X → Bool) (xs : List X) (x : X) → Among xs x → p x ≡ true → list_any p xs ≡ true

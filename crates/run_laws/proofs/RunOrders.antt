@@ -17,14 +17,14 @@ use Rattle.engine_types.specs.declared.Slot.{Slot}
 use Rattle.run_model.specs.EngineRules.{Among, is_live}
 use Rattle.run_model.specs.Labels.{is_of_slot}
 use Rattle.run_model.specs.Numbers.{places}
-use Rattle.run_model.specs.Plans.{Basis, IsOrderly, IsWhole, asks_restart, basis_of, down_aim, is_in_way, is_needed_by, is_updated, is_wanted, restarts_for, slot_at, slot_needs, up_aim}
+use Rattle.run_model.specs.Plans.{Basis, HasSmallNumbers, IsOrderly, IsWhole, asks_restart, basis_of, down_aim, is_in_way, is_needed_by, is_updated, is_wanted, restarts_for, slot_at, slot_needs, up_aim}
 use Rattle.run_model.specs.Rolling.{is_added, is_awaited, is_held_back, is_rolled, roll_of, run_actions, waits_for}
 use Rattle.run_model.proofs.DistinctLists.{among_places, at_place, from_place}
 use Rattle.run_model.proofs.PlanLaws.{some_from}
 use Rattle.plan_core.specs.Order.{HasNoCycle}
 use Rattle.plan_core.proofs.OrderlyPlans.{any_among, down_needs, rank_down, total, within_total}
 use Rattle.plan_core.proofs.Orders.{among_find, orderly}
-use Rattle.run_laws.specs.Orders.{HasSmallNumbers, NeedsDependencies, RunsAreOrderly}
+use Rattle.run_laws.specs.Orders.{NeedsDependencies, RunsAreOrderly}
 use Rattle.run_laws.proofs.Rolled.{AreOne, both_parts, in_own_way, of_one, waits}
 
 -- a place that is there

@@ -1,5 +1,5 @@
 -- When the actions of a run can be carried out in some order.
-use Rattle.std.specs.Prelude.{◌≡◌, ℕ, ◌<◌, ◌^◌, Bool, Some}
+use Rattle.std.specs.Prelude.{◌≡◌, ℕ, Bool, Some}
 use Rattle.engine_types.specs.declared.Declared.{Declared}
 use Rattle.engine_types.specs.declared.DeclaredService.{DeclaredService}
 use Rattle.engine_types.specs.declared.Need.{Need}
@@ -7,7 +7,7 @@ use Rattle.engine_types.specs.declared.Seen.{Seen}
 use Rattle.engine_types.specs.declared.Slot.{Slot}
 use Rattle.plan_core.specs.Order.{HasNoCycle}
 use Rattle.run_model.specs.EngineRules.{Among}
-use Rattle.run_model.specs.Plans.{IsOrderly, IsWhole, basis_of, down_aim, slot_at, up_aim}
+use Rattle.run_model.specs.Plans.{HasSmallNumbers, IsOrderly, IsWhole, basis_of, down_aim, slot_at, up_aim}
 use Rattle.run_model.specs.Rolling.{run_actions}
 
 -- a service by which a slot may need another one: it is the slot's, and depends on the other's
@@ -23,10 +23,6 @@ NeedsDependencies declared =
     (s : ℕ) (slot other : Slot) (need : Need) → slot_at declared s ≡ Some slot
     → Among slot.needs need
     → slot_at declared need.slot ≡ Some other → Leads declared slot other
-
--- the numbers of the slots are numbers of 32 bits
-abbrev pub HasSmallNumbers : Declared → Type 0
-HasSmallNumbers declared = (slot : Slot) → Among declared.slots slot → slot.number < 2 ^ 32
 
 -- where dependencies go in no circle, the actions of runs can be carried out in some order
 abbrev pub RunsAreOrderly : Type 0

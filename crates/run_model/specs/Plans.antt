@@ -383,6 +383,10 @@ HasServices declared =
     (slot : Slot) → Among declared.slots slot
     → list_any (λ service. bytes_eq service.key slot.service) declared.services ≡ true
 
+-- the numbers of the slots are numbers of 32 bits
+abbrev pub HasSmallNumbers : Declared → Type 0
+HasSmallNumbers declared = (slot : Slot) → Among declared.slots slot → slot.number < 2 ^ 32
+
 -- a whole declared set: slots in byte order of service, then by number, services in byte order of key, networks and volumes
 -- in byte order of name; each slot is of a declared service, attaches and needs name networks and slots that are there, no need
 -- asks for Running, and a rolling update replaces at least one slot at a time
