@@ -43,6 +43,7 @@ abbrev pub value_told : List ℕ → Option (List ℕ) → Option (List ℕ)
 value_told name (Some value) = Some value
 value_told name None = if is_subject name then Some unread else None
 
+-- the value of a variable of this name, as its bytes tell it
 abbrev pub value_given : List ℕ → List ℕ → Option (List ℕ)
 value_given name value = value_told name (text_in value)
 
@@ -58,6 +59,7 @@ with_cut variables entry None = variables
 with_cut variables entry (Some at) =
     with_value variables (text_in (take at entry)) (value_given (take at entry) (drop (at + 1) entry))
 
+-- an entry of the environment says one variable: its name stands before the first `=`
 abbrev pub with_setting : Variables → List ℕ → Variables
 with_setting variables entry = with_cut variables entry (position (λ b. b == 61) entry)
 

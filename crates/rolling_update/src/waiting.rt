@@ -58,7 +58,8 @@ fn waited_for(finder: &Finder<'_>, row: &[u64], is_rolled: bool, number: u64) ->
 
 /// The item that stands so many places before the end. No memory.
 fn item_before(row: &[u64], count: u32) -> Option<u64>
-    ensures { (t : ℕ) → (result ≡ Some t) ↔ ((count ≤ length row.now) × (slice_get row.now (length row.now - count) ≡ Some t)) }
+    ensures { (t : ℕ) → (result ≡ Some t)
+        ↔ ((count ≤ length row.now) × (slice_get row.now (length row.now - count) ≡ Some t)) }
 {
     let at = row.len().checked_sub(count as usize)?;
     item_at(row, at).copied()

@@ -135,8 +135,8 @@ impl<Q: Serial> Turns<Q> {
         requires may { Q.allows (Q.origin self.now.object) seat.old.view.number
             (own Q.by seat.old.view.number (Q.journal self.now.object) ++ seat.old.view.mine) call }
         ensures own { IsOf self.now seat.new }
-        ensures acts { Acts Q.journal Q.origin Q.by Q.gives self.now.object seat.old.view call result
-            seat.new.view }
+        ensures acts { Acts Q.journal Q.origin Q.by Q.gives self.now.object
+            seat.old.view call result seat.new.view }
     {
         let table = &self.table.shared;
         let number = seat.number;
