@@ -48,7 +48,8 @@ impl MemoryClock {
     /// Counts a look whether to stop, and its answer. No memory.
     pub fn look(&mut self, answer: bool)
         requires { self.old.counts.looks < 2 ^ 62 }
-        ensures counts { counts_of self.new.counts ≡ after_asked (counts_of self.old.counts) answer }
+        ensures counts { counts_of self.new.counts
+            ≡ after_asked (counts_of self.old.counts) answer }
         ensures time { self.new.time ≡ self.old.time }
     {
         self.counts.look(answer);
