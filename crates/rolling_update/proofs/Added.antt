@@ -20,7 +20,7 @@ use Rattle.run_model.proofs.PlanLaws.{some_from}
 use Rattle.plan_core.specs.Keeping.{is_slots_at}
 use Rattle.plan_core.proofs.Loops.{filter-none, slice_get-map}
 use Rattle.world_laws.proofs.ActionRequests.{map_from}
-use Rattle.rolling_update.specs.Needs.{AreAdded, AreWaited, Given, Scene, basis_of, is_added_at, is_rolled_at, kinds_in, owns, starts_at, starts_before, starts_of, stops_at, stops_its, stops_of, waits_at}
+use Rattle.rolling_update.specs.Needs.{AreAdded, AreWaited, Given, Scene, is_added_at, is_rolled_at, kinds_in, owns, rolled_basis, starts_at, starts_before, starts_of, stops_at, stops_its, stops_of, waits_at}
 use Rattle.rolling_update.proofs.Found.{same_tests}
 
 module _ (given : Given) where
@@ -28,7 +28,7 @@ module _ (given : Given) where
   scene = given.scene
 
   abbrev basis : Basis
-  basis = basis_of given
+  basis = rolled_basis given
 
   abbrev kinds : List ActionKind
   kinds = kinds_in given.actions
@@ -181,6 +181,6 @@ pub by_stops : {E : Type 0} (given : Given) (s : ℕ) (slot : Slot) (result : Re
     → filter (stops_at given slot) found ≡ stops_of given slot → IfOk result (λ stops. stops.items ≡ filter (stops_at given slot) found)
     → IfOk result (λ stops. AreAdded given (StartSlot s) stops.items)
 by_stops given s slot (Ok stops) found is passes all e =
-    let rolled : is_rolled (basis_of given) slot ≡ true = sym (ap (λ (o : Option Slot). option_map_or (is_rolled (basis_of given)) o false) is) ∙ passes in
+    let rolled : is_rolled (rolled_basis given) slot ≡ true = sym (ap (λ (o : Option Slot). option_map_or (is_rolled (rolled_basis given)) o false) is) ∙ passes in
     subst (λ (ns : List ℕ). AreAdded given (StartSlot s) ns) (sym (e ∙ all)) (stops_added given s slot is rolled)
 by_stops given s slot (Err x) found is passes all e = tt

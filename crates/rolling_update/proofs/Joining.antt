@@ -24,7 +24,7 @@ use Rattle.run_model.proofs.KeptLaws.{any_of_list}
 use Rattle.run_model.proofs.PlanLaws.{some_from}
 use Rattle.plan_core.proofs.Loops.{slice_get-map}
 use Rattle.plan_core.proofs.Rising.{all_that_pass, among_contains, contains_among, rises_from}
-use Rattle.rolling_update.specs.Needs.{AreAdded, Given, HasNeeds, Scene, awaiting, basis_of, is_added_at, kinds_in, needing, rolling}
+use Rattle.rolling_update.specs.Needs.{AreAdded, Given, HasNeeds, Scene, awaiting, is_added_at, kinds_in, needing, rolled_basis, rolling}
 
 -- what is needed doesn't depend on whether orphans go
 needed_same : (scene : Scene) (orphans : Bool) (kind other : ActionKind) → is_needed_by (basis_of scene.declared scene.seen (up_aim orphans)) kind other ≡ is_needed_by (rolling scene) kind other
@@ -87,17 +87,17 @@ module _ (given : Given) (orphans : Bool) (is : given.actions ≡ planned (basis
   kinds_are : kinds_in given.actions ≡ kinds
   kinds_are = ap kinds_in is ∙ map_itself by_plan (λ (action : Action). action.kind) kinds (λ kind. refl)
 
-  needed_is : (kind : ActionKind) → needed_by (basis_of given) (kinds_in given.actions) kind ≡ needed_by up kinds kind
+  needed_is : (kind : ActionKind) → needed_by (rolled_basis given) (kinds_in given.actions) kind ≡ needed_by up kinds kind
   needed_is kind =
-      ap (λ (ks : List ActionKind). needed_by (basis_of given) ks kind) kinds_are
-      ∙ same_filter (λ (b : ℕ). option_map_or (is_needed_by (basis_of given) kind) (slice_get kinds b) false) (λ (b : ℕ). option_map_or (is_needed_by up kind) (slice_get kinds b) false) (places kinds)
-      (λ b. same_at (is_needed_by (basis_of given) kind) (is_needed_by up kind) (slice_get kinds b) (λ other. sym (needed_same given.scene orphans kind other)))
+      ap (λ (ks : List ActionKind). needed_by (rolled_basis given) ks kind) kinds_are
+      ∙ same_filter (λ (b : ℕ). option_map_or (is_needed_by (rolled_basis given) kind) (slice_get kinds b) false) (λ (b : ℕ). option_map_or (is_needed_by up kind) (slice_get kinds b) false) (places kinds)
+      (λ b. same_at (is_needed_by (rolled_basis given) kind) (is_needed_by up kind) (slice_get kinds b) (λ other. sym (needed_same given.scene orphans kind other)))
 
-  awaited_is : (kind : ActionKind) → awaited_by (basis_of given) (kinds_in given.actions) kind ≡ awaited_by up kinds kind
+  awaited_is : (kind : ActionKind) → awaited_by (rolled_basis given) (kinds_in given.actions) kind ≡ awaited_by up kinds kind
   awaited_is kind =
-      ap (λ (ks : List ActionKind). awaited_by (basis_of given) ks kind) kinds_are
-      ∙ same_filter (λ (b : ℕ). option_map_or (is_awaited (basis_of given) kind) (slice_get kinds b) false) (λ (b : ℕ). option_map_or (is_awaited up kind) (slice_get kinds b) false) (places kinds)
-      (λ b. same_at (is_awaited (basis_of given) kind) (is_awaited up kind) (slice_get kinds b) (λ other. sym (awaited_same given.scene orphans kind other)))
+      ap (λ (ks : List ActionKind). awaited_by (rolled_basis given) ks kind) kinds_are
+      ∙ same_filter (λ (b : ℕ). option_map_or (is_awaited (rolled_basis given) kind) (slice_get kinds b) false) (λ (b : ℕ). option_map_or (is_awaited up kind) (slice_get kinds b) false) (places kinds)
+      (λ b. same_at (is_awaited (rolled_basis given) kind) (is_awaited up kind) (slice_get kinds b) (λ other. sym (awaited_same given.scene orphans kind other)))
 
   -- a plan's actions have their needs by the plan
   pub has_needs : HasNeeds given
@@ -113,7 +113,7 @@ module _ (given : Given) (orphans : Bool) (is : given.actions ≡ planned (basis
 
 module _ (given : Given) (kind : ActionKind) where
   abbrev basis : Basis
-  basis = basis_of given
+  basis = rolled_basis given
 
   abbrev all : List ActionKind
   all = kinds_in given.actions
@@ -194,7 +194,7 @@ joined_holds needs added items sorted left put moved is b = (down, up)
 
 -- an action of a plan needs what it needs by the plan
 pub needs_here : (given : Given) (i : ℕ) (action : Action) → HasNeeds given → i < length given.actions → action ≡ get_or given.actions i action
-    → action.needs ≡ needed_by (basis_of given) (kinds_in given.actions) action.kind
+    → action.needs ≡ needed_by (rolled_basis given) (kinds_in given.actions) action.kind
 needs_here given i action has within is =
     let here : slice_get given.actions i ≡ Some action = slice_get-get_or given.actions i action within ∙ ap Some (sym is) in
     let there : Some action ≡ Some (needing given action) = sym here ∙ ap (λ (xs : List Action). slice_get xs i) has ∙ slice_get-map (needing given) given.actions i

@@ -45,27 +45,27 @@ pub record Given : Type 0 where
   pub actions : List Action
 
 -- what the rolling update of actions is of
-abbrev pub basis_of : Given → Basis
-basis_of given = rolling given.scene
+abbrev pub rolled_basis : Given → Basis
+rolled_basis given = rolling given.scene
 
 -- the numbers of these are those of the actions that a rolling update makes this kind of action need
 abbrev pub AreAdded : Given → ActionKind → List ℕ → Type 0
 AreAdded given kind numbers =
     (b : ℕ)
-    → Among numbers b ↔ (is_added_at (basis_of given) (kinds_in given.actions) kind b ≡ true)
+    → Among numbers b ↔ (is_added_at (rolled_basis given) (kinds_in given.actions) kind b ≡ true)
 
 -- an action with what it needs by the plan
 abbrev pub needing : Given → Action → Action
 needing given action = record {
   kind = action.kind;
-  needs = needed_by (basis_of given) (kinds_in given.actions) action.kind;
+  needs = needed_by (rolled_basis given) (kinds_in given.actions) action.kind;
 }
 
 -- an action with what it needs in a run
 abbrev pub awaiting : Given → Action → Action
 awaiting given action = record {
   kind = action.kind;
-  needs = awaited_by (basis_of given) (kinds_in given.actions) action.kind;
+  needs = awaited_by (rolled_basis given) (kinds_in given.actions) action.kind;
 }
 
 -- each of the actions has its needs by the plan
@@ -147,5 +147,5 @@ owns scene c s =
 -- the places of the actions that the stop of a slot's kept container is made to need
 abbrev pub starts_before : Given → ℕ → List ℕ
 starts_before given s =
-    filter (is_added_at (basis_of given) (kinds_in given.actions) (StopKept s))
+    filter (is_added_at (rolled_basis given) (kinds_in given.actions) (StopKept s))
     (places given.actions)

@@ -3,7 +3,7 @@
 ghost use Rattle.std.specs.Prelude.{◌≡◌, ◌↔◌, ◌⊎◌, ◌++◌, Bool, ℕ, IfOk, is_some, map};
 ghost use Rattle.std.specs.List.{list_any};
 ghost use Rattle.std.specs.List.Sorted.{IsStrictlyIncreasing};
-ghost use Rattle.rolling_update.specs.Needs.{HasNeeds, IsUpPlan, awaiting, basis_of, kinds_in};
+ghost use Rattle.rolling_update.specs.Needs.{HasNeeds, IsUpPlan, awaiting, kinds_in, rolled_basis};
 ghost use Rattle.run_model.specs.EngineRules.{Among};
 ghost use Rattle.run_model.specs.Plans.{IsWhole, basis_of, needed_by, planned, up_aim};
 ghost use Rattle.run_model.specs.Rolling.{awaited_by, run_actions};
@@ -90,9 +90,9 @@ fn all_rolled(alloc: Global, table: &Table<'_>, actions: &[Action]) -> Result<Li
 /// What an action needs in a run.
 fn needs_of(alloc: Global, table: &Table<'_>, action: &Action) -> Result<List<u32>, Memory>
     requires { action.now.needs
-        ≡ needed_by (basis_of table.now) (kinds_in table.now.actions) action.now.kind }
+        ≡ needed_by (rolled_basis table.now) (kinds_in table.now.actions) action.now.kind }
     ensures { IfOk result (λ needs. needs
-        ≡ awaited_by (basis_of table.now) (kinds_in table.now.actions) action.now.kind) }
+        ≡ awaited_by (rolled_basis table.now) (kinds_in table.now.actions) action.now.kind) }
 {
     let added = table.added(alloc, action.kind)?;
     let needs = joined(alloc, action.needs.as_slice(), added.as_slice())?;
