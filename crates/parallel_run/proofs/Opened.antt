@@ -29,6 +29,7 @@ use Rattle.run_laws.specs.Orders.{NeedsDependencies}
 use Rattle.run_model.specs.Journals.{Setup}
 use Rattle.run_model.specs.Plans.{HasSmallNumbers, IsWhole}
 use Rattle.run_model.specs.Runs.{Task, run_setup}
+use Rattle.tree_base.specs.Limits.{most_workers}
 use Rattle.worker_pool.specs.Crew.{EachPair, HasDone}
 
 -- the same limits for one worker
@@ -38,7 +39,7 @@ alone limits = record limits { workers = 1 }
 -- a run may begin that opened so, with 1 to 16 workers
 pub may_begin_with : (declared : Declared) (aim : Aim) (observed : Observed) (plan : Plan) (bounds limits : RunLimits) (before now : Telling)
     → IsWhole declared → HasSmallNumbers declared → HasNoCycle declared → NeedsDependencies declared → Opens declared aim (Opening.Planned observed plan) before now
-    → 0 < bounds.workers → bounds.workers ≤ 16 → limits ≡ bounded aim bounds → MayBegin declared observed plan limits
+    → 0 < bounds.workers → bounds.workers ≤ most_workers → limits ≡ bounded aim bounds → MayBegin declared observed plan limits
 may_begin_with declared aim observed plan bounds limits before now whole small acyclic needs opens some few bound =
     let one = may_begin declared aim observed plan (alone bounds) (alone limits) before now whole small acyclic needs opens refl (ap alone bound) in record {
       aim = one.aim;
@@ -73,7 +74,7 @@ module _ {H : Type 0} (tell : H → Telling) (declared : Declared) (aim : Aim) (
       fresh = subst (λ (hs : List H). All (λ h. (tell h).clock ≡ new_clock) hs) o.were unused 0 o.first (omega arith)
 
   -- a run that opened with a plan
-  module _ (observed : Observed) (plan : Plan) (whole : IsWhole declared) (small : HasSmallNumbers declared) (acyclic : HasNoCycle declared) (needs : NeedsDependencies declared) (few : length hands ≤ 16)
+  module _ (observed : Observed) (plan : Plan) (whole : IsWhole declared) (small : HasSmallNumbers declared) (acyclic : HasNoCycle declared) (needs : NeedsDependencies declared) (few : length hands ≤ most_workers)
       (o : OpensWith tell declared aim options limits (Opening.Planned observed plan) hands opened) where
     fresh : (tell o.first).clock ≡ new_clock
     fresh = subst (λ (hs : List H). All (λ h. (tell h).clock ≡ new_clock) hs) o.were unused 0 o.first (omega arith)

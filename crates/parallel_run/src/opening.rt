@@ -3,6 +3,7 @@ ghost use Rattle.ledger_run.specs.Tellings.{telling};
 ghost use Rattle.outside_api.specs.Clock.{new_clock};
 ghost use Rattle.parallel_run.specs.Together.{OpensWith};
 ghost use Rattle.run_model.specs.Plans.{IsWhole};
+ghost use Rattle.tree_base.specs.Limits.{most_workers};
 
 use engine_types::{Aim, Declared, RunLimits, RunOptions};
 use outside_api::Hand;
@@ -27,7 +28,7 @@ pub(crate) fn open_with<H: Hand>(
     options: RunOptions,
 ) -> Begun<H>
     requires some { 0 < length hands }
-    requires few { length hands ≤ 16 }
+    requires few { length hands ≤ most_workers }
     requires whole { IsWhole declared.now }
     requires unused { All (λ h. H.clock h ≡ new_clock) hands }
     ensures { OpensWith (λ h. telling (H.log h) (H.heard h) (H.faults h) (H.clock h) (H.engine h))
@@ -51,7 +52,7 @@ fn open_first<H: Hand>(
     options: RunOptions,
 ) -> (RunLimits, Opening)
     requires some { 0 < length hands.old }
-    requires few { length hands.old ≤ 16 }
+    requires few { length hands.old ≤ most_workers }
     requires whole { IsWhole declared.now }
     requires unused { All (λ h. H.clock h ≡ new_clock) hands.old }
     ensures { OpensWith (λ h. telling (H.log h) (H.heard h) (H.faults h) (H.clock h) (H.engine h))

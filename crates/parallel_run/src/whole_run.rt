@@ -13,6 +13,7 @@ ghost use Rattle.run_model.specs.Logs.{GrowsBy};
 ghost use Rattle.run_model.specs.Observation.{is_up};
 ghost use Rattle.run_model.specs.Plans.{HasSmallNumbers, IsWhole};
 ghost use Rattle.run_model.specs.Runs.{IsLeftByAll, IsRun, run_exchanges, run_fault, run_report};
+ghost use Rattle.tree_base.specs.Limits.{most_workers};
 ghost use Rattle.worker_pool.specs.Crew.{EachPair};
 ghost use Rattle.world_laws.specs.OwnSpecs.{HasOwnSpecs};
 
@@ -54,7 +55,7 @@ pub fn run_parallel<R: Threads + Wait + Sync, H: Hand + Send>(
     options: RunOptions,
 ) -> RanTogether<H>
     requires some { 0 < length hands }
-    requires few { length hands ≤ 16 }
+    requires few { length hands ≤ most_workers }
     requires whole { IsWhole declared }
     requires small { HasSmallNumbers declared }
     requires acyclic { HasNoCycle declared }
@@ -154,7 +155,7 @@ fn run<R: Threads + Wait + Sync, H: Hand + Send>(
     journal: ReservedList<Entry>,
 ) -> RanTogether<H>
     requires some { 0 < length hands }
-    requires few { length hands ≤ 16 }
+    requires few { length hands ≤ most_workers }
     requires whole { IsWhole declared }
     requires small { HasSmallNumbers declared }
     requires acyclic { HasNoCycle declared }
