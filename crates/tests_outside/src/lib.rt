@@ -1,5 +1,5 @@
-//! Tests of what cases can't say as data: the files of the disk, a stream, a wire over a socket, and the plug of the program. The
-//! crate gives out nothing.
+//! Tests of what cases can't say as data: the files of the disk, a stream, a wire over a socket, the plug of the program, and
+//! hands in threads of their own. The crate gives out nothing.
 #![tactic(auto)]
 
 #[cfg(test)]
@@ -10,3 +10,5 @@ mod plugs;
 mod sockets;
 #[cfg(test)]
 mod streams;
+#[cfg(test)]
+mod threads;
