@@ -1,2 +1,3 @@
 pub mod Outcomes
 pub mod SharedHands
+pub mod SharedPlugs

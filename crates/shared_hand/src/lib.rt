@@ -7,10 +7,14 @@
 //! reply is one that an Engine in memory gives to that request, or memory was wanted: nothing is lost or left unsent, and no fault
 //! is counted. The hand stays with its lock. What lies under that isn't told, so no clause says that the replies of several hands are
 //! those of one Engine. The calls of a hand may wait for the lock, and a pause lets other threads go on.
+//!
+//! A `SharedPlug` makes such hands for one Engine, which it gives back where none of them is left.
 #![tactic(auto)]
 
 mod shared_engine;
 mod shared_hand;
+mod shared_plug;
 
 pub use shared_engine::SharedEngine;
 pub use shared_hand::SharedHand;
+pub use shared_plug::SharedPlug;

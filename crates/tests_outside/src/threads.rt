@@ -1,14 +1,13 @@
 //! Hands that share an Engine in memory, each in a thread of its own.
 
-ghost use Rattle.std.specs.Prelude.{◌≡◌};
+ghost use Rattle.std.specs.Prelude.{◌≡◌, ◌+◌, Some, IfSome};
 ghost use Rattle.outside_api.specs.Clock.{new_clock};
 
 use engine_types::{ContainerSpec, Outcome, Reply, Request};
 use memory_engine::MemoryEngine;
-use outside_api::Hand;
-use shared_hand::{SharedEngine, SharedHand};
+use outside_api::{DialAnswer, Hand, Plug, Target};
+use shared_hand::SharedPlug;
 use std::alloc::Global;
-use std::sync::{Arc, Mutex};
 use std::test::Fail;
 use std::thread;
 use tree_base::{Boxed, Memory, Text};
@@ -56,15 +55,28 @@ fn work<H: Hand>(
     Ok((first, second))
 }
 
+/// The hand of the worker with a number, where the plug made those of the workers before.
+fn hand_of<P: Plug>(alloc: Global, plug: &mut P, number: u32) -> Option<P::Hand>
+    requires { P.dialled plug.old ≡ Some number }
+    ensures dialled { IfSome result (λ _. P.dialled plug.new ≡ Some (number + 1)) }
+    ensures clock { IfSome result (λ hand. P.Hand.clock hand ≡ new_clock) }
+{
+    match plug.dial(alloc, &Target::InMemory, None, number) {
+        DialAnswer::Dialled(hand) => Some(hand),
+        DialAnswer::Failed | DialAnswer::Memory => None,
+    }
+}
+
 #[test]
 fn two_threads_speak_with_one_engine(rt: HostRuntime) -> Result<(), Fail> {
     let alloc = rt.alloc();
     let mut engine = MemoryEngine::fresh(alloc)?;
     engine.faults.asked_from = Some(4);
-    let shared = Arc::new(alloc, Mutex::new(SharedEngine::new(engine)))?;
-    let one = SharedHand::new(alloc, &rt, Arc::try_clone(&shared)?);
-    let two = SharedHand::new(alloc, &rt, Arc::try_clone(&shared)?);
-    let mut three = SharedHand::new(alloc, &rt, Arc::try_clone(&shared)?);
+    let mut plug = SharedPlug::new(alloc, &rt, engine, 3)?;
+    let one = hand_of(alloc, &mut plug, 0).expect(&rt, "a first hand");
+    let two = hand_of(alloc, &mut plug, 1).expect(&rt, "a second hand");
+    let mut three = hand_of(alloc, &mut plug, 2).expect(&rt, "a third hand");
+    assert!(rt; hand_of(alloc, &mut plug, 3).is_none(), "and no more");
     assert!(rt; !three.asked(), "before the exchanges");
     let (first, second) = thread::join(
         &rt,
@@ -75,17 +87,23 @@ fn two_threads_speak_with_one_engine(rt: HostRuntime) -> Result<(), Fail> {
     assert_eq!(rt; second?, ("pulled", "made"));
     assert!(rt; three.asked(), "after them");
     assert_eq!(rt; three.now(), 2 * u64::from(PAUSE));
-    let held = shared.lock(&rt);
-    assert_eq!(rt; held.engine.made, 4);
-    assert_eq!(rt; held.engine.engine.containers.len(), 2);
-    assert!(rt; is_named(&held, "web"));
-    assert!(rt; is_named(&held, "db"));
+    let Err(plug) = plug.into_engine() else {
+        panic!(rt; "a hand is left");
+    };
+    drop(three);
+    let Ok(engine) = plug.into_engine() else {
+        panic!(rt; "no hand is left");
+    };
+    assert_eq!(rt; engine.made, 4);
+    assert_eq!(rt; engine.engine.containers.len(), 2);
+    assert!(rt; is_named(&engine, "web"));
+    assert!(rt; is_named(&engine, "db"));
     Ok(())
 }
 
 /// Whether a container has this name.
-fn is_named(held: &SharedEngine, name: &str) -> bool {
-    held.engine
+fn is_named(engine: &MemoryEngine, name: &str) -> bool {
+    engine
         .engine
         .containers
         .as_slice()

@@ -1,0 +1,121 @@
+ghost use Rattle.std.specs.Prelude.{◌≡◌, ◌↔◌, ◌<◌, ◌≤◌, [], Some, None, IfErr, IfOk};
+ghost use Rattle.outside_api.specs.Clock.{new_clock};
+ghost use Rattle.outside_api.specs.Plugs.{CountsDial};
+ghost use Rattle.outside_files.specs.Counts.{Rose};
+ghost use Rattle.tree_base.specs.Limits.{most_workers};
+
+use crate::shared_engine::SharedEngine;
+use crate::shared_hand::SharedHand;
+use memory_engine::MemoryEngine;
+use outside_api::{DialAnswer, Hand, Plug, Target};
+use std::alloc::Global;
+use std::sync::{Arc, Mutex, Wait};
+use tree_base::{Memory, Text};
+
+/// A plug of hands that share one Engine in memory. It makes as many hands as it was told, whatever their target; a further dial
+/// fails. It tells no Engine, since each of the hands may change it.
+#[derive(Drop)]
+pub struct SharedPlug<'r, R> {
+    rt: &'r R,
+    pub shared: Arc<Mutex<SharedEngine>>,
+    hands: u32,
+    dialled: u32,
+    failed: u64,
+}
+
+impl<'r, R> SharedPlug<'r, R> {
+    ghost use Rattle.shared_hand.specs.SharedPlugs.{dialled_of, faults_of, hands_of};
+
+    /// A plug of 1 to 16 hands for this Engine, whose hands' clock stands at 0.
+    pub fn new(
+        alloc: Global,
+        rt: &'r R,
+        engine: MemoryEngine,
+        hands: u32,
+    ) -> Result<SharedPlug<'r, R>, Memory>
+        requires some { 0 < hands }
+        requires few { hands ≤ most_workers }
+        ensures hands { IfOk result (λ plug. hands_of plug ≡ hands) }
+        ensures dialled { IfOk result (λ plug. dialled_of plug ≡ 0) }
+        ensures faults { IfOk result (λ plug. faults_of plug ≡ 0) }
+    {
+        let shared = Arc::new(alloc, Mutex::new(SharedEngine::new(engine)))?;
+        Ok(SharedPlug {
+            rt,
+            shared,
+            hands,
+            dialled: 0,
+            failed: 0,
+        })
+    }
+
+    /// The Engine, where none of the hands is left; else the plug as it was. No memory.
+    pub fn into_engine(self) -> Result<MemoryEngine, SharedPlug<'r, R>>
+        ensures { IfErr result (λ plug. plug ≡ self.entry) }
+    {
+        let SharedPlug {
+            rt,
+            shared,
+            hands,
+            dialled,
+            failed,
+        } = self;
+        match Arc::try_unwrap(shared) {
+            Ok(alone) => Ok(alone.into_inner().engine),
+            Err(shared) => Err(SharedPlug {
+                rt,
+                shared,
+                hands,
+                dialled,
+                failed,
+            }),
+        }
+    }
+}
+
+impl<'r, R: Wait + Sync> Plug for SharedPlug<'r, R> {
+    type Hand = SharedHand<'r, R>;
+
+    ghost use Rattle.shared_hand.specs.SharedPlugs.{dialled_of, faults_of, hands_of};
+    ghost use Rattle.shared_hand.specs.SharedHands.{clock_of, log_of};
+
+    ghost engine = { λ _. None };
+
+    ghost dialled = { λ plug. Some plug.dialled };
+
+    ghost faults = { λ plug. plug.failed };
+
+    /// Makes a hand, as long as fewer than it was told were made. No memory.
+    fn dial(
+        &mut self,
+        alloc: Global,
+        _target: &Target,
+        _stop_file: Option<&Text>,
+        _number: u32,
+    ) -> DialAnswer<SharedHand<'r, R>>
+        ensures counted { faults_of self.old ≤ faults_of self.new }
+        ensures failed { result ≡ DialAnswer.Failed
+            → Rose (faults_of self.old) (faults_of self.new) }
+        ensures exact { (result ≡ DialAnswer.Failed)
+            ↔ (hands_of self.old ≤ dialled_of self.old) }
+        ensures dialled { CountsDial (Some (dialled_of self.old)) (Some (dialled_of self.new))
+            result }
+        ensures log { (hand : _) → result ≡ DialAnswer.Dialled hand → log_of hand ≡ [] }
+        ensures clock { (hand : _) → result ≡ DialAnswer.Dialled hand
+            → clock_of hand ≡ new_clock }
+        ensures hands { hands_of self.new ≡ hands_of self.old }
+        ensures shared { self.new.shared ≡ self.old.shared }
+    {
+        if self.dialled >= self.hands {
+            self.failed = self.failed.saturating_add(1);
+            return DialAnswer::Failed;
+        }
+        match Arc::try_clone(&self.shared) {
+            Ok(shared) => {
+                self.dialled += 1;
+                DialAnswer::Dialled(SharedHand::new(alloc, self.rt, shared))
+            }
+            Err(_) => DialAnswer::Memory,
+        }
+    }
+}
