@@ -1,0 +1,3 @@
+pub mod Dials
+pub mod Ran
+pub mod Workers

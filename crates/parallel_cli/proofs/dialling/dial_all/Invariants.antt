@@ -1,0 +1,16 @@
+-- So many hands were dialled.
+use Rattle.std.proofs.Common.{◌≡◌, ◌≤◌, length}
+use Rattle.std.specs.Prelude.{vec_capacity}
+use Rattle.compose_cli.specs.Ends.{CountsHands}
+use Rattle.ledger_run.specs.Tellings.{telling}
+use Rattle.parallel_cli.specs.Hands.{AreNew}
+use Rattle.parallel_cli.proofs.dialling.dial_all.Given as goal
+
+abbrev pub invariant-loop-number : goal.invariant-loop-number
+invariant-loop-number g l = record {
+  count : length l.hands.items ≡ l.number;
+  made : AreNew (λ h. telling (g.P.Hand.Hand.log h) (g.P.Hand.Hand.heard h) (g.P.Hand.Hand.faults h) (g.P.Hand.Hand.clock h) (g.P.Hand.Hand.engine h)) l.hands.items;
+  dialled : CountsHands (g.P.Plug.dialled l.initial.plug) (g.P.Plug.dialled l.plug) (length l.hands.items);
+  counted : g.P.Plug.faults l.initial.plug ≤ g.P.Plug.faults l.plug;
+  room : l.workers ≤ vec_capacity l.hands;
+}
