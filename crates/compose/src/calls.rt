@@ -6,12 +6,15 @@ ghost use Rattle.compose.specs.Ends.{IsStatusOf};
 
 use crate::ends::end;
 use crate::null_sink::NullSink;
-use compose_cli::{Ended, serial_main};
+use compose_cli::Ended;
 use engine_plugs::MainPlug;
 use engine_types::{Outcome, Reply, Request};
 use outside_files::{DiskFiles, OutSink};
+use parallel_cli::compose_main;
 use refusals::Refusal;
+use std::sync::Wait;
 use std::thread;
+use std::thread::Threads;
 use std::time::Duration;
 use tree_base::limits::{BEFORE_CALL_AGAIN, MOST_CALLS_AGAIN};
 use tree_base::{Env, List, Text};
@@ -27,8 +30,9 @@ const CONFLICT: u16 = 409;
 /// reads the files anew, writes its own report, and counts its deadline from its own begin. A stop file that comes
 /// between two calls stops the run of the later one. With an Engine in memory no name is used, since each call has a
 /// fresh one.
-pub(crate) fn status_of_calls(
-    rt: &HostRuntime,
+pub(crate) fn status_of_calls<R: Threads + Wait + Sync>(
+    host: &HostRuntime,
+    rt: &R,
     words: &List<Text>,
     variables: &Env,
     directory: &Text,
@@ -37,23 +41,24 @@ pub(crate) fn status_of_calls(
     ensures { IfErr (options_asked words.now variables.now) (λ refusal.
         IsStatusOf refusal result) }
 {
-    let mut err = OutSink::new(rt.stderr());
+    let mut err = OutSink::new(host.stderr());
     for _ in 0..MOST_CALLS_AGAIN {
-        let refusal = refusal_of_call(rt, words, variables, directory);
+        let refusal = refusal_of_call(host, rt, words, variables, directory);
         if !is_name_used(&refusal) {
-            return end(rt.alloc(), refusal, &mut err);
+            return end(host.alloc(), refusal, &mut err);
         }
         // By a call, since the drop of each variant of a refusal would be proved at this place.
         drop(refusal);
-        thread::sleep(rt, Duration::from_millis(BEFORE_CALL_AGAIN));
+        thread::sleep(host, Duration::from_millis(BEFORE_CALL_AGAIN));
     }
-    let refusal = refusal_of_call(rt, words, variables, directory);
-    end(rt.alloc(), refusal, &mut err)
+    let refusal = refusal_of_call(host, rt, words, variables, directory);
+    end(host.alloc(), refusal, &mut err)
 }
 
 /// Makes the top call: what it is refused with. Its line is not written yet.
-fn refusal_of_call(
-    rt: &HostRuntime,
+fn refusal_of_call<R: Threads + Wait + Sync>(
+    host: &HostRuntime,
+    rt: &R,
     words: &List<Text>,
     variables: &Env,
     directory: &Text,
@@ -61,17 +66,18 @@ fn refusal_of_call(
     requires { length words.now < 2 ^ 32 }
     ensures { IfErr (options_asked words.now variables.now) (λ refusal. IsSaid refusal result) }
 {
-    let mut files = DiskFiles::new(rt);
-    let mut plug = MainPlug::new(rt);
-    let mut out = OutSink::new(rt.stdout());
+    let mut files = DiskFiles::new(host);
+    let mut plug = MainPlug::new(host, rt);
+    let mut out = OutSink::new(host.stdout());
     let mut err = NullSink;
     let Ended {
         status: _,
         journal,
         hands,
         refusal,
-    } = serial_main(
-        rt.alloc(),
+    } = compose_main(
+        host.alloc(),
+        rt,
         words,
         variables,
         directory,

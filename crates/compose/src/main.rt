@@ -1,5 +1,5 @@
 //! The program `compose`: it gives the words of the command line, the variables, the working directory, the files of
-//! the disk and the standard streams to the top call of `compose_cli`, and ends with the status that this answers.
+//! the disk and the standard streams to the top call of `parallel_cli`, and ends with the status that this answers.
 //! Where a create is refused because its name is used, it makes the call again a moment later. Questions about the
 //! program itself, `--help` and `--version`, it answers before.
 //!
@@ -24,48 +24,50 @@ use given::{variables, words};
 use outside_files::OutSink;
 use refusals::Refusal;
 use std::process::ExitCode;
+use std::sync::Wait;
+use std::thread::Threads;
 use tree_base::{List, Text};
 
 fn main(rt: HostRuntime) -> ExitCode {
-    ExitCode::from(run(&rt))
+    ExitCode::from(run(&rt, &rt))
 }
 
-/// Answers the words of the command line: the exit status.
-fn run(rt: &HostRuntime) -> u8 {
-    match words(rt.alloc(), rt) {
-        Ok(words) => answer(rt, &words),
+/// Answers the words of the command line: the exit status. Whatever starts threads or waits for them does so by the other handle.
+fn run<R: Threads + Wait + Sync>(host: &HostRuntime, rt: &R) -> u8 {
+    match words(host.alloc(), host) {
+        Ok(words) => answer(host, rt, &words),
         Err(refusal) => {
-            let mut err = OutSink::new(rt.stderr());
-            end(rt.alloc(), Some(Refusal::Words(refusal)), &mut err)
+            let mut err = OutSink::new(host.stderr());
+            end(host.alloc(), Some(Refusal::Words(refusal)), &mut err)
         }
     }
 }
 
 /// Answers a question about the program, or makes the call.
-fn answer(rt: &HostRuntime, words: &List<Text>) -> u8
+fn answer<R: Threads + Wait + Sync>(host: &HostRuntime, rt: &R, words: &List<Text>) -> u8
     requires { length words.now < 2 ^ 32 }
 {
     match notice_of(words) {
         Some(notice) => {
-            let mut out = OutSink::new(rt.stdout());
-            let mut err = OutSink::new(rt.stderr());
-            answer_notice(rt.alloc(), notice, &mut out, &mut err)
+            let mut out = OutSink::new(host.stdout());
+            let mut err = OutSink::new(host.stderr());
+            answer_notice(host.alloc(), notice, &mut out, &mut err)
         }
-        None => call(rt, words),
+        None => call(host, rt, words),
     }
 }
 
 /// Makes the top call, more than once where `status_of_calls` says so; none where variables or working directory can't
 /// be had.
-fn call(rt: &HostRuntime, words: &List<Text>) -> u8
+fn call<R: Threads + Wait + Sync>(host: &HostRuntime, rt: &R, words: &List<Text>) -> u8
     requires { length words.now < 2 ^ 32 }
 {
-    let mut err = OutSink::new(rt.stderr());
-    let Ok(variables) = variables(rt.alloc(), rt) else {
-        return end(rt.alloc(), Some(Refusal::Memory), &mut err);
+    let mut err = OutSink::new(host.stderr());
+    let Ok(variables) = variables(host.alloc(), host) else {
+        return end(host.alloc(), Some(Refusal::Memory), &mut err);
     };
-    match working_directory(rt.alloc(), rt, &variables) {
-        Ok(directory) => status_of_calls(rt, words, &variables, &directory),
+    match working_directory(host.alloc(), host, &variables) {
+        Ok(directory) => status_of_calls(host, rt, words, &variables, &directory),
         Err(refusal) => end_without_directory(refusal, &mut err),
     }
 }

@@ -28,8 +28,3 @@ pub record IsFresh (memory : MemoryEngine) : Type 0 where
 abbrev pub IsSocketHand : Target → Option (List ℕ) → List ℕ → Option (List ℕ) → Type 0
 IsSocketHand (Target.Socket path) stop_file wire_path wire_file = (wire_path ≡ path) × (wire_file ≡ stop_file)
 IsSocketHand Target.InMemory stop_file wire_path wire_file = ⊥
-
--- a hand with an Engine in memory speaks with the Engine of a target: the target is in memory, and that Engine is fresh
-abbrev pub IsMemoryHand : Target → MemoryEngine → Type 0
-IsMemoryHand Target.InMemory memory = IsFresh memory
-IsMemoryHand (Target.Socket path) memory = ⊥

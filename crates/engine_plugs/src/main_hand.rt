@@ -1,31 +1,30 @@
 ghost use Rattle.std.specs.Prelude.{None};
 
-use engine_hand::MemoryHand;
 use engine_types::{Outcome, Request};
 use http_hand::HttpHand;
 use outside_api::Hand;
+use shared_hand::SharedHand;
 use socket_wire::SocketWire;
 use std::alloc::Global;
+use std::sync::Wait;
 
-/// A hand of the program: over a wire, or with an Engine in memory of its own. It is in all what that hand is.
+/// A hand of the program: over a wire, or one that shares an Engine in memory with others of its plug. It is in all what that
+/// hand is.
 #[derive(Drop)]
-pub enum MainHand<'r> {
+pub enum MainHand<'r, R> {
     Http(HttpHand<SocketWire<'r>>),
-    Memory(MemoryHand),
+    Memory(SharedHand<'r, R>),
 }
 
-impl<'r> Hand for MainHand<'r> {
+impl<'r, R: Wait + Sync> Hand for MainHand<'r, R> {
     ghost use Rattle.engine_plugs.specs.declared.main_hand.MainHand.TheVariants.{Http, Memory};
 
     ghost log = { elim [
       | Http hand ↦ ⟦<HttpHand<SocketWire<'r>> as Hand>⟧.log hand
-      | Memory hand ↦ ⟦<MemoryHand as Hand>⟧.log hand
+      | Memory hand ↦ ⟦<SharedHand<'r, R> as Hand>⟧.log hand
     ] };
 
-    ghost engine = { elim [
-      | Http hand ↦ None
-      | Memory hand ↦ ⟦<MemoryHand as Hand>⟧.engine hand
-    ] };
+    ghost engine = { λ _. None };
 
     ghost heard = { elim [
       | Http hand ↦ ⟦<HttpHand<SocketWire<'r>> as Hand>⟧.heard hand
@@ -34,12 +33,12 @@ impl<'r> Hand for MainHand<'r> {
 
     ghost faults = { elim [
       | Http hand ↦ ⟦<HttpHand<SocketWire<'r>> as Hand>⟧.faults hand
-      | Memory hand ↦ ⟦<MemoryHand as Hand>⟧.faults hand
+      | Memory hand ↦ 0
     ] };
 
     ghost clock = { elim [
       | Http hand ↦ ⟦<HttpHand<SocketWire<'r>> as Hand>⟧.clock hand
-      | Memory hand ↦ ⟦<MemoryHand as Hand>⟧.clock hand
+      | Memory hand ↦ ⟦<SharedHand<'r, R> as Hand>⟧.clock hand
     ] };
 
     fn exchange(&mut self, alloc: Global, request: Request) -> Outcome {

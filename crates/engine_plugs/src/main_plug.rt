@@ -1,41 +1,106 @@
 ghost use Rattle.std.specs.Prelude.{◌≡◌, ◌≤◌, ◌<◌, ◌^◌, [], Some, None, IfOk};
 ghost use Rattle.std.specs.Option.{ForSome, option_copied};
-ghost use Rattle.engine_plugs.specs.MainHands.{IsFresh, IsMemoryHand, IsSocketHand, no_engine};
+ghost use Rattle.engine_plugs.specs.MainHands.{IsFresh, IsSocketHand, no_engine};
 ghost use Rattle.outside_api.specs.Clock.{new_clock};
 ghost use Rattle.outside_api.specs.Hands.{BeginsWith, HeardNothing};
 ghost use Rattle.outside_api.specs.Plugs.{CountsDial};
 ghost use Rattle.outside_files.specs.Counts.{Rose};
+ghost use Rattle.shared_hand.specs.SharedHands.{clock_of, log_of};
 ghost use Rattle.socket_wire.specs.WiresOfSockets.{path_of, stop_file_of};
 
 use crate::main_hand::MainHand;
-use engine_hand::MemoryHand;
 use http_hand::HttpHand;
 use memory_engine::MemoryEngine;
 use outside_api::{DialAnswer, Hand, Plug, Target};
+use shared_hand::{SharedEngine, SharedHand};
 use socket_wire::SocketWire;
 use std::alloc::Global;
+use std::sync::{Arc, Mutex, Wait};
 use tree_base::{Memory, Text};
 
 /// The plug of the program. It tells no Engine, and counts the hands that it made. No dial fails: the hand of a socket connects
-/// at its exchanges, and each hand in memory has a fresh Engine.
+/// at its exchanges, and all hands in memory share one Engine, which is fresh for the first of them.
 #[derive(Drop)]
-pub struct MainPlug<'r> {
-    rt: &'r HostRuntime,
+pub struct MainPlug<'r, R> {
+    host: &'r HostRuntime,
+    rt: &'r R,
+    /// The Engine in memory, once a hand was made for it.
+    memory: Option<Arc<Mutex<SharedEngine>>>,
     dialled: u64,
 }
 
-impl<'r> MainPlug<'r> {
-    /// A plug that made no hand yet. No memory.
-    pub fn new(rt: &'r HostRuntime) -> MainPlug<'r>
-        ensures dialled { ⟦<MainPlug<'r> as Plug>⟧.dialled result ≡ Some 0 }
-        ensures faults { ⟦<MainPlug<'r> as Plug>⟧.faults result ≡ 0 }
+impl<'r, R: Wait + Sync> MainPlug<'r, R> {
+    /// A plug that made no hand yet. Its hands over sockets are the host's, and those in memory wait for their lock by the other
+    /// handle. No memory.
+    pub fn new(host: &'r HostRuntime, rt: &'r R) -> MainPlug<'r, R>
+        ensures dialled { ⟦<MainPlug<'r, R> as Plug>⟧.dialled result ≡ Some 0 }
+        ensures faults { ⟦<MainPlug<'r, R> as Plug>⟧.faults result ≡ 0 }
     {
-        MainPlug { rt, dialled: 0 }
+        MainPlug {
+            host,
+            rt,
+            memory: None,
+            dialled: 0,
+        }
+    }
+
+    /// A new hand that speaks with the Engine of a target.
+    fn hand_for(
+        &mut self,
+        alloc: Global,
+        target: &Target,
+        stop_file: Option<&Text>,
+    ) -> Result<MainHand<'r, R>, Memory>
+        ensures log { IfOk result (λ hand.
+            ⟦<MainHand<'r, R> as Hand>⟧.log hand ≡ []) }
+        ensures heard { IfOk result (λ hand.
+            HeardNothing (⟦<MainHand<'r, R> as Hand>⟧.heard hand)) }
+        ensures clock { IfOk result (λ hand.
+            ⟦<MainHand<'r, R> as Hand>⟧.clock hand ≡ new_clock) }
+        ensures faults { IfOk result (λ hand.
+            ⟦<MainHand<'r, R> as Hand>⟧.faults hand ≡ 0) }
+        ensures made { IfOk result (λ hand. elim hand [
+          | MainHand.Http http ↦ IsSocketHand target.now (option_copied stop_file.entry)
+              (path_of http.wire) (stop_file_of http.wire)
+          | MainHand.Memory memory ↦ target.now ≡ Target.InMemory
+        ]) }
+        ensures dialled { self.new.dialled ≡ self.old.dialled }
+    {
+        match target {
+            Target::Socket(path) => {
+                let hand = socket_hand(alloc, self.host, path, stop_file)?;
+                Ok(MainHand::Http(hand))
+            }
+            Target::InMemory => Ok(MainHand::Memory(self.memory_hand(alloc)?)),
+        }
+    }
+
+    /// A new hand that shares the Engine in memory.
+    fn memory_hand(&mut self, alloc: Global) -> Result<SharedHand<'r, R>, Memory>
+        ensures log { IfOk result (λ hand. log_of hand ≡ []) }
+        ensures clock { IfOk result (λ hand. clock_of hand ≡ new_clock) }
+        ensures dialled { self.new.dialled ≡ self.old.dialled }
+    {
+        let shared = self.shared(alloc)?;
+        Ok(SharedHand::new(alloc, self.rt, shared))
+    }
+
+    /// The Engine that hands in memory share, which is made for the first of them.
+    fn shared(&mut self, alloc: Global) -> Result<Arc<Mutex<SharedEngine>>, Memory>
+        ensures { self.new.dialled ≡ self.old.dialled }
+    {
+        if let Some(shared) = &self.memory {
+            return Ok(Arc::try_clone(shared)?);
+        }
+        let shared = Arc::new(alloc, Mutex::new(fresh_engine(alloc)?))?;
+        let own = Arc::try_clone(&shared)?;
+        self.memory = Some(own);
+        Ok(shared)
     }
 }
 
-impl<'r> Plug for MainPlug<'r> {
-    type Hand = MainHand<'r>;
+impl<'r, R: Wait + Sync> Plug for MainPlug<'r, R> {
+    type Hand = MainHand<'r, R>;
 
     ghost engine = { λ _. None };
 
@@ -43,37 +108,38 @@ impl<'r> Plug for MainPlug<'r> {
 
     ghost faults = { λ _. 0 };
 
-    /// Makes a hand that speaks with the Engine of a target. Memory only where there is none for the paths.
+    /// Makes a hand that speaks with the Engine of a target. Memory only where there is none for the paths, or for an Engine in
+    /// memory.
     fn dial(
         &mut self,
         alloc: Global,
         target: &Target,
         stop_file: Option<&Text>,
         _number: u32,
-    ) -> DialAnswer<MainHand<'r>>
+    ) -> DialAnswer<MainHand<'r, R>>
         requires { ForSome (Some self.old.dialled) (λ n. n < 2 ^ 62) }
         ensures counted { 0 ≤ 0 }
         ensures failed { result ≡ DialAnswer.Failed → Rose 0 0 }
         ensures never_fails { result ≡ DialAnswer.Failed → ⊥ }
         ensures dialled { CountsDial (Some self.old.dialled) (Some self.new.dialled) result }
         ensures log { (hand : _) → result ≡ DialAnswer.Dialled hand
-            → ⟦<MainHand<'r> as Hand>⟧.log hand ≡ [] }
+            → ⟦<MainHand<'r, R> as Hand>⟧.log hand ≡ [] }
         ensures heard { (hand : _) → result ≡ DialAnswer.Dialled hand
-            → HeardNothing (⟦<MainHand<'r> as Hand>⟧.heard hand) }
+            → HeardNothing (⟦<MainHand<'r, R> as Hand>⟧.heard hand) }
         ensures clock { (hand : _) → result ≡ DialAnswer.Dialled hand
-            → ⟦<MainHand<'r> as Hand>⟧.clock hand ≡ new_clock }
+            → ⟦<MainHand<'r, R> as Hand>⟧.clock hand ≡ new_clock }
         ensures faults { (hand : _) → result ≡ DialAnswer.Dialled hand
-            → ⟦<MainHand<'r> as Hand>⟧.faults hand ≡ 0 }
+            → ⟦<MainHand<'r, R> as Hand>⟧.faults hand ≡ 0 }
         ensures engine { (hand : _) → result ≡ DialAnswer.Dialled hand
-            → BeginsWith no_engine (⟦<MainHand<'r> as Hand>⟧.engine hand) }
+            → BeginsWith no_engine (⟦<MainHand<'r, R> as Hand>⟧.engine hand) }
         ensures made { (hand : _) → result ≡ DialAnswer.Dialled hand
             → elim hand [
               | MainHand.Http http ↦ IsSocketHand target.now (option_copied stop_file.entry)
                   (path_of http.wire) (stop_file_of http.wire)
-              | MainHand.Memory memory ↦ IsMemoryHand target.now memory.engine
+              | MainHand.Memory memory ↦ target.now ≡ Target.InMemory
             ] }
     {
-        match hand_for(alloc, self.rt, target, stop_file) {
+        match self.hand_for(alloc, target, stop_file) {
             Ok(hand) => {
                 self.dialled += 1;
                 DialAnswer::Dialled(hand)
@@ -83,31 +149,12 @@ impl<'r> Plug for MainPlug<'r> {
     }
 }
 
-/// A new hand that speaks with the Engine of a target.
-fn hand_for<'r>(
-    alloc: Global,
-    rt: &'r HostRuntime,
-    target: &Target,
-    stop_file: Option<&Text>,
-) -> Result<MainHand<'r>, Memory>
-    ensures log { IfOk result (λ hand.
-        ⟦<MainHand<'r> as Hand>⟧.log hand ≡ []) }
-    ensures heard { IfOk result (λ hand.
-        HeardNothing (⟦<MainHand<'r> as Hand>⟧.heard hand)) }
-    ensures clock { IfOk result (λ hand.
-        ⟦<MainHand<'r> as Hand>⟧.clock hand ≡ new_clock) }
-    ensures faults { IfOk result (λ hand.
-        ⟦<MainHand<'r> as Hand>⟧.faults hand ≡ 0) }
-    ensures made { IfOk result (λ hand. elim hand [
-      | MainHand.Http http ↦ IsSocketHand target.now (option_copied stop_file.entry)
-          (path_of http.wire) (stop_file_of http.wire)
-      | MainHand.Memory memory ↦ IsMemoryHand target.now memory.engine
-    ]) }
+/// A fresh Engine in memory, with a clock at 0.
+fn fresh_engine(alloc: Global) -> Result<SharedEngine, Memory>
+    ensures engine { IfOk result (λ shared. IsFresh shared.engine) }
+    ensures clock { IfOk result (λ shared. shared.clock ≡ 0) }
 {
-    match target {
-        Target::Socket(path) => Ok(MainHand::Http(socket_hand(alloc, rt, path, stop_file)?)),
-        Target::InMemory => Ok(MainHand::Memory(memory_hand(alloc)?)),
-    }
+    Ok(SharedEngine::new(MemoryEngine::fresh(alloc)?))
 }
 
 /// A new hand over the socket at a path, which doesn't connect yet.
@@ -139,15 +186,4 @@ fn copied(alloc: Global, text: Option<&Text>) -> Result<Option<Text>, Memory>
         Some(text) => Ok(Some(text.copy(alloc)?)),
         None => Ok(None),
     }
-}
-
-/// A new hand with a fresh Engine in memory.
-fn memory_hand(alloc: Global) -> Result<MemoryHand, Memory>
-    ensures log { IfOk result (λ hand. ⟦<MemoryHand as Hand>⟧.log hand ≡ []) }
-    ensures clock { IfOk result (λ hand. ⟦<MemoryHand as Hand>⟧.clock hand ≡ new_clock) }
-    ensures faults { IfOk result (λ hand. ⟦<MemoryHand as Hand>⟧.faults hand ≡ 0) }
-    ensures engine { IfOk result (λ hand. IsFresh hand.engine) }
-{
-    let engine = MemoryEngine::fresh(alloc)?;
-    Ok(MemoryHand::new(alloc, engine))
 }

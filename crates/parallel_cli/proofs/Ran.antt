@@ -1,5 +1,5 @@
 -- What a call leaves, by what its run of several workers left.
-use Rattle.std.proofs.Common.{◌≡◌, ℕ, zero, suc, ◌+◌, ◌<◌, List, [], ◌∷◌, Option, Some, None, true, false, get_or, length, refl, sym, ap, ◌∙◌, subst, inl, inr, arith}
+use Rattle.std.proofs.Common.{◌≡◌, ℕ, zero, suc, ◌+◌, ◌<◌, List, [], ◌∷◌, Option, Some, None, true, false, get_or, length, refl, sym, ◌∙◌, subst, inl, inr, arith}
 use Rattle.std.specs.Prelude.{All, slice_get}
 use Rattle.compose_cli.proofs.Ran.{if_begun_in, refused_by, reports_by, status_by, went_well}
 use Rattle.compose_cli.proofs.Statuses.{not_refused}

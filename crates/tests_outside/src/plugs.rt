@@ -42,9 +42,13 @@ fn outcome_at<P: Plug>(alloc: Global, plug: &mut P, target: &Target) -> &'static
 fn the_hands_of_the_program_speak_with_their_targets(rt: HostRuntime) -> Result<(), Fail> {
     let alloc = rt.alloc();
     let nowhere = Text::from_str(alloc, "/no such folder/engine.sock")?;
-    let outcome = outcome_at(alloc, &mut MainPlug::new(&rt), &Target::Socket(nowhere));
+    let outcome = outcome_at(
+        alloc,
+        &mut MainPlug::new(&rt, &rt),
+        &Target::Socket(nowhere),
+    );
     assert_eq!(rt; outcome, "not sent");
-    let outcome = outcome_at(alloc, &mut MainPlug::new(&rt), &Target::InMemory);
+    let outcome = outcome_at(alloc, &mut MainPlug::new(&rt, &rt), &Target::InMemory);
     assert_eq!(rt; outcome, "answered");
     Ok(())
 }

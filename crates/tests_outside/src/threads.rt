@@ -3,6 +3,7 @@
 ghost use Rattle.std.specs.Prelude.{◌≡◌, ◌+◌, Some, IfSome};
 ghost use Rattle.outside_api.specs.Clock.{new_clock};
 
+use engine_plugs::MainPlug;
 use engine_types::{ContainerSpec, Outcome, Reply, Request};
 use memory_engine::MemoryEngine;
 use outside_api::{DialAnswer, Hand, Plug, Target};
@@ -33,6 +34,7 @@ fn word_of(outcome: Outcome) -> &'static str {
     let word = match &outcome {
         Outcome::Answered(Reply::Pulled) => "pulled",
         Outcome::Answered(Reply::Made(_)) => "made",
+        Outcome::Answered(Reply::Refused { status: 409, .. }) => "its name is used",
         _ => "another outcome",
     };
     drop(outcome);
@@ -98,6 +100,27 @@ fn two_threads_speak_with_one_engine(rt: HostRuntime) -> Result<(), Fail> {
     assert_eq!(rt; engine.engine.containers.len(), 2);
     assert!(rt; is_named(&engine, "web"));
     assert!(rt; is_named(&engine, "db"));
+    Ok(())
+}
+
+#[test]
+fn hands_of_the_program_share_their_engine_in_memory(rt: HostRuntime) -> Result<(), Fail> {
+    let alloc = rt.alloc();
+    let mut plug = MainPlug::new(&rt, &rt);
+    let one = hand_of(alloc, &mut plug, 0).expect(&rt, "a first hand");
+    let two = hand_of(alloc, &mut plug, 1).expect(&rt, "a second hand");
+    let (first, second) = thread::join(
+        &rt,
+        move || work(alloc, one, "web"),
+        move || work(alloc, two, "web"),
+    );
+    let (_, first) = first?;
+    let (_, second) = second?;
+    assert!(rt; first == "made" || second == "made", "one container");
+    assert!(rt;
+        first == "its name is used" || second == "its name is used",
+        "and no more"
+    );
     Ok(())
 }
 

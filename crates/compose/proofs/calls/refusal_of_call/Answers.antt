@@ -5,6 +5,6 @@ use Rattle.refusals.specs.declared.Refusal.{Refusal}
 use Rattle.compose.proofs.calls.refusal_of_call.Goals as goal
 
 pub returns : goal.returns
-returns c = IfErr-weaker _ _ _
-    (λ (refusal : Refusal) (both : SendsNothing c.serial_main-journal.result × IsSaid refusal c.serial_main-journal.result.refusal). both.1)
-    c.serial_main-journal.ensures.words
+returns g c = IfErr-weaker _ _ _
+    (λ (refusal : Refusal) (both : SendsNothing c.compose_main-journal.result × IsSaid refusal c.compose_main-journal.result.refusal). both.1)
+    c.compose_main-journal.ensures.words

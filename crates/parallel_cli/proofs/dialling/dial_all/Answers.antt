@@ -1,7 +1,6 @@
-use Rattle.std.proofs.Common.{◌≡◌, ◌+◌, ◌≤◌, ℕ, ap, arith, length, ◌∙◌}
-use Rattle.std.proofs.lemmas.List.{length_push}
+use Rattle.std.proofs.Common.{◌≡◌, ◌+◌, ◌≤◌, ap, arith, length}
 use Rattle.ledger_run.specs.Tellings.{telling}
-use Rattle.parallel_cli.proofs.Dials.{counts_more, counts_none, few_counted, new_more, new_none}
+use Rattle.parallel_cli.proofs.Dials.{counts_more, counts_none, few_counted, new_more, new_none, one_longer}
 use Rattle.tree_base.specs.Limits.{most_workers}
 use Rattle.parallel_cli.proofs.dialling.dial_all.Goals as goal
 
@@ -17,7 +16,7 @@ loop-number-init g c = record {
 pub loop-number-preserved : goal.loop-number-preserved
 loop-number-preserved g c =
     let was = c.loop-number.invariant in let put = c.push_reserved.ensures in
-    let longer : length c.push_reserved.new.self.items ≡ length c.loop-number.hands.items + 1 = ap length put.items ∙ length_push c.loop-number.hands.items c.in_ok-hand.hand in
+    let longer : length c.push_reserved.new.self.items ≡ length c.loop-number.hands.items + 1 = one_longer c.loop-number.hands.items c.push_reserved.new.self.items c.in_ok-hand.hand put.items in
     let count = was.count in let faults = was.counted in let rise = c.dial.ensures.counted in let room = was.room in let kept = put.capacity in record {
       count = omega (arith, longer, count);
       made = new_more (λ h. telling (g.P.Hand.Hand.log h) (g.P.Hand.Hand.heard h) (g.P.Hand.Hand.faults h) (g.P.Hand.Hand.clock h) (g.P.Hand.Hand.engine h)) c.loop-number.hands.items c.push_reserved.new.self.items c.in_ok-hand.hand put.items was.made c.in_ok-hand.ensures.made;

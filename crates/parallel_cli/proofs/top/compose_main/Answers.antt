@@ -7,7 +7,7 @@ use Rattle.compose_config.proofs.Printed.{asked_prefix, asked_whole, page_comple
 use Rattle.compose_config.specs.Commands.{GrewByPrefix, IsReadFault, page_asked, page_for}
 use Rattle.asked_run.specs.Declaring.{declared_from}
 use Rattle.compose_cli.proofs.Declaring.{asking_undeclared, digest_faults, digest_read, if_declared, if_declared_idle, loads_fault}
-use Rattle.compose_cli.proofs.Ending.{asking_no_digest, before_unbegun, beside, counts_none, if_runs, no_config, no_words, only_reads, refused_with}
+use Rattle.compose_cli.proofs.Ending.{asking_no_digest, before_unbegun, beside, counts_none, if_runs, no_config, only_reads, refused_with}
 use Rattle.compose_cli.proofs.Circles.{spelled_acyclic}
 use Rattle.compose_cli.proofs.Reachable.{reachable}
 use Rattle.compose_cli.proofs.Ran.{asked, aims, idle, if_begun, said_not_zero, task_by, unasked}
