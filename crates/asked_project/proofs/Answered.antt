@@ -17,6 +17,8 @@ use Rattle.outside_files.specs.Files.{Contents}
 use Rattle.refusals.proofs.Joined.{one_load}
 use Rattle.refusals.specs.Origins.{IsOfAsking, is_of_words, load_refusal}
 use Rattle.refusals.specs.Refused.{is_failed_read, is_free, wants_memory}
+use Rattle.refusals.specs.Went.{ends_as, refused_as}
+use Rattle.outside_files.specs.Reads.{Well}
 use Rattle.refusals.specs.declared.Refusal.{Refusal}
 use Rattle.typed_project.specs.DistinctNames.{IsKeyed}
 use Rattle.typed_project.specs.declared.project.Project.{Project}
@@ -164,6 +166,23 @@ project_no_words (Refusal.Late why) k h = k
 project_no_words (Refusal.Outside part) k h = k
 project_no_words Refusal.Memory k h = cc h
 
+project_went : (refusal : Refusal) → IsOfProject refusal → refused_as refusal ≡ Well
+project_went (Refusal.Words words) k = refl
+project_went (Refusal.NotBuilt unbuilt) k = refl
+project_went (Refusal.Load load) k = absurd k
+project_went (Refusal.Name name) k = refl
+project_went (Refusal.Active active) k = refl
+project_went (Refusal.Project project) k = refl
+project_went (Refusal.Digest digest) k = absurd k
+project_went (Refusal.Identity identity) k = refl
+project_went (Refusal.Seen fault) k = refl
+project_went (Refusal.Request request outcome) k = refl
+project_went (Refusal.Condition slot condition report) k = refl
+project_went Refusal.Stopped k = refl
+project_went (Refusal.Late why) k = refl
+project_went (Refusal.Outside part) k = refl
+project_went Refusal.Memory k = refl
+
 project_of_asking : (refusal : Refusal) → IsOfProject refusal → IsOfAsking refusal
 project_of_asking (Refusal.NotBuilt unbuilt) k = tt
 project_of_asking (Refusal.Words words) k = tt
@@ -198,6 +217,13 @@ module _ (options : Options) where
   pub with_no_words : (project : Result Project Refusal) → IfErr project IsOfProject → IfErr (asked_with options project) (λ refusal. IsTrue (is_of_words refusal) → ⊥)
   with_no_words (Ok project) h = tt
   with_no_words (Err refusal) h = project_no_words refusal h
+
+  pub with_went : (project : Result Project Refusal) (asked : Result Asked Refusal) → asked ≡ asked_with options project → IfErr project IsOfProject → ends_as asked ≡ Well
+  with_went project asked is h = ap (λ (a : Result Asked Refusal). ends_as a) is ∙ at project h
+    where
+      at : (project : Result Project Refusal) → IfErr project IsOfProject → ends_as (asked_with options project) ≡ Well
+      at (Ok project) h = refl
+      at (Err refusal) h = project_went refusal h
 
   pub with_no_read : (project : Result Project Refusal) (path : List ℕ) → IfErr project IsOfProject → asked_with options project ≡ Err (Refusal.Load (LoadRefusal.ReadFault path)) → ⊥
   with_no_read (Ok project) path h e = cc e

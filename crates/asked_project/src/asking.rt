@@ -7,6 +7,7 @@ ghost use Rattle.loaded_files.specs.declared.LoadRefusal.{LoadRefusal};
 ghost use Rattle.outside_files.specs.Counts.{Rose};
 ghost use Rattle.refusals.specs.Origins.{IsOfAsking, is_of_words};
 ghost use Rattle.refusals.specs.Refused.{wants_memory};
+ghost use Rattle.refusals.specs.Went.{WentAs};
 ghost use Rattle.refusals.specs.declared.Refusal.{Refusal};
 ghost use Rattle.typed_project.specs.DistinctNames.{IsKeyed};
 ghost use Rattle.tree_base.specs.Answers.{Gives};
@@ -61,6 +62,7 @@ pub fn project_asked<F: Files>(
         → IsFailedRead words.now env.now cwd.now (F.told files.old)
         (F.faults files.old) (F.faults files.new) path }
     ensures kind { IfErr result IsOfAsking }
+    ensures reads { WentAs (F.reads files.old) (F.reads files.new) result }
     ensures counted { F.faults files.old ≤ F.faults files.new }
     ensures kept { F.told files.new ≡ F.told files.old }
 {
@@ -89,6 +91,7 @@ fn project_for<F: Files>(
         → IsFailedLoad options env.now cwd.now (F.told files.old)
         (F.faults files.old) (F.faults files.new) path }
     ensures kind { IfErr result IsOfAsking }
+    ensures reads { WentAs (F.reads files.old) (F.reads files.new) result }
     ensures counted { F.faults files.old ≤ F.faults files.new }
     ensures kept { F.told files.new ≡ F.told files.old }
 {
@@ -119,6 +122,7 @@ fn load_for<F: Files>(
     ensures given { loads.Gives (F.told files.old) result (load_for options.now env.now cwd.now) }
     ensures fault { (at : _) → result ≡ Err (LoadRefusal.ReadFault at)
         → Rose (F.faults files.old) (F.faults files.new) }
+    ensures reads { loads.WentAs (F.reads files.old) (F.reads files.new) result }
     ensures counted { F.faults files.old ≤ F.faults files.new }
     ensures kept { F.told files.new ≡ F.told files.old }
 {

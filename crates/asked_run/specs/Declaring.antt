@@ -1,6 +1,6 @@
 -- What a call declares of the Engine: what its project declares by the numbers of `--scale` and the digests of its files,
 -- or the first refusal.
-use Rattle.std.specs.Prelude.{◌≡◌, ℕ, List, [], Option, Some, None, Result, Ok, Err}
+use Rattle.std.specs.Prelude.{◌≡◌, ℕ, Bool, true, false, List, [], Option, Some, None, Result, Ok, Err}
 use Rattle.asked_run.specs.Told.{digests_for}
 use Rattle.compose_words.specs.declared.Command.{Command}
 use Rattle.compose_words.specs.declared.options.Scale.{Scale}
@@ -45,6 +45,11 @@ declared_with command project digests = declared_in (scales_of command) project 
 -- what it declares by what is given of the digests: a refusal of these comes first
 abbrev pub declared_by : Command → Project → Given → Result Declared Refusal
 declared_by command project given = digests_or_refused given >>= declared_with command project
+
+-- whether the files of configs and secrets are read for a command: `up` alone needs their digests
+abbrev pub reads_digests : Command → Bool
+reads_digests (Command.Up orphans wait seconds scale) = true
+reads_digests command = false
 
 -- what is given of the digests for a command: `up` reads the files of configs and secrets, and for the others each is the
 -- empty text

@@ -1,10 +1,11 @@
 ghost use Rattle.std.specs.Prelude.{◌≡◌, ◌≤◌, ℕ, List, Err, None, false, IfErr, IfOk, IfSome};
-ghost use Rattle.asked_run.specs.Declaring.{Declares, DeclaresAs, IsDeclared, IsFailedDigest, declared_from, declared_in, declared_with, scales_of};
+ghost use Rattle.asked_run.specs.Declaring.{Declares, DeclaresAs, IsDeclared, IsFailedDigest, declared_from, declared_in, declared_with, reads_digests, scales_of};
 ghost use Rattle.declared_laws.specs.Laws.{AreNumbered};
 ghost use Rattle.file_digests.specs.declared.DigestRefusal.{DigestRefusal};
 ghost use Rattle.plan_core.specs.Order.{HasNoCycle};
 ghost use Rattle.refusals.specs.Origins.{IsOfDeclaring};
 ghost use Rattle.refusals.specs.Refused.{is_failed_digest, wants_memory};
+ghost use Rattle.refusals.specs.Went.{WentAs};
 ghost use Rattle.refusals.specs.declared.Refusal.{Refusal};
 ghost use Rattle.run_laws.specs.Orders.{NeedsDependencies};
 ghost use Rattle.run_model.specs.Plans.{IsWhole};
@@ -57,6 +58,10 @@ pub fn declared_asked<F: Files>(
         → IsFailedDigest (F.told files.old) command.now project.now
         (F.faults files.old) (F.faults files.new) path }
     ensures kind { IfErr result IsOfDeclaring }
+
+    // Where no read had failed before, none fails but the last, which is then told; and `up` alone reads any.
+    ensures reads { WentAs (F.reads files.old) (F.reads files.new) result }
+    ensures unread { reads_digests command.now ≡ false → F.reads files.new ≡ F.reads files.old }
     ensures counted { F.faults files.old ≤ F.faults files.new }
     ensures kept { F.told files.new ≡ F.told files.old }
 {

@@ -1,8 +1,9 @@
-ghost use Rattle.std.specs.Prelude.{◌≡◌, ◌≤◌, ℕ, List, Err, Ok};
-ghost use Rattle.asked_run.specs.Declaring.{AreDigests};
-ghost use Rattle.file_digests.specs.Digests.{empty_digests};
+ghost use Rattle.std.specs.Prelude.{◌≡◌, ◌≤◌, ℕ, List, Err, Ok, false};
+ghost use Rattle.asked_run.specs.Declaring.{AreDigests, reads_digests};
+ghost use Rattle.file_digests.specs.Digests.{WentAs, empty_digests, ends_as};
 ghost use Rattle.file_digests.specs.declared.DigestRefusal.{DigestRefusal};
 ghost use Rattle.outside_files.specs.Counts.{Rose};
+ghost use Rattle.outside_files.specs.Reads.{Well};
 
 use compose_words::Command;
 use file_digests::{DigestRefusal, digests, empty_digests};
@@ -24,6 +25,8 @@ pub(crate) fn digests_for<F: Files>(
         → AreDigests (F.told files.old) command.now project.now result }
     ensures fault { (at : List ℕ) → result ≡ Err (DigestRefusal.ReadFault at)
         → Rose (F.faults files.old) (F.faults files.new) }
+    ensures reads { WentAs (F.reads files.old) (F.reads files.new) result }
+    ensures unread { reads_digests command.now ≡ false → F.reads files.new ≡ F.reads files.old }
     ensures counted { F.faults files.old ≤ F.faults files.new }
     ensures kept { F.told files.new ≡ F.told files.old }
 {
@@ -43,6 +46,7 @@ fn unread_digests(alloc: Global, project: &Project) -> Result<List<FileDigest>, 
     ensures given { (result ≡ Err DigestRefusal.Memory → ⊥)
         → result ≡ Ok (empty_digests project.now) }
     ensures unread { (at : List ℕ) → result ≡ Err (DigestRefusal.ReadFault at) → ⊥ }
+    ensures well { ends_as result ≡ Well }
 {
     match empty_digests(alloc, project) {
         Ok(digests) => Ok(digests),

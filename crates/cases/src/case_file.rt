@@ -11,7 +11,7 @@ const GREATEST: u64 = 4194304;
 /// The cases of a file. NoCase where it can't be read, is no YAML, with the place, or has no sequence.
 pub fn cases_of(rt: &HostRuntime, file: &Text) -> Result<List<Tree>, CaseFault> {
     let alloc = rt.alloc();
-    let mut files = DiskFiles::new(rt);
+    let mut files = DiskFiles::new(alloc, rt);
     match files.read(alloc, file, GREATEST) {
         FileAnswer::Bytes(bytes) => cases_in(alloc, bytes.as_slice()),
         FileAnswer::Memory => Err(CaseFault::Memory),

@@ -1,5 +1,5 @@
 use case_files::{Answers, Fields, Line, Lines, Reading};
-use outside_files::{FileAnswer, Files, MemoryFiles};
+use outside_files::{FileAnswer, FileRead, Files, MemoryFiles};
 use std::alloc::Global;
 use std::str;
 use tree_base::{List, TextMap, Tree};
@@ -8,13 +8,15 @@ use tree_base::{List, TextMap, Tree};
 /// slash is one in the directory.
 pub fn files_of(reading: &mut Reading, fields: &Fields, directory: &str) -> MemoryFiles {
     let failing = reading.numbers(fields, "failing_reads");
-    MemoryFiles::new(contents_of(reading, fields, directory), failing)
+    let contents = contents_of(reading, fields, directory);
+    MemoryFiles::new(reading.alloc, contents, failing)
 }
 
 /// The files of the field `files`, of which every read goes well.
 pub fn sound_files_of(reading: &mut Reading, fields: &Fields, directory: &str) -> MemoryFiles {
     let failing = List::new(reading.alloc);
-    MemoryFiles::new(contents_of(reading, fields, directory), failing)
+    let contents = contents_of(reading, fields, directory);
+    MemoryFiles::new(reading.alloc, contents, failing)
 }
 
 fn contents_of(reading: &mut Reading, fields: &Fields, directory: &str) -> TextMap<List<u8>> {
@@ -79,4 +81,18 @@ fn outcome_line(alloc: Global, answer: &FileAnswer) -> Line {
         FileAnswer::Failed => Line::of_word(alloc, "failed"),
         FileAnswer::Memory => Line::of_word(alloc, "memory"),
     }
+}
+
+/// Puts the reads that files were asked for, a line each: the path, and `failed` where the read failed.
+pub fn put_reads(reads: &[FileRead], answers: &mut Answers) {
+    let alloc = answers.reading.alloc;
+    let mut lines = Lines::new(alloc);
+    for read in reads {
+        let mut line = Line::of_word(alloc, read.path.as_str());
+        if read.failed {
+            line.word("failed");
+        }
+        lines.push(line);
+    }
+    answers.put_lines("reads", lines);
 }

@@ -1,6 +1,7 @@
 ghost use Rattle.std.specs.Prelude.{◌≡◌, ◌<◌, ◌^◌, Some};
 ghost use Rattle.outside_api.specs.Clock.{new_clock};
 
+use crate::dials::put_dials;
 use crate::engines::{engine_at, request_in};
 use case_files::{Answers, Fields, Line, Lines, Reading};
 use cases_messages::exchange_lines;
@@ -111,13 +112,14 @@ fn put_counts(clock: &MemoryClock, answers: &mut Answers) {
     answers.put_number("yeses", clock.counts.yeses);
 }
 
-/// Dials a plug for one hand twice: `first` and `second` say whether that made a hand.
+/// Dials a plug for one hand twice: `first` and `second` say whether that made a hand, and `dials` what it was asked for.
 pub fn plug(fields: &Fields, answers: &mut Answers) {
     if answers.reading.number_at(fields, "plug") != 1 {
         answers.reading.wants("plug", "one hand");
     } else if let Some(engine) = engine_at(&mut answers.reading, fields) {
-        let mut plug = MemoryPlug::new(engine, 1);
+        let mut plug = MemoryPlug::new(answers.reading.alloc, engine, 1);
         dial_twice(&mut plug, answers);
+        put_dials(plug.dials(), answers);
         drop(plug);
     }
 }
@@ -129,9 +131,9 @@ fn dial_twice(plug: &mut MemoryPlug, answers: &mut Answers)
         DialAnswer::Dialled(hand) => {
             drop(hand);
             let second = is_dialled(answers.reading.alloc, plug, 1);
-            put_dials(true, second, answers);
+            put_made(true, second, answers);
         }
-        _ => put_dials(false, false, answers),
+        _ => put_made(false, false, answers),
     }
 }
 
@@ -149,7 +151,7 @@ fn is_dialled(alloc: Global, plug: &mut MemoryPlug, dialled: u64) -> bool
     }
 }
 
-fn put_dials(first: bool, second: bool, answers: &mut Answers) {
+fn put_made(first: bool, second: bool, answers: &mut Answers) {
     answers.put_flag("first", first);
     answers.put_flag("second", second);
 }

@@ -6,6 +6,7 @@
 #![tactic(auto)]
 
 mod call_answers;
+mod dials;
 mod engines;
 mod files;
 mod hands;

@@ -1,7 +1,9 @@
 ghost use Rattle.std.specs.Prelude.{◌≡◌, ◌<◌, ◌^◌, Some, length};
 
 use crate::call_answers::put_call;
+use crate::dials::put_dials;
 use crate::engines::engine_for;
+use crate::files::put_reads;
 use crate::scene::{Scene, scene_of};
 use crate::stage::{Stage, stage_of};
 use case_files::{Answers, Fields, Reading};
@@ -33,7 +35,7 @@ fn call_in(fields: &Fields, scene: &Scene, engines: &mut List<MemoryEngine>, ans
 {
     let used = answers.reading.flag(fields, "no_hand_left");
     if let Some(engine) = engine_for(&mut answers.reading, fields, engines) {
-        let mut plug = MemoryPlug::new(engine, 1);
+        let mut plug = MemoryPlug::new(answers.reading.alloc, engine, 1);
         if used {
             call_used(fields, scene, &mut plug, engines, answers);
         } else {
@@ -79,6 +81,8 @@ fn call_with(
     if let Some(mut stage) = stage_of(&mut answers.reading, fields, scene.directory.as_str()) {
         let ended = top_call(answers.reading.alloc, scene, &mut stage, plug, dialled);
         put_call(fields, scene, &ended, &stage, answers);
+        put_dials(plug.dials(), answers);
+        put_reads(stage.files.reads(), answers);
         drop(stage);
         leave_engine(&mut answers.reading, ended, engines);
     }

@@ -6,7 +6,8 @@ use tree_base::{List, TextMap, Tree};
 /// beginning is one in the directory. The reads with the numbers of `failing_reads`, from 1, fail.
 pub(crate) fn files_of(reading: &mut Reading, fields: &Fields, directory: &str) -> MemoryFiles {
     let failing = reading.numbers(fields, "failing_reads");
-    MemoryFiles::new(contents_of(reading, fields, directory), failing)
+    let contents = contents_of(reading, fields, directory);
+    MemoryFiles::new(reading.alloc, contents, failing)
 }
 
 fn contents_of(reading: &mut Reading, fields: &Fields, directory: &str) -> TextMap<List<u8>> {

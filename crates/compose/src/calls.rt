@@ -66,7 +66,7 @@ fn refusal_of_call<R: Threads + Wait + Sync>(
     requires { length words.now < 2 ^ 32 }
     ensures { IfErr (options_asked words.now variables.now) (λ refusal. IsSaid refusal result) }
 {
-    let mut files = DiskFiles::new(host);
+    let mut files = DiskFiles::new(host.alloc(), host);
     let mut plug = MainPlug::new(host, rt);
     let mut out = OutSink::new(host.stdout());
     let mut err = NullSink;

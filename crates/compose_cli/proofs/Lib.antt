@@ -1,4 +1,5 @@
 pub mod Ending
+pub mod Dialled
 pub mod Ran
 pub mod Declaring
 pub mod Reachable

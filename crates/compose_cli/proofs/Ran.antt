@@ -1,6 +1,6 @@
 -- What a call leaves, by what its run left.
 use Rattle.std.proofs.Common.{◌≡◌, ℕ, zero, suc, ◌≤◌, Bool, true, false, List, [], ◌∷◌, ◌++◌, Option, Some, None, length, take, refl, sym, ap, ◌∙◌, subst, inl, inr, arith, append-nil}
-use Rattle.std.specs.Prelude.{IfSome, Ok, if◌then◌else◌, slice_get}
+use Rattle.std.specs.Prelude.{IfSome, Ok, slice_get}
 use Rattle.std.specs.Option.{option_map_or}
 use Rattle.engine_types.specs.declared.Aim.{Aim}
 use Rattle.engine_types.specs.declared.Engine.{Engine}
@@ -11,7 +11,7 @@ use Rattle.asked_project.specs.Asking.{Variables, command_of}
 use Rattle.asked_project.specs.Meaning.{IsSpelled, MeansAs, meaning}
 use Rattle.asked_project.specs.declared.Asked.{Asked}
 use Rattle.asked_run.specs.Declaring.{ForDeclared}
-use Rattle.compose_cli.specs.Runs.{ForTask, HoldsExactly, HoldsNone, IfRuns, IsCausedAnew, IsRefusalOf, IsStatusOf, LeadsOn, RanAlone, RanAs, Reports, aim_asked, aim_for, first_reading, options_for}
+use Rattle.compose_cli.specs.Runs.{ForTask, HoldsExactly, HoldsNone, IfRuns, IsCausedAnew, IsRefusalOf, IsStatusOf, LeadsOn, RanAlone, RanAs, Reports, aim_asked, aim_for, first_reading, options_for, refusal_after}
 use Rattle.compose_cli.specs.declared.ended.Ended.{Ended}
 use Rattle.engine_types.specs.declared.Entry.{Entry}
 use Rattle.engine_types.specs.declared.Exchange.{Exchange}
@@ -23,12 +23,11 @@ use Rattle.outside_api.specs.Accounts.{Account, account}
 use Rattle.outside_api.specs.Clock.{Clock, new_clock}
 use Rattle.outside_api.specs.Hands.{BeginsWith, Heard, HeardNothing}
 use Rattle.outside_files.specs.Sinks.{GrewBy}
-use Rattle.project_run.specs.Timing.{IsTimed}
+use Rattle.project_run.specs.Timing.{IsTimed, ReadsFirst}
 use Rattle.project_run.specs.Whole.{IfBegun, IsCaused, IsFault, IsReport, SparesKept, task_of}
 use Rattle.project_run.specs.Worlds.{EndsExact, EndsGone, GoesThrough, MakesOnce, RollsFew, SparesAgreeing}
 use Rattle.refusals.specs.Origins.{IsOfRun, run_refusal}
 use Rattle.refusals.specs.Statuses.{refusal_status, status_of}
-use Rattle.refusals.specs.declared.Part.{Part}
 use Rattle.refusals.specs.declared.Refusal.{Refusal}
 use Rattle.run_model.specs.EngineRules.{Among}
 use Rattle.run_model.specs.Ending.{fault_status}
@@ -39,7 +38,7 @@ use Rattle.run_model.specs.Runs.{IsLeftByAll, IsRun, IsWorldOfRun, Task, limits_
 use Rattle.run_model.specs.Worlds.{Move}
 use Rattle.refusals.specs.Saying.{IsSaid, IsSaidIfAny}
 use Rattle.outside_files.specs.Writing.{Says, Wrote}
-use Rattle.refusals.proofs.Said.{said, unsaid}
+use Rattle.refusals.proofs.Said.{said, said_if_any, unsaid}
 use Rattle.compose_cli.proofs.Statuses.{not_refused}
 
 -- a run's refusal is no refusal of loading
@@ -56,15 +55,21 @@ pub said_origin : (refusal found : Option Refusal) → IsOfRun refusal → IsSai
 said_origin None found o h = subst IsOfRun (sym h) tt
 said_origin (Some refusal) found o h = said refusal found h IsOfRun tt o
 
--- the refusal of a run that went well is a fault of the output, where that failed
-pub output_refusal : (whole : Bool) (text : List ℕ) (written_old written_new : Option (List ℕ)) (old new : ℕ) (refusal : Option Refusal) → Wrote whole text written_old written_new old new
-    → refusal ≡ (if whole then None else Some (Refusal.Outside Part.Out)) → IsRefusalOf None old new refusal
-output_refusal true text written_old written_new old new refusal w e = inl e
-output_refusal false text written_old written_new old new refusal w e = inr (inl (refl, e, w.0))
+-- the refusal of a run that went well is a fault of the output, where its report wasn't written whole
+pub after_refused : (fault : Option RunFault) (whole : Bool) (text : List ℕ) (written_old written_new : Option (List ℕ)) (old new : ℕ) → Wrote whole text written_old written_new old new → IsRefusalOf fault old new (refusal_after fault whole)
+after_refused (Some fault) whole text written_old written_new old new w = inl refl
+after_refused None true text written_old written_new old new w = inl refl
+after_refused None false text written_old written_new old new w = inr (inl (refl, refl, w.0))
 
-pub output_origin : (whole : Bool) (refusal : Option Refusal) → refusal ≡ (if whole then None else Some (Refusal.Outside Part.Out)) → IsOfRun refusal
-output_origin true refusal e = subst IsOfRun (sym e) tt
-output_origin false refusal e = subst IsOfRun (sym e) tt
+pub after_origin : (fault : Option RunFault) (whole : Bool) → IsOfRun (refusal_after fault whole)
+after_origin (Some fault) whole = run_origin fault
+after_origin None true = tt
+after_origin None false = tt
+
+pub after_reports : (fault : Option RunFault) (whole : Bool) (text : List ℕ) (written_old written_new : Option (List ℕ)) (old new : ℕ) → Wrote whole text written_old written_new old new → Reports text (refusal_after fault whole) written_old written_new old new
+after_reports (Some fault) whole text written_old written_new old new w = inl (whole, w)
+after_reports None true text written_old written_new old new w = w
+after_reports None false text written_old written_new old new w = inl (false, w)
 
 take_none : (n : ℕ) (xs : List ℕ) → xs ≡ [] → take n xs ≡ []
 take_none zero xs e = refl
@@ -100,13 +105,20 @@ module _ (old new : ℕ) where
       at (inr (inl e)) = absurd (cc (e.0))
       at (inr (inr e)) = e
 
-  none_of : (written_old written_new : Option (List ℕ)) (report : List ℕ) → Says [] written_old written_new old new
-      → (n : ℕ) × (n ≤ length report) × GrewBy written_old (take n report) written_new
+  abbrev GrewByPart : Option (List ℕ) → Option (List ℕ) → List ℕ → Type 0
+  GrewByPart written_old written_new report = (n : ℕ) × (n ≤ length report) × GrewBy written_old (take n report) written_new
+
+  none_of : (written_old written_new : Option (List ℕ)) (report : List ℕ) → Says [] written_old written_new old new → GrewByPart written_old written_new report
   none_of written_old written_new report says = at says.0 says.1
     where
-      at : (whole : Bool) → Wrote whole [] written_old written_new old new → (n : ℕ) × (n ≤ length report) × GrewBy written_old (take n report) written_new
+      at : (whole : Bool) → Wrote whole [] written_old written_new old new → GrewByPart written_old written_new report
       at true w = (0, omega arith, w)
       at false w = (0, omega arith, subst (λ (xs : List ℕ). GrewBy written_old xs written_new) (take_none w.1.0 [] refl) w.1.2)
+
+  none_by : (refusal : Option Refusal) (written_old written_new : Option (List ℕ)) (report : List ℕ) → Reports [] refusal written_old written_new old new → GrewByPart written_old written_new report
+  none_by None written_old written_new report grew = (0, omega arith, grew)
+  none_by (Some refusal) written_old written_new report (inl says) = none_of written_old written_new report says
+  none_by (Some refusal) written_old written_new report (inr wanted) = (0, omega arith, subst (λ (xs : List ℕ). GrewBy written_old xs written_new) (take_none wanted.1.0 [] refl) wanted.1.2)
 
   none_more : (written_old written_new : Option (List ℕ)) (text : List ℕ) → text ≡ [] → GrewBy written_old text written_new → written_new ≡ written_old
   none_more None written_new text e grew = grew
@@ -119,25 +131,36 @@ module _ (old new : ℕ) where
       at true w = none_more written_old written_new text e w
       at false w = none_more written_old written_new (take w.1.0 text) (take_none w.1.0 text e) w.1.2
 
+  reports_none : (refusal : Option Refusal) (written_old written_new : Option (List ℕ)) (text : List ℕ) → text ≡ [] → Reports text refusal written_old written_new old new → written_new ≡ written_old
+  reports_none None written_old written_new text e wrote = none_more written_old written_new text e wrote
+  reports_none (Some refusal) written_old written_new text e (inl says) = says_none written_old written_new text e says
+  reports_none (Some refusal) written_old written_new text e (inr wanted) = none_more written_old written_new (take wanted.1.0 text) (take_none wanted.1.0 text e) wanted.1.2
+
   -- of a journal without entries there is no report, and nothing is written
-  pub unwritten : (task : Task) (journal : List Entry) (fault : Option RunFault) (report : List ℕ) (written_old written_new : Option (List ℕ)) → IsReport (run_report task journal) fault report
-      → Says report written_old written_new old new → journal ≡ [] → written_new ≡ written_old
-  unwritten task journal fault report written_old written_new is says e =
-      says_none written_old written_new report (at (subst (λ (j : List Entry). IsReport (run_report task j) fault report) e is)) says
+  pub unwritten : (task : Task) (journal : List Entry) (fault : Option RunFault) (report : List ℕ) (refusal : Option Refusal) (written_old written_new : Option (List ℕ)) → IsReport (run_report task journal) fault report
+      → Reports report refusal written_old written_new old new → journal ≡ [] → written_new ≡ written_old
+  unwritten task journal fault report refusal written_old written_new is wrote e =
+      reports_none refusal written_old written_new report (at (subst (λ (j : List Entry). IsReport (run_report task j) fault report) e is)) wrote
     where
       at : IsReport (run_report task []) fault report → report ≡ []
       at (inl same) = same
       at (inr none) = none.0
 
+  -- where the line's memory is wanted, the report is as it was
+  reports_wanted : (report : List ℕ) (refusal : Option Refusal) (written_old written_new : Option (List ℕ)) → Reports report refusal written_old written_new old new → Reports report (Some Refusal.Memory) written_old written_new old new
+  reports_wanted report None written_old written_new grew = inl (true, grew)
+  reports_wanted report (Some refusal) written_old written_new (inl says) = inl says
+  reports_wanted report (Some refusal) written_old written_new (inr wanted) = inr (refl, wanted.1)
+
   -- the report that was written
   pub reports_by : (expected report : List ℕ) (fault : Option RunFault) (refusal found : Option Refusal) (written_old written_new : Option (List ℕ)) → IsReport expected fault report
-      → Says report written_old written_new old new → IsRefusalOf fault old new refusal → IsSaidIfAny refusal found → Reports expected found written_old written_new old new
-  reports_by expected report fault refusal found written_old written_new (inl e) says r h = inl (subst (λ (t : List ℕ). Says t written_old written_new old new) e says)
-  reports_by expected report fault refusal found written_old written_new (inr e) says r h =
-      inr (
-        memory_by refusal found (subst (λ (f : Option RunFault). IsRefusalOf f old new refusal) e.1 r) h,
-        none_of written_old written_new expected (subst (λ (t : List ℕ). Says t written_old written_new old new) e.0 says),
-      )
+      → Reports report refusal written_old written_new old new → IsRefusalOf fault old new refusal → IsSaidIfAny refusal found → Reports expected found written_old written_new old new
+  reports_by expected report fault refusal found written_old written_new (inl e) wrote r h =
+      let whole = subst (λ (t : List ℕ). Reports t refusal written_old written_new old new) e wrote in
+      said_if_any refusal found h (λ f. Reports expected f written_old written_new old new) (reports_wanted expected refusal written_old written_new whole) whole
+  reports_by expected report fault refusal found written_old written_new (inr e) wrote r h =
+      subst (λ (f : Option Refusal). Reports expected f written_old written_new old new) (sym (memory_by refusal found (subst (λ (f : Option RunFault). IsRefusalOf f old new refusal) e.1 r) h))
+      (inr (refl, none_by refusal written_old written_new expected (subst (λ (t : List ℕ). Reports t refusal written_old written_new old new) e.0 wrote)))
 
 -- the status by a run's fault
 same_status : (fault : RunFault) → refusal_status (run_refusal fault) ≡ fault_status fault
@@ -212,13 +235,14 @@ only_hand hands after Fact one fact w hand m = let only = only_at hands after ha
 pub ran_as : {H : Type 0} (tell : H → Telling) (task : Task) (journal : List Entry) (hands : List H) (status : ℕ) (report : List ℕ)
     (fault : Option RunFault) (refusal found : Option Refusal) (hand after : H) (written_old written_new : Option (List ℕ)) (old new : ℕ)
     → task.limits.workers ≡ 1 → HasOwnSpecs task.declared → IfBegun journal (IsRun task journal) → IfBegun journal (IsLeftByAll task journal) → IfBegun journal (GrowsBy (run_exchanges task journal 0) (tell hand).log (tell after).log) → IfBegun journal (IsFault (run_fault task journal) fault) → IfBegun journal (IsTimed task journal 0 (tell hand).clock (tell after).clock)
+    → IfBegun journal (ReadsFirst task.limits.deadline (length (tell hand).log) (tell after).clock)
     → IsReport (run_report task journal) fault report → IsCaused task journal 0 (account_in (tell hand)) (account_in (tell after))
     → (is_up task.aim.purpose ≡ true → SparesKept task journal) → IfBegun journal (is_up task.aim.purpose ≡ true → HasOwnSpecs task.declared → MakesOnce task journal)
     → IfBegun journal (is_up task.aim.purpose ≡ true → HasOwnSpecs task.declared → SparesAgreeing task journal) → IfBegun journal (is_up task.aim.purpose ≡ true → RollsFew task journal)
     → (fault ≡ None → is_up task.aim.purpose ≡ true → HasOwnSpecs task.declared → EndsExact task journal) → (fault ≡ None → is_up task.aim.purpose ≡ false → EndsGone task journal)
-    → (tell hand).log ≡ [] → (tell hand).clock ≡ new_clock → HeardNothing (tell hand).heard → (tell hand).faults ≡ 0 → hands ≡ after ∷ [] → IsRefusalOf fault old new refusal → Says report written_old written_new old new → IsSaidIfAny refusal found → status ≡ status_of found
+    → (tell hand).log ≡ [] → (tell hand).clock ≡ new_clock → HeardNothing (tell hand).heard → (tell hand).faults ≡ 0 → hands ≡ after ∷ [] → IsRefusalOf fault old new refusal → Reports report refusal written_old written_new old new → IsSaidIfAny refusal found → status ≡ status_of found
     → IfBegun journal (RanAs tell task (record { status = status; journal = journal; hands = hands; refusal = found }) written_old written_new old new)
-ran_as tell task journal hands status report fault refusal found hand after written_old written_new old new worker own is left grows told times reports causes spares once agreeing rolls ends lacks unused unread unheard faultless one refused says is_said is_status =
+ran_as tell task journal hands status report fault refusal found hand after written_old written_new old new worker own is left grows told times firsts reports causes spares once agreeing rolls ends lacks unused unread unheard faultless one refused says is_said is_status =
     if_begun_in journal is (λ inside run.
     let is_refusal = refused_by old new (run_fault task journal) fault refusal found (inside (IsFault (run_fault task journal) fault) told) refused is_said in record {
       legal = run;
@@ -230,6 +254,8 @@ ran_as tell task journal hands status report fault refusal found hand after writ
           (caused_anew task journal 0 (tell hand).log (tell hand).heard (tell hand).faults (account_in (tell after)) unused unheard faultless causes);
       timed = only_hand hands after (λ w h. IsTimed task journal w new_clock (tell h).clock) one
           (subst (λ (c : Clock). IsTimed task journal 0 c (tell after).clock) unread (inside (IsTimed task journal 0 (tell hand).clock (tell after).clock) times));
+      read_first = only_hand hands after (λ w h. ReadsFirst task.limits.deadline 0 (tell h).clock) one
+          (subst (λ (l : List Exchange). ReadsFirst task.limits.deadline (length l) (tell after).clock) unused (inside (ReadsFirst task.limits.deadline (length (tell hand).log) (tell after).clock) firsts)) 0;
       run_status = status_by (run_fault task journal) old new found status is_refusal is_status;
       run_fault = is_refusal;
       report = reports_by old new (run_report task journal) report fault refusal found written_old written_new reports says refused is_said;

@@ -1,3 +1,4 @@
 pub mod Ends
+pub mod Dialling
 pub mod Runs
 pub mod Reaching

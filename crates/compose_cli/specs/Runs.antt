@@ -1,5 +1,5 @@
 -- What a call leaves that ran a project.
-use Rattle.std.specs.Prelude.{◌≡◌, ◌⊎◌, ◌≤◌, ◌||◌, ℕ, true, false, List, [], ◌∷◌, Option, Some, None, Result, Ok, IfOk, IfSome, length, option_map, slice_get, take}
+use Rattle.std.specs.Prelude.{◌≡◌, ◌⊎◌, ◌≤◌, ◌||◌, ℕ, Bool, true, false, List, [], ◌∷◌, Option, Some, None, Result, Ok, IfOk, IfSome, length, option_map, slice_get, take}
 use Rattle.engine_types.specs.declared.RunOptions.{RunOptions}
 use Rattle.engine_types.specs.declared.Aim.{Aim}
 use Rattle.engine_types.specs.declared.Declared.{Declared}
@@ -23,7 +23,7 @@ use Rattle.compose_words.specs.declared.Command.{Command}
 use Rattle.compose_words.specs.declared.Options.{Options}
 use Rattle.file_digests.specs.declared.DigestRefusal.{DigestRefusal}
 use Rattle.typed_project.specs.declared.project.Project.{Project}
-use Rattle.project_run.specs.Timing.{IsTimed}
+use Rattle.project_run.specs.Timing.{IsTimed, ReadsFirst}
 use Rattle.project_run.specs.Whole.{IsCaused, SparesKept, task_of}
 use Rattle.project_run.specs.Worlds.{EndsExact, EndsGone, MakesOnce, RollsFew, SparesAgreeing}
 use Rattle.refusals.specs.Origins.{run_refusal}
@@ -142,8 +142,16 @@ IsRefusalOf fault old new refusal =
 abbrev pub IsStatusOf : ℕ → ℕ → Type 0
 IsStatusOf run status = (status ≡ run) ⊎ ((run ≡ 0) × (status ≡ 7)) ⊎ (status ≡ 9)
 
--- a run's report was written to the output, or a prefix of it where that failed or memory was wanted
+-- what a call is refused with whose run has this fault, if any, and whose report was written whole, or wasn't
+abbrev pub refusal_after : Option RunFault → Bool → Option Refusal
+refusal_after (Some fault) whole = Some (run_refusal fault)
+refusal_after None true = None
+refusal_after None false = Some (Refusal.Outside Part.Out)
+
+-- a run's report was written to the output whole; of a call that is refused it may be a prefix, where the output failed or memory
+-- was wanted
 abbrev pub Reports : List ℕ → Option Refusal → Option (List ℕ) → Option (List ℕ) → ℕ → ℕ → Type 0
+Reports report None old new faults_old faults_new = GrewBy old report new
 Reports report refusal old new faults_old faults_new =
     Says report old new faults_old faults_new
     ⊎ ((refusal ≡ Some Refusal.Memory)
@@ -201,6 +209,9 @@ pub record RanAs {H : Type 0} (tell : H → Telling) (task : Task) (ended : Ende
   -- the hand of each worker looked whether to stop, paused and read its clock as the journal says
   pub timed : (w : ℕ) (hand : H) → slice_get ended.hands w ≡ Some hand
       → IsTimed task ended.journal w new_clock (tell hand).clock
+  -- where there is a deadline, it counts from a reading that stands before the first exchange
+  pub read_first : (hand : H) → slice_get ended.hands 0 ≡ Some hand
+      → ReadsFirst task.limits.deadline 0 (tell hand).clock
   -- status, refusal and report are those of the run
   pub run_status : IsStatusOf (run_status task ended.journal) ended.status
   pub run_fault : IsRefusalOf (run_fault task ended.journal) faults_old faults_new ended.refusal

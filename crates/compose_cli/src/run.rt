@@ -1,7 +1,8 @@
-ghost use Rattle.std.specs.Prelude.{◌≡◌, ◌+◌, ◌<◌, ◌^◌, [], Option, Some, None, if◌then◌else◌, length, vec_len, vec_capacity};
+ghost use Rattle.std.specs.Prelude.{◌≡◌, ◌+◌, ◌<◌, ◌^◌, [], Option, Some, length, vec_len, vec_capacity};
 ghost use Rattle.std.specs.Option.{ForSome};
+ghost use Rattle.compose_cli.specs.Dialling.{Dials, IsDialAt};
 ghost use Rattle.compose_cli.specs.Ends.{CountsHands, SendsNothing};
-ghost use Rattle.compose_cli.specs.Runs.{IsRefusalOf, IsUnbegun, RanAlone, first_reading};
+ghost use Rattle.compose_cli.specs.Runs.{IsRefusalOf, IsUnbegun, RanAlone, Reports, first_reading, refusal_after};
 ghost use Rattle.engine_types.specs.declared.Engine.{Engine};
 ghost use Rattle.ledger_run.specs.Tellings.{telling};
 ghost use Rattle.outside_api.specs.Clock.{new_clock};
@@ -18,7 +19,7 @@ ghost use Rattle.run_model.specs.EngineRules.{Among};
 ghost use Rattle.run_model.specs.Plans.{IsWhole};
 ghost use Rattle.run_model.specs.Runs.{limits_of};
 ghost use Rattle.refusals.specs.Saying.{IsSaid, SaysRefusal};
-ghost use Rattle.outside_files.specs.Writing.{Says};
+ghost use Rattle.outside_files.specs.Writing.{Wrote};
 ghost use Rattle.world_laws.specs.OwnSpecs.{HasOwnSpecs};
 
 use crate::ended::Ended;
@@ -49,6 +50,8 @@ pub(crate) fn run_declared<P: Plug, O: Sink, G: Sink>(
     requires needs { NeedsDependencies declared }
     requires own { HasOwnSpecs declared }
     ensures origin { IsOfLoading result.refusal → ⊥ }
+    ensures dials { Dials (IsDialAt place) (P.dials plug.old) (P.dials plug.new)
+        (length result.hands) result.refusal }
     ensures dial { result.refusal ≡ Some (Refusal.Outside Part.Plug)
         → SendsNothing result × Rose (P.faults plug.old) (P.faults plug.new) }
     ensures dialled { CountsHands (P.dialled plug.old) (P.dialled plug.new) (length result.hands) }
@@ -151,27 +154,33 @@ fn run_with<H: Hand, O: Sink, G: Sink>(
     }
 }
 
-/// Writes the report; where that fails and the run went well, the refusal is a fault of the output.
+/// Writes the report; where that fails and the run went well, the refusal is a fault of the output. So a report that is cut off
+/// never ends a call well.
 pub fn write_report<O: Sink>(fault: Option<RunFault>, report: &Text, out: &mut O) -> Option<Refusal>
     ensures refused { IsRefusalOf fault (O.faults out.old) (O.faults out.new) result }
     ensures origin { IsOfRun result }
-    ensures written { Says report.now (O.written out.old) (O.written out.new)
+    ensures written { Reports report.now result (O.written out.old) (O.written out.new)
         (O.faults out.old) (O.faults out.new) }
 {
-    let whole = write_all(out, report.as_str().as_bytes());
-    match fault {
-        Some(fault) => Some(refusal_of(fault)),
-        None => fault_of_output(whole),
-    }
+    let whole = write_text(report, out);
+    refusal_after(fault, whole)
 }
 
-/// The refusal of a run that went well, whose report was written whole or not. No memory.
-fn fault_of_output(whole: bool) -> Option<Refusal>
-    ensures { result ≡ (if whole then None else Some (Refusal.Outside Part.Out)) }
+/// Writes a text; false where the output failed, after a prefix of it. No memory.
+fn write_text<O: Sink>(text: &Text, out: &mut O) -> bool
+    ensures { Wrote result text.now (O.written out.old) (O.written out.new)
+        (O.faults out.old) (O.faults out.new) }
 {
-    if whole {
-        None
-    } else {
-        Some(Refusal::Outside(Part::Out))
+    write_all(out, text.as_str().as_bytes())
+}
+
+/// What a call is refused with whose run has this fault, if any, and whose report was written whole, or wasn't. No memory.
+fn refusal_after(fault: Option<RunFault>, whole: bool) -> Option<Refusal>
+    ensures { result ≡ refusal_after fault whole }
+{
+    match fault {
+        Some(fault) => Some(refusal_of(fault)),
+        None if whole => None,
+        None => Some(Refusal::Outside(Part::Out)),
     }
 }

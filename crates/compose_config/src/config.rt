@@ -13,6 +13,7 @@ ghost use Rattle.refusals.specs.declared.Part.{Part};
 ghost use Rattle.refusals.specs.declared.Refusal.{Refusal};
 ghost use Rattle.refusals.specs.Refused.{IsRefusal};
 ghost use Rattle.refusals.specs.Saying.{IsSaid, IsSaidIfAny, SaysRefusal};
+ghost use Rattle.refusals.specs.Went.{ReadsEnd};
 
 use asked_project::{Asked, Command, project_asked};
 use outside_files::{Files, Sink, write_all};
@@ -66,6 +67,9 @@ pub fn config_run<F: Files, O: Sink, G: Sink>(
         (F.faults files.old) (F.faults files.new) path }
     ensures output_fault { result.refusal ≡ Some (Refusal.Outside Part.Out)
         → Rose (O.faults out.old) (O.faults out.new) }
+
+    // Where no read had failed before, none fails but the last, and that is what the call is then refused with, by its path.
+    ensures reads { ReadsEnd (F.reads files.old) (F.reads files.new) result.refusal }
 
     // At status 0 the page of the project was written whole, or nothing with `--quiet`; and else nothing, or a prefix
     // of it.

@@ -36,11 +36,19 @@ IsServed catalogue old request Outcome.Memory new = (new ≡ old) ⊎ (new ≡ (
 IsServed catalogue old request (Outcome.Lost cause) new = ⊥
 IsServed catalogue old request Outcome.NotSent new = ⊥
 
--- what an exchange whose answer is lost after its effect comes to: the Engine serves its request; where memory was wanted
--- for that, the outcome says so, and the Engine stays
+-- whether no id is left for what a request makes: ids are numbers of 64 bits, and the last of them is never given
+abbrev pub lacks_id : Engine → Request → Bool
+lacks_id engine (Request.Create name spec) = engine.next == 18446744073709551615
+lacks_id engine (Request.MakeNetwork spec) = engine.next == 18446744073709551615
+lacks_id engine request = false
+
+-- what an exchange whose answer is lost after its effect comes to: the Engine serves its request, but one for which no id is left,
+-- and it is lost all the same; where memory was wanted to serve it, the outcome says so, and the Engine stays
 abbrev pub IsServedAndLost : Catalogue → Engine → Request → Outcome → Engine → Type 0
-IsServedAndLost catalogue old request Outcome.Memory new = new ≡ old
-IsServedAndLost catalogue old request outcome new = (outcome ≡ Outcome.Lost WireEnd.Fault) × (new ≡ (served catalogue old request).1)
+IsServedAndLost catalogue old request Outcome.Memory new = (new ≡ old) × (lacks_id old request ≡ false)
+IsServedAndLost catalogue old request outcome new =
+    (outcome ≡ Outcome.Lost WireEnd.Fault)
+    × (new ≡ (if lacks_id old request then old else (served catalogue old request).1))
 
 -- what an exchange of this fate comes to: its outcome, and the Engine after it
 abbrev pub ComesTo : Fate → Catalogue → Engine → Request → Outcome → Engine → Type 0

@@ -1,6 +1,6 @@
-ghost use Rattle.std.specs.Prelude.{◌≡◌, ◌+◌, ◌<◌, ◌≤◌, ◌^◌, Some, None, [], min};
+ghost use Rattle.std.specs.Prelude.{◌≡◌, ◌+◌, ◌<◌, ◌≤◌, ◌^◌, Some, None, [], length, min};
 ghost use Rattle.run_model.specs.EngineRules.{DriftsTold, Tells};
-ghost use Rattle.outside_api.specs.Clock.{new_clock, after_now, after_pause, after_asked};
+ghost use Rattle.outside_api.specs.Clock.{new_clock, after_pause, after_asked, read_at};
 ghost use Rattle.outside_files.specs.Counts.{one_more};
 ghost use Rattle.outside_api.specs.Hands.{HasCause, Logs, logged};
 ghost use Rattle.memory_engine.specs.Ticking.{later, ticked};
@@ -110,7 +110,8 @@ impl Hand for MemoryHand {
     /// The time in milliseconds, which rises by the pauses alone.
     fn now(&mut self) -> u64
         requires { (clock_of self.old).readings < 2 ^ 62 }
-        ensures clock { clock_of self.new ≡ after_now (clock_of self.old) result }
+        ensures clock { clock_of self.new
+            ≡ read_at (length (log_of self.old)) (clock_of self.old) result }
         ensures log { log_of self.new ≡ log_of self.old }
         ensures engine { Some self.new.engine.engine ≡ Some self.old.engine.engine }
         ensures memory { self.new.engine ≡ self.old.engine }
@@ -118,7 +119,8 @@ impl Hand for MemoryHand {
         ensures reading { result ≡ time_of self.old }
         ensures time { time_of self.new ≡ time_of self.old }
     {
-        self.clock.now()
+        let made = self.log.len() as u64;
+        self.clock.now_at(made)
     }
 
     /// Pauses, in which the Engine makes the next change of its script.

@@ -64,7 +64,8 @@ impl Hand for SilentHand {
     }
 
     fn now(&mut self) -> u64 {
-        self.clock.now()
+        let made = self.log.len() as u64;
+        self.clock.now_at(made)
     }
 
     fn pause(&mut self, ms: u32) {

@@ -1,23 +1,28 @@
-ghost use Rattle.std.specs.Prelude.{◌≡◌, None, Some};
+ghost use Rattle.std.specs.Prelude.{◌≡◌, [], None, Some};
 
 use crate::silent_hand::SilentHand;
-use outside_api::{DialAnswer, Plug, Target};
+use outside_api::{Dial, DialAnswer, Plug, Target, note_dial};
 use std::alloc::Global;
-use tree_base::Text;
+use tree_base::{List, Text};
 
 /// A plug of hands whose peers close each connection without an answer. It tells no Engine, and no dial fails.
 #[derive(Drop)]
 pub struct SilentPlug {
+    dials: List<Dial>,
     dialled: u64,
 }
 
 impl SilentPlug {
     /// A plug that made no hand yet. No memory.
-    pub fn new() -> SilentPlug
+    pub fn new(alloc: Global) -> SilentPlug
+        ensures dials { ⟦<SilentPlug as Plug>⟧.dials result ≡ [] }
         ensures dialled { ⟦<SilentPlug as Plug>⟧.dialled result ≡ Some 0 }
         ensures faults { ⟦<SilentPlug as Plug>⟧.faults result ≡ 0 }
     {
-        SilentPlug { dialled: 0 }
+        SilentPlug {
+            dials: List::new(alloc),
+            dialled: 0,
+        }
     }
 }
 
@@ -26,6 +31,8 @@ impl Plug for SilentPlug {
 
     ghost engine = { λ _. None };
 
+    ghost dials = { λ plug. plug.dials };
+
     ghost dialled = { λ plug. Some plug.dialled };
 
     ghost faults = { λ _. 0 };
@@ -33,10 +40,13 @@ impl Plug for SilentPlug {
     fn dial(
         &mut self,
         alloc: Global,
-        _target: &Target,
-        _stop_file: Option<&Text>,
-        _number: u32,
+        target: &Target,
+        stop_file: Option<&Text>,
+        number: u32,
     ) -> DialAnswer<SilentHand> {
+        if note_dial(alloc, &mut self.dials, target, stop_file, number).is_err() {
+            return DialAnswer::Memory;
+        }
         self.dialled += 1;
         DialAnswer::Dialled(SilentHand::new(alloc))
     }

@@ -3,7 +3,7 @@ ghost use Rattle.std.specs.Option.{ForSome, option_copied};
 ghost use Rattle.engine_plugs.specs.MainHands.{IsFresh, IsSocketHand, no_engine};
 ghost use Rattle.outside_api.specs.Clock.{new_clock};
 ghost use Rattle.outside_api.specs.Hands.{BeginsWith, HeardNothing};
-ghost use Rattle.outside_api.specs.Plugs.{CountsDial};
+ghost use Rattle.outside_api.specs.Plugs.{AddsDial, CountsDial, dial_of};
 ghost use Rattle.outside_files.specs.Counts.{Rose};
 ghost use Rattle.shared_hand.specs.SharedHands.{clock_of, log_of};
 ghost use Rattle.socket_wire.specs.WiresOfSockets.{path_of, stop_file_of};
@@ -11,21 +11,23 @@ ghost use Rattle.socket_wire.specs.WiresOfSockets.{path_of, stop_file_of};
 use crate::main_hand::MainHand;
 use http_hand::HttpHand;
 use memory_engine::MemoryEngine;
-use outside_api::{DialAnswer, Hand, Plug, Target};
+use outside_api::{Dial, DialAnswer, Hand, Plug, Target, copied_stop_file, note_dial};
 use shared_hand::{SharedEngine, SharedHand};
 use socket_wire::SocketWire;
 use std::alloc::Global;
 use std::sync::{Arc, Mutex, Wait};
-use tree_base::{Memory, Text};
+use tree_base::{List, Memory, Text};
 
-/// The plug of the program. It tells no Engine, and counts the hands that it made. No dial fails: the hand of a socket connects
-/// at its exchanges, and all hands in memory share one Engine, which is fresh for the first of them.
+/// The plug of the program. It tells no Engine, keeps the dials that it was asked for, and counts the hands that it made. No dial
+/// fails: the hand of a socket connects at its exchanges, and all hands in memory share one Engine, which is fresh for the first
+/// of them.
 #[derive(Drop)]
 pub struct MainPlug<'r, R> {
     host: &'r HostRuntime,
     rt: &'r R,
     /// The Engine in memory, once a hand was made for it.
     memory: Option<Arc<Mutex<SharedEngine>>>,
+    dials: List<Dial>,
     dialled: u64,
 }
 
@@ -33,6 +35,7 @@ impl<'r, R: Wait + Sync> MainPlug<'r, R> {
     /// A plug that made no hand yet. Its hands over sockets are the host's, and those in memory wait for their lock by the other
     /// handle. No memory.
     pub fn new(host: &'r HostRuntime, rt: &'r R) -> MainPlug<'r, R>
+        ensures dials { ⟦<MainPlug<'r, R> as Plug>⟧.dials result ≡ [] }
         ensures dialled { ⟦<MainPlug<'r, R> as Plug>⟧.dialled result ≡ Some 0 }
         ensures faults { ⟦<MainPlug<'r, R> as Plug>⟧.faults result ≡ 0 }
     {
@@ -40,6 +43,7 @@ impl<'r, R: Wait + Sync> MainPlug<'r, R> {
             host,
             rt,
             memory: None,
+            dials: List::new(host.alloc()),
             dialled: 0,
         }
     }
@@ -64,6 +68,7 @@ impl<'r, R: Wait + Sync> MainPlug<'r, R> {
               (path_of http.wire) (stop_file_of http.wire)
           | MainHand.Memory memory ↦ target.now ≡ Target.InMemory
         ]) }
+        ensures dials { self.new.dials ≡ self.old.dials }
         ensures dialled { self.new.dialled ≡ self.old.dialled }
     {
         match target {
@@ -79,6 +84,7 @@ impl<'r, R: Wait + Sync> MainPlug<'r, R> {
     fn memory_hand(&mut self, alloc: Global) -> Result<SharedHand<'r, R>, Memory>
         ensures log { IfOk result (λ hand. log_of hand ≡ []) }
         ensures clock { IfOk result (λ hand. clock_of hand ≡ new_clock) }
+        ensures dials { self.new.dials ≡ self.old.dials }
         ensures dialled { self.new.dialled ≡ self.old.dialled }
     {
         let shared = self.shared(alloc)?;
@@ -87,7 +93,8 @@ impl<'r, R: Wait + Sync> MainPlug<'r, R> {
 
     /// The Engine that hands in memory share, which is made for the first of them.
     fn shared(&mut self, alloc: Global) -> Result<Arc<Mutex<SharedEngine>>, Memory>
-        ensures { self.new.dialled ≡ self.old.dialled }
+        ensures dials { self.new.dials ≡ self.old.dials }
+        ensures dialled { self.new.dialled ≡ self.old.dialled }
     {
         if let Some(shared) = &self.memory {
             return Ok(Arc::try_clone(shared)?);
@@ -104,23 +111,27 @@ impl<'r, R: Wait + Sync> Plug for MainPlug<'r, R> {
 
     ghost engine = { λ _. None };
 
+    ghost dials = { λ plug. plug.dials };
+
     ghost dialled = { λ plug. Some plug.dialled };
 
     ghost faults = { λ _. 0 };
 
-    /// Makes a hand that speaks with the Engine of a target. Memory only where there is none for the paths, or for an Engine in
-    /// memory.
+    /// Makes a hand that speaks with the Engine of a target. Memory only where there is none for the dial, for the paths, or for an
+    /// Engine in memory.
     fn dial(
         &mut self,
         alloc: Global,
         target: &Target,
         stop_file: Option<&Text>,
-        _number: u32,
+        number: u32,
     ) -> DialAnswer<MainHand<'r, R>>
         requires { ForSome (Some self.old.dialled) (λ n. n < 2 ^ 62) }
         ensures counted { 0 ≤ 0 }
         ensures failed { result ≡ DialAnswer.Failed → Rose 0 0 }
         ensures never_fails { result ≡ DialAnswer.Failed → ⊥ }
+        ensures dials { AddsDial self.old.dials
+            (dial_of target.now (option_copied stop_file.entry) number) self.new.dials result }
         ensures dialled { CountsDial (Some self.old.dialled) (Some self.new.dialled) result }
         ensures log { (hand : _) → result ≡ DialAnswer.Dialled hand
             → ⟦<MainHand<'r, R> as Hand>⟧.log hand ≡ [] }
@@ -139,6 +150,9 @@ impl<'r, R: Wait + Sync> Plug for MainPlug<'r, R> {
               | MainHand.Memory memory ↦ target.now ≡ Target.InMemory
             ] }
     {
+        if note_dial(alloc, &mut self.dials, target, stop_file, number).is_err() {
+            return DialAnswer::Memory;
+        }
         match self.hand_for(alloc, target, stop_file) {
             Ok(hand) => {
                 self.dialled += 1;
@@ -173,17 +187,9 @@ fn socket_hand<'r>(
     ensures stop_file { IfOk result (λ hand.
         stop_file_of hand.wire ≡ option_copied stop_file.entry) }
 {
-    let stop_file = copied(alloc, stop_file)?;
+    let stop_file = copied_stop_file(alloc, stop_file)?;
     let path = path.copy(alloc)?;
     Ok(HttpHand::new(alloc, SocketWire::new(rt, path, stop_file)))
 }
 
-/// A copy of a text, where there is one.
-fn copied(alloc: Global, text: Option<&Text>) -> Result<Option<Text>, Memory>
-    ensures { IfOk result (λ copy. copy ≡ option_copied text.entry) }
-{
-    match text {
-        Some(text) => Ok(Some(text.copy(alloc)?)),
-        None => Ok(None),
-    }
 }

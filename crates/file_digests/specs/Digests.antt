@@ -5,6 +5,8 @@ use Rattle.sha2.specs.Sha256.{sha256}
 use Rattle.hex.specs.Hex.{encode_lower}
 use Rattle.engine_types.specs.declared.declared.Kind.{Kind}
 use Rattle.outside_files.specs.Files.{Contents, IsReadOf}
+use Rattle.outside_files.specs.Reads.{FailedAt, Went, Well, went}
+use Rattle.outside_files.specs.declared.file_read.FileRead.{FileRead}
 use Rattle.outside_files.specs.declared.files.FileAnswer.{FileAnswer}
 use Rattle.outside_files.specs.declared.files.FileAnswer.TheVariants.{Bytes, Missing, Longer, Failed, Memory}
 use Rattle.service_hashes.specs.declared.digest.FileDigest.{FileDigest}
@@ -29,6 +31,20 @@ digest_read kind item Memory = Err refusals.Memory
 -- an answer that the read of an item's file may give
 abbrev pub MayAnswer : Option Contents → FileItem → FileAnswer → Type 0
 MayAnswer told item answer = IfSome told (λ files. IsReadOf files item.file most_file_bytes answer)
+
+-- how the reads went of what is refused so: the last one failed where that is what it is refused with, and else all went well
+abbrev pub refused_as : DigestRefusal → Went
+refused_as (refusals.ReadFault path) = FailedAt path
+refused_as refusal = Well
+
+-- the same of what was given
+abbrev pub ends_as : {X : Type 0} → Result X DigestRefusal → Went
+ends_as (Ok x) = Well
+ends_as (Err refusal) = refused_as refusal
+
+-- where no read had failed before, the reads went as it ended
+abbrev pub WentAs : {X : Type 0} → List FileRead → List FileRead → Result X DigestRefusal → Type 0
+WentAs old new result = went old ≡ Well → went new ≡ ends_as result
 
 -- digests, or the refusal of the first that there is none of
 abbrev pub Given : Type 0

@@ -1,7 +1,8 @@
 ghost use Rattle.std.specs.Prelude.{◌≡◌, ◌++◌, ℕ, ◌≤◌, List, Err, IfOk};
 ghost use Rattle.outside_files.specs.Counts.{Rose};
+ghost use Rattle.outside_files.specs.Reads.{answered_as};
 ghost use Rattle.outside_files.specs.declared.files.FileAnswer.{FileAnswer};
-ghost use Rattle.file_digests.specs.Digests.{AreDigested, Digested, MayAnswer, digest_of, digest_read};
+ghost use Rattle.file_digests.specs.Digests.{AreDigested, Digested, MayAnswer, WentAs, digest_of, digest_read, ends_as};
 
 use crate::refusal::DigestRefusal;
 use engine_types::Kind;
@@ -24,6 +25,7 @@ pub fn digests<F: Files>(
         → AreDigested (F.told files.old) project.now result }
     ensures fault { (at : List ℕ) → result ≡ Err (DigestRefusal.ReadFault at)
         → Rose (F.faults files.old) (F.faults files.new) }
+    ensures reads { WentAs (F.reads files.old) (F.reads files.new) result }
     ensures counted { F.faults files.old ≤ F.faults files.new }
     ensures kept { F.told files.new ≡ F.told files.old }
 {
@@ -43,6 +45,7 @@ fn digests_of<F: Files>(
         → Digested (F.told files.old) kind items.now result }
     ensures fault { (at : List ℕ) → result ≡ Err (DigestRefusal.ReadFault at)
         → Rose (F.faults files.old) (F.faults files.new) }
+    ensures reads { WentAs (F.reads files.old) (F.reads files.new) result }
     ensures counted { F.faults files.old ≤ F.faults files.new }
     ensures kept { F.told files.new ≡ F.told files.old }
 {
@@ -66,20 +69,26 @@ fn digest_of<F: Files>(
         × (result ≡ digest_read kind item.now answer) }
     ensures fault { (at : List ℕ) → result ≡ Err (DigestRefusal.ReadFault at)
         → Rose (F.faults files.old) (F.faults files.new) }
+    ensures reads { WentAs (F.reads files.old) (F.reads files.new) result }
     ensures counted { F.faults files.old ≤ F.faults files.new }
     ensures kept { F.told files.new ≡ F.told files.old }
 {
+    // Before the read, so that one that fails is always told.
+    let path = item.file.copy(alloc)?;
     let answer = files.read(alloc, &item.file, MOST_FILE_BYTES);
-    digest_read(alloc, kind, item, answer)
+    digest_read(alloc, kind, item, path, answer)
 }
 
-/// What the answer to the read of an item's file gives.
+/// What the answer to the read of an item's file, whose path this is, gives.
 fn digest_read(
     alloc: Global,
     kind: Kind,
     item: &FileItem,
+    path: Text,
     answer: FileAnswer,
 ) -> Result<FileDigest, DigestRefusal>
+    requires path { path ≡ item.now.file }
+    ensures ends { ends_as result ≡ answered_as item.now.file answer }
     ensures given { (result ≡ Err DigestRefusal.Memory → ⊥)
         → result ≡ digest_read kind item.now answer }
     ensures fault { (at : List ℕ) → result ≡ Err (DigestRefusal.ReadFault at)
@@ -87,15 +96,9 @@ fn digest_read(
 {
     match answer {
         FileAnswer::Bytes(bytes) => Ok(bytes_digest(alloc, kind, item, bytes.as_slice())?),
-        FileAnswer::Missing => Err(DigestRefusal::NotFound {
-            path: item.file.copy(alloc)?,
-        }),
-        FileAnswer::Longer => Err(DigestRefusal::FileTooLarge {
-            path: item.file.copy(alloc)?,
-        }),
-        FileAnswer::Failed => Err(DigestRefusal::ReadFault {
-            path: item.file.copy(alloc)?,
-        }),
+        FileAnswer::Missing => Err(DigestRefusal::NotFound { path }),
+        FileAnswer::Longer => Err(DigestRefusal::FileTooLarge { path }),
+        FileAnswer::Failed => Err(DigestRefusal::ReadFault { path }),
         FileAnswer::Memory => Err(DigestRefusal::Memory),
     }
 }

@@ -14,6 +14,7 @@ use Rattle.outside_api.specs.Wires.{GrewByTalk}
 use Rattle.response_rules.specs.Broken.{IsReply}
 use Rattle.http_hand.specs.Hearing.{closed, connections, heard_in, heard_of, nothing}
 use Rattle.http_hand.proofs.Closing.{speaks_kept}
+use Rattle.http_hand.proofs.Rows.{reply_fits}
 use Rattle.http_hand.specs.Speaking.{IsUnspoken, SaysOf, SpeaksBy, Spoke}
 
 -- ---- connections that are counted
@@ -107,7 +108,7 @@ heard_reply request reply item (Some items) h r = (item, h, r)
 
 caused_by : (request : Request) (read : List ℕ) (ended : Bool) (f g : ℕ) (outcome : Outcome) (new : Option (List Heard)) → IfSome new (HeardLast (item_of read ended))
     → SaysOf request read ended f g outcome → HasCause request new f g outcome
-caused_by request read ended f g (Outcome.Answered reply) new h s = heard_reply request reply (item_of read ended) new h s
+caused_by request read ended f g (Outcome.Answered reply) new h s = (reply_fits request s.status s.body reply s.gives, heard_reply request reply (item_of read ended) new h s)
 caused_by request read ended f g (Outcome.Lost WireEnd.Fault) new h s = inl s
 caused_by request read ended f g (Outcome.Lost WireEnd.BadBody) new h s = inr (item_of read ended, s, h)
 caused_by request read ended f g (Outcome.Lost WireEnd.Ended) new h s = inr (item_of read ended, s, h)

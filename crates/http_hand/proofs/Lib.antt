@@ -1,3 +1,4 @@
 pub mod Talking
 pub mod Closing
+pub mod Rows
 pub mod Hearing

@@ -2,28 +2,29 @@ ghost use Rattle.std.specs.Prelude.{◌≡◌, ◌⊎◌, ◌<◌, ◌≤◌, �
 ghost use Rattle.std.specs.Option.{option_map};
 ghost use Rattle.engine_bodies.specs.Requests.{bytes_of};
 ghost use Rattle.run_model.specs.EngineRules.{Tells};
-ghost use Rattle.outside_api.specs.Clock.{after_asked, after_now, after_pause};
+ghost use Rattle.outside_api.specs.Clock.{new_clock};
 ghost use Rattle.outside_api.specs.Hands.{HasCause, HeardNothing, HearsNext, Logs, logged};
 ghost use Rattle.http_hand.specs.Hearing.{closed, connections, heard_in};
 ghost use Rattle.http_hand.specs.Speaking.{Speaks};
-ghost use Rattle.http_hand.specs.HttpHands.{HasNoPast, no_engine};
+ghost use Rattle.http_hand.specs.HttpHands.{HasNoPast, at_place, no_engine};
 
 use crate::speaking::speak;
 use engine_types::{Exchange, Outcome, Request};
-use outside_api::{Hand, Wire};
+use outside_api::{Hand, Wire, placed};
 use std::alloc::Global;
 use tree_base::limits::MOST_EXCHANGES;
 use tree_base::{ReservedList, TryCopy};
 use wires::EvenWire;
 
 /// A hand over a wire. It tells what it heard where its wire tells what was said, and no Engine. Its clock and its count of
-/// faults are the wire's.
+/// faults are the wire's; it notes itself behind how many exchanges the clock was read first.
 #[derive(Drop)]
 pub struct HttpHand<W: Wire> {
     wire: W,
     log: ReservedList<Exchange>,
     /// For each exchange, whether it opened a connection.
     opened: ReservedList<bool>,
+    place: Option<u64>,
     ghost dialled: { W.dialled wire ≡ connections opened.items },
     ghost told: { closed (W.past wire) (connections opened.items) ≡ connections opened.items },
 }
@@ -38,12 +39,15 @@ impl<W: EvenWire> HttpHand<W> {
         ensures heard { HeardNothing (⟦<HttpHand<W> as Hand>⟧.heard result) }
         ensures engine { ⟦<HttpHand<W> as Hand>⟧.engine result ≡ None }
         ensures faults { ⟦<HttpHand<W> as Hand>⟧.faults result ≡ W.faults wire }
-        ensures clock { ⟦<HttpHand<W> as Hand>⟧.clock result ≡ W.clock wire }
+        ensures clock { ⟦<HttpHand<W> as Hand>⟧.clock result ≡ at_place None (W.clock wire) }
+        ensures unread { W.clock wire ≡ new_clock
+            → ⟦<HttpHand<W> as Hand>⟧.clock result ≡ new_clock }
     {
         HttpHand {
             wire,
             log: ReservedList::new(alloc),
             opened: ReservedList::new(alloc),
+            place: None,
         }
     }
 
@@ -66,6 +70,7 @@ impl<W: EvenWire> HttpHand<W> {
         ensures wire { self.new.wire ≡ self.old.wire }
         ensures log { self.new.log.items ≡ self.old.log.items }
         ensures opened { self.new.opened.items ≡ self.old.opened.items }
+        ensures place { self.new.place ≡ self.old.place }
         ensures log_room { IsTrue result → 0 < self.new.log.spare }
         ensures opened_room { IsTrue result → 0 < self.new.opened.spare }
         ensures few { IsTrue result → connections self.new.opened.items < 2 ^ 62 }
@@ -86,7 +91,7 @@ impl<W: EvenWire> Hand for HttpHand<W> {
 
     ghost faults = { λ hand. W.faults hand.wire };
 
-    ghost clock = { λ hand. W.clock hand.wire };
+    ghost clock = { λ hand. at_place hand.place (W.clock hand.wire) };
 
     /// Makes an exchange on one connection of its own, which is opened for it and closed behind it. Where there is no room in
     /// the log, nothing changes.
@@ -103,7 +108,8 @@ impl<W: EvenWire> Hand for HttpHand<W> {
         ensures cause { HasCause request
             (option_map (heard_in self.new.opened.items) (W.past self.new.wire))
             (W.faults self.old.wire) (W.faults self.new.wire) result }
-        ensures clock { W.clock self.new.wire ≡ W.clock self.old.wire }
+        ensures clock { at_place self.new.place (W.clock self.new.wire)
+            ≡ at_place self.old.place (W.clock self.old.wire) }
         ensures unlogged { self.new.log.items ≡ self.old.log.items
             → self.new.wire ≡ self.old.wire }
         ensures speaks { self.new.log.items ≡ logged self.old.log.items request result
@@ -127,6 +133,7 @@ impl<W: EvenWire> Hand for HttpHand<W> {
     }
 
     fn now(&mut self) -> u64 {
+        self.place = placed(self.log.len() as u64, self.place);
         self.wire.now()
     }
 

@@ -1,6 +1,6 @@
 ghost use Rattle.std.specs.Prelude.{◌≡◌, ◌≤◌, ℕ, Err, List, map};
 ghost use Rattle.include_extends.specs.Loading.{default_file, files_found};
-ghost use Rattle.loaded_files.specs.Reads.{Gives};
+ghost use Rattle.loaded_files.specs.Reads.{Gives, WentAs};
 ghost use Rattle.loaded_files.specs.declared.refusal.LoadRefusal.{LoadRefusal};
 ghost use Rattle.outside_files.specs.Counts.{Rose};
 
@@ -29,6 +29,7 @@ pub(crate) fn files_found<F: Files>(
     ensures given { Gives (F.told files.old) result (files_found directory.now given) }
     ensures fault { (at : List ℕ) → result ≡ Err (LoadRefusal.ReadFault at)
         → Rose (F.faults files.old) (F.faults files.new) }
+    ensures reads { WentAs (F.reads files.old) (F.reads files.new) result }
     ensures counted { F.faults files.old ≤ F.faults files.new }
     ensures kept { F.told files.new ≡ F.told files.old }
 {
@@ -52,6 +53,7 @@ fn default_file<F: Files>(
         (default_file directory.now (map (λ name. name.now) names.now)) }
     ensures fault { (at : List ℕ) → result ≡ Err (LoadRefusal.ReadFault at)
         → Rose (F.faults files.old) (F.faults files.new) }
+    ensures reads { WentAs (F.reads files.old) (F.reads files.new) result }
     ensures counted { F.faults files.old ≤ F.faults files.new }
     ensures kept { F.told files.new ≡ F.told files.old }
 {

@@ -1,6 +1,6 @@
 ghost use Rattle.std.specs.Prelude.{◌≡◌, ◌≤◌, ℕ, Err, List};
 ghost use Rattle.include_extends.specs.Loading.{loaded_at, loaded_of, loading};
-ghost use Rattle.loaded_files.specs.Reads.{Gives};
+ghost use Rattle.loaded_files.specs.Reads.{Gives, WentAs};
 ghost use Rattle.loaded_files.specs.declared.refusal.LoadRefusal.{LoadRefusal};
 ghost use Rattle.outside_files.specs.Counts.{Rose};
 
@@ -33,6 +33,7 @@ pub fn load<F: Files>(
     ensures given { Gives (F.told files.old) result (loading request.now) }
     ensures fault { (at : List ℕ) → result ≡ Err (LoadRefusal.ReadFault at)
         → Rose (F.faults files.old) (F.faults files.new) }
+    ensures reads { WentAs (F.reads files.old) (F.reads files.new) result }
     ensures counted { F.faults files.old ≤ F.faults files.new }
     ensures kept { F.told files.new ≡ F.told files.old }
 {
@@ -50,6 +51,7 @@ fn loaded_at<F: Files>(
     ensures given { Gives (F.told files.old) result (loaded_at places caller.now) }
     ensures fault { (at : List ℕ) → result ≡ Err (LoadRefusal.ReadFault at)
         → Rose (F.faults files.old) (F.faults files.new) }
+    ensures reads { WentAs (F.reads files.old) (F.reads files.new) result }
     ensures counted { F.faults files.old ≤ F.faults files.new }
     ensures kept { F.told files.new ≡ F.told files.old }
 {
@@ -78,6 +80,7 @@ fn loaded_of<F: Files>(
     ensures given { Gives (F.told files.old) result (loaded_of places caller.now found) }
     ensures fault { (at : List ℕ) → result ≡ Err (LoadRefusal.ReadFault at)
         → Rose (F.faults files.old) (F.faults files.new) }
+    ensures reads { WentAs (F.reads files.old) (F.reads files.new) result }
     ensures counted { F.faults files.old ≤ F.faults files.new }
     ensures kept { F.told files.new ≡ F.told files.old }
 {

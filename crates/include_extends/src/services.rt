@@ -1,7 +1,7 @@
 ghost use Rattle.std.specs.Prelude.{◌≡◌, ◌≤◌, ℕ, Err, IfOk, List, OnOk, Some, codes};
 ghost use Rattle.std.specs.Option.{option_copied};
 ghost use Rattle.include_extends.specs.Services.{bounded, elements_loaded, mapping_of, services_loaded, services_of, services_under, tree_loaded, with_services};
-ghost use Rattle.loaded_files.specs.Reads.{Gives, IsGiven};
+ghost use Rattle.loaded_files.specs.Reads.{Gives, IsGiven, WentAs};
 ghost use Rattle.loaded_files.specs.declared.refusal.LoadRefusal.{LoadRefusal};
 ghost use Rattle.outside_files.specs.Counts.{Rose};
 ghost use Rattle.tree_base.specs.Entries.{with_entry};
@@ -26,6 +26,7 @@ pub(crate) fn with_services<F: Files>(
     ensures given { Gives (F.told files.old) result (with_services file.now own) }
     ensures fault { (at : List ℕ) → result ≡ Err (LoadRefusal.ReadFault at)
         → Rose (F.faults files.old) (F.faults files.new) }
+    ensures reads { WentAs (F.reads files.old) (F.reads files.new) result }
     ensures counted { F.faults files.old ≤ F.faults files.new }
     ensures kept { F.told files.new ≡ F.told files.old }
 {
@@ -47,6 +48,7 @@ fn tree_loaded<F: Files>(
         (tree_loaded env.now file.now tree left (out-Tree tree)) }
     ensures fault { (at : List ℕ) → result ≡ Err (LoadRefusal.ReadFault at)
         → Rose (F.faults files.old) (F.faults files.new) }
+    ensures reads { WentAs (F.reads files.old) (F.reads files.new) result }
     ensures counted { F.faults files.old ≤ F.faults files.new }
     ensures kept { F.told files.new ≡ F.told files.old }
 {
@@ -72,6 +74,7 @@ fn elements_loaded<F: Files>(
         (elements_loaded env.now file.now top left) }
     ensures fault { (at : List ℕ) → result ≡ Err (LoadRefusal.ReadFault at)
         → Rose (F.faults files.old) (F.faults files.new) }
+    ensures reads { WentAs (F.reads files.old) (F.reads files.new) result }
     ensures counted { F.faults files.old ≤ F.faults files.new }
     ensures kept { F.told files.new ≡ F.told files.old }
 {
@@ -93,6 +96,7 @@ fn services_under<F: Files>(
         (services_of top)) }
     ensures fault { (at : List ℕ) → result ≡ Err (LoadRefusal.ReadFault at)
         → Rose (F.faults files.old) (F.faults files.new) }
+    ensures reads { WentAs (F.reads files.old) (F.reads files.new) result }
     ensures counted { F.faults files.old ≤ F.faults files.new }
     ensures kept { F.told files.new ≡ F.told files.old }
 {
@@ -156,6 +160,7 @@ fn services_loaded<F: Files>(
         (services_loaded env.now file.now services left) }
     ensures fault { (at : List ℕ) → result ≡ Err (LoadRefusal.ReadFault at)
         → Rose (F.faults files.old) (F.faults files.new) }
+    ensures reads { WentAs (F.reads files.old) (F.reads files.new) result }
     ensures counted { F.faults files.old ≤ F.faults files.new }
     ensures kept { F.told files.new ≡ F.told files.old }
 {

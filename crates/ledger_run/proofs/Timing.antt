@@ -5,7 +5,7 @@ use Rattle.std.specs.Prelude.{◌==◌, nat_le}
 use Rattle.engine_types.specs.declared.Entry.{Entry}
 use Rattle.engine_types.specs.declared.LateWhy.{LateWhy}
 use Rattle.engine_types.specs.declared.Outcome.{Outcome}
-use Rattle.outside_api.specs.Clock.{Clock, after_asked, after_now, after_pause}
+use Rattle.outside_api.specs.Clock.{Clock, after_asked, after_pause, placed, read_at}
 use Rattle.run_model.specs.Logs.{asks, asks_unstopped, is_ask_of, late_reading, pauses, was_stopped}
 use Rattle.ledger_run.specs.Timing.{IsTimed, late_by, readings_for}
 use Rattle.ledger_run.proofs.Calm.{IsCalm}
@@ -21,6 +21,7 @@ pub record IsReadied (deadline : Option ℕ) (past : List Entry) (old new : Cloc
   pub paused : new.paused ≡ old.paused + pauses past 0
   pub readings : new.readings ≡ old.readings + readings_for deadline (asked_so past)
   pub first : 0 < old.readings → new.first ≡ old.first
+  pub place : (made : ℕ) → old.place ≡ Some made → new.place ≡ Some made
   pub late : late_reading past 0 ≡ late_by deadline (asked_so past) new.last
 
 -- an entry that answers an ask of worker 0, for which its hand pauses so long
@@ -37,6 +38,7 @@ pub record IsPaused (milliseconds : ℕ) (old new : Clock) : Type 0 where
   pub paused : new.paused ≡ old.paused + milliseconds
   pub readings : new.readings ≡ old.readings
   pub first : new.first ≡ old.first
+  pub place : new.place ≡ old.place
   pub last : new.last ≡ old.last
 
 pub not_paused : (old new : Clock) → new ≡ old → IsPaused 0 old new
@@ -46,6 +48,7 @@ not_paused old new e = record {
   paused = let p : new.paused ≡ old.paused = ap (λ (c : Clock). c.paused) e in omega (arith, p);
   readings = ap (λ (c : Clock). c.readings) e;
   first = ap (λ (c : Clock). c.first) e;
+  place = ap (λ (c : Clock). c.place) e;
   last = ap (λ (c : Clock). c.last) e;
 }
 
@@ -56,6 +59,7 @@ was_paused milliseconds old new e = record {
   paused = ap (λ (c : Clock). c.paused) e;
   readings = ap (λ (c : Clock). c.readings) e;
   first = ap (λ (c : Clock). c.first) e;
+  place = ap (λ (c : Clock). c.place) e;
   last = ap (λ (c : Clock). c.last) e;
 }
 
@@ -68,6 +72,7 @@ ask_timed deadline past start old new entry milliseconds r a p = record {
   paused = let e = a.pauses_are past in let l = p.paused in let k = r.paused in omega (arith, e, l, k);
   readings = p.readings ∙ r.readings ∙ ap (λ (n : ℕ). start.readings + readings_for deadline n) (sym counted);
   first = λ some. p.first ∙ r.first some;
+  place = λ made e. p.place ∙ r.place made e;
   late = a.late past ∙ r.late ∙ ap (λ (n : ℕ). late_by deadline n old.last) (sym counted) ∙ ap (λ (n : ℕ). late_by deadline (asks_unstopped (entry ∷ past) 0) n) (sym p.last);
 }
   where
@@ -90,6 +95,7 @@ ended_timed deadline past start new w outcome t = record {
   paused = t.paused;
   readings = t.readings ∙ ap (λ (n : ℕ). start.readings + readings_for deadline n) (sym (unasked past w outcome));
   first = t.first;
+  place = t.place;
   late = t.late ∙ ap (λ (n : ℕ). late_by deadline n new.last) (sym (unasked past w outcome));
 }
 
@@ -102,6 +108,7 @@ stop_readied deadline past start old t c = record {
   paused = t.paused;
   readings = t.readings ∙ ap (λ (n : ℕ). start.readings + readings_for deadline n) (sym counted);
   first = t.first;
+  place = t.place;
   late = t.late ∙ ap (λ (n : ℕ). late_by deadline n old.last) (sym counted);
 }
   where
@@ -116,37 +123,41 @@ none_readied past start old t = record {
   paused = t.paused;
   readings = t.readings;
   first = t.first;
+  place = t.place;
   late = t.late;
 }
 
 -- it isn't, and its clock is read: these are the counts after the reading, whether it comes to a Late or not
-record IsRead (deadline : ℕ) (past : List Entry) (start old : Clock) (reading : ℕ) : Type 0 where
+record IsRead (made deadline : ℕ) (past : List Entry) (start old : Clock) (reading : ℕ) : Type 0 where
   looks : old.looks + 1 ≡ start.looks + asks past 0 + 1
   stops : old.yeses ≡ start.yeses + 0
   readings : old.readings + 1 ≡ start.readings + (asks_unstopped past 0 + 1)
   first : 0 < start.readings → (if old.readings == 0 then reading else old.first) ≡ start.first
+  place : (first : ℕ) → start.place ≡ Some first → placed made old.place ≡ Some first
 
-is_read : (deadline : ℕ) (past : List Entry) (start old : Clock) (reading : ℕ) → IsTimed (Some deadline) past start old → IsCalm past 0 → IsRead deadline past start old reading
-is_read deadline past start old reading t c = record {
+is_read : (made deadline : ℕ) (past : List Entry) (start old : Clock) (reading : ℕ) → IsTimed (Some deadline) past start old → IsCalm past 0 → IsRead made deadline past start old reading
+is_read made deadline past start old reading t c = record {
   looks = let l = t.looks in omega (arith, l);
   stops = t.stops ∙ ap (λ (b : Bool). start.yeses + cond {A = ℕ} b 1 0) c.unstopped;
   readings = let r = t.readings in omega (arith, r);
   first = λ some. ap (λ (b : Bool). if b then reading else old.first) (ne_eqb old.readings 0 (λ e. let r = t.readings in omega (arith, r, some, e))) ∙ t.first some;
+  place = λ first e. ap (placed made) (t.place first e);
 }
 
-pub read_readied : (deadline : ℕ) (past : List Entry) (start old : Clock) (reading : ℕ) → IsTimed (Some deadline) past start old → IsCalm past 0
-    → nat_le deadline reading ≡ false → IsReadied (Some deadline) past start (after_now (after_asked old false) reading)
-read_readied deadline past start old reading t c early = record {
+pub read_readied : (made deadline : ℕ) (past : List Entry) (start old : Clock) (reading : ℕ) → IsTimed (Some deadline) past start old → IsCalm past 0
+    → nat_le deadline reading ≡ false → IsReadied (Some deadline) past start (read_at made (after_asked old false) reading)
+read_readied made deadline past start old reading t c early = record {
   looks = r.looks;
   stops = t.stops;
   paused = t.paused;
   readings = r.readings ∙ ap (λ (n : ℕ). start.readings + n) (sym counted);
   first = r.first;
+  place = r.place;
   late = c.in_time ∙ sym (ap (λ (n : ℕ). late_by (Some deadline) n reading) counted ∙ by (asks_unstopped past 0));
 }
   where
-    r : IsRead deadline past start old reading
-    r = is_read deadline past start old reading t c
+    r : IsRead made deadline past start old reading
+    r = is_read made deadline past start old reading t c
 
     counted : asked_so past ≡ asks_unstopped past 0 + 1
     counted = ap (λ (b : Bool). if b then asks_unstopped past 0 else asks_unstopped past 0 + 1) c.unstopped
@@ -158,19 +169,20 @@ read_readied deadline past start old reading t c early = record {
         never o true = refl
         never o false = refl
 
-pub late_readied : (deadline : ℕ) (past : List Entry) (start old : Clock) (reading : ℕ) → IsTimed (Some deadline) past start old → IsCalm past 0
-    → nat_le deadline reading ≡ true → IsReadied (Some deadline) (Entry.Late 0 (LateWhy.Deadline reading) ∷ past) start (after_now (after_asked old false) reading)
-late_readied deadline past start old reading t c late = record {
+pub late_readied : (made deadline : ℕ) (past : List Entry) (start old : Clock) (reading : ℕ) → IsTimed (Some deadline) past start old → IsCalm past 0
+    → nat_le deadline reading ≡ true → IsReadied (Some deadline) (Entry.Late 0 (LateWhy.Deadline reading) ∷ past) start (read_at made (after_asked old false) reading)
+late_readied made deadline past start old reading t c late = record {
   looks = r.looks;
   stops = t.stops;
   paused = t.paused;
   readings = r.readings ∙ ap (λ (n : ℕ). start.readings + n) (sym counted);
   first = r.first;
+  place = r.place;
   late = sym (ap (λ (n : ℕ). late_by (Some deadline) n reading) counted ∙ by (asks_unstopped past 0));
 }
   where
-    r : IsRead deadline past start old reading
-    r = is_read deadline past start old reading t c
+    r : IsRead made deadline past start old reading
+    r = is_read made deadline past start old reading t c
 
     uncounted : asks_unstopped (Entry.Late 0 (LateWhy.Deadline reading) ∷ past) 0 ≡ asks_unstopped past 0
     uncounted = both (was_stopped past 0)

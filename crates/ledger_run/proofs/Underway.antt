@@ -75,8 +75,8 @@ readings_most None n = omega arith
 readings_most (Some deadline) n = omega arith
 
 only_seen : (deadline : Option ℕ) (observation : Observed) (clock : Clock) → IsTimed deadline (Entry.Seen observation ∷ []) clock clock
-only_seen None observation clock = record { looks = omega arith; stops = omega arith; paused = omega arith; readings = omega arith; first = λ some. refl; late = refl }
-only_seen (Some deadline) observation clock = record { looks = omega arith; stops = omega arith; paused = omega arith; readings = omega arith; first = λ some. refl; late = refl }
+only_seen None observation clock = record { looks = omega arith; stops = omega arith; paused = omega arith; readings = omega arith; first = λ some. refl; place = λ made e. e; late = refl }
+only_seen (Some deadline) observation clock = record { looks = omega arith; stops = omega arith; paused = omega arith; readings = omega arith; first = λ some. refl; place = λ made e. e; late = refl }
 
 module _ (deadline : Option ℕ) (old : Course) (before : Telling) (b : HasBegun deadline old before) where
   at : entries old ≡ Entry.Seen b.seen.observation ∷ []

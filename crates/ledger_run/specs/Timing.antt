@@ -22,11 +22,13 @@ late_by (Some deadline) count last =
     if count == 0 then None else if nat_le deadline last then Some last else None
 
 -- a hand's clock by its worker's entries: one look an ask, a yes exactly where there is a Stop, the pauses; where there is a
--- deadline, one reading for each ask before a Stop, and a Late exactly where the last reading is at or past it
+-- deadline, one reading for each ask before a Stop, and a Late exactly where the last reading is at or past it; what was the first
+-- reading stays it, where it stands
 pub record IsTimed (deadline : Option ℕ) (past : List Entry) (old new : Clock) : Type 0 where
   pub looks : new.looks ≡ old.looks + asks past 0
   pub stops : new.yeses ≡ old.yeses + (if was_stopped past 0 then 1 else 0)
   pub paused : new.paused ≡ old.paused + pauses past 0
   pub readings : new.readings ≡ old.readings + readings_for deadline (asks_unstopped past 0)
   pub first : 0 < old.readings → new.first ≡ old.first
+  pub place : (made : ℕ) → old.place ≡ Some made → new.place ≡ Some made
   pub late : late_reading past 0 ≡ late_by deadline (asks_unstopped past 0) new.last

@@ -1,11 +1,11 @@
 -- One turn of a worker: it heeds its limits, asks, and does what it is answered.
-use Rattle.std.specs.Prelude.{◌≡◌, ℕ, ◌<◌, ◌^◌, Bool, true, false, if◌then◌else◌, nat_le, List, [], ◌∷◌, ◌++◌, Option, Some, None}
+use Rattle.std.specs.Prelude.{◌≡◌, ℕ, ◌<◌, ◌^◌, Bool, true, false, if◌then◌else◌, nat_le, List, [], ◌∷◌, ◌++◌, Option, Some, None, length}
 use Rattle.tree_base.specs.Limits.{before_poll, while_idle}
 use Rattle.engine_types.specs.declared.Entry.{Entry}
 use Rattle.engine_types.specs.declared.LateWhy.{LateWhy}
 use Rattle.engine_types.specs.declared.Outcome.{Outcome}
 use Rattle.engine_types.specs.declared.Request.{Request}
-use Rattle.outside_api.specs.Clock.{Clock, after_asked, after_now}
+use Rattle.outside_api.specs.Clock.{Clock, after_asked, read_at}
 use Rattle.run_model.specs.Legal.{Look, Pause, Take}
 use Rattle.run_model.specs.Requests.{action_request, poll_request}
 use Rattle.journal_laws.specs.Courses.{Course, entries, grown, setup_of}
@@ -30,11 +30,12 @@ heeded false None reading = []
 heeded false (Some deadline) reading =
     if nat_le deadline reading then Entry.Late 0 (LateWhy.Deadline reading) ∷ [] else []
 
--- the clock of its hand after that
-abbrev pub clock_heeded : Bool → Option ℕ → ℕ → Clock → Clock
-clock_heeded true deadline reading clock = after_asked clock true
-clock_heeded false None reading clock = after_asked clock false
-clock_heeded false (Some deadline) reading clock = after_now (after_asked clock false) reading
+-- the clock of its hand after that, which has made so many exchanges
+abbrev pub clock_heeded : ℕ → Bool → Option ℕ → ℕ → Clock → Clock
+clock_heeded made true deadline reading clock = after_asked clock true
+clock_heeded made false None reading clock = after_asked clock false
+clock_heeded made false (Some deadline) reading clock =
+    read_at made (after_asked clock false) reading
 
 -- a worker looked whether to stop, and else whether it is late, and told the ledger
 pub record Heeds (deadline : Option ℕ) (old : Course) (before : Telling) (new : Course)
@@ -42,7 +43,9 @@ pub record Heeds (deadline : Option ℕ) (old : Course) (before : Telling) (new 
   pub asked : Bool
   pub reading : ℕ
   pub entered : new ≡ with_more old (heeded asked deadline reading)
-  pub hand : after ≡ record before { clock = clock_heeded asked deadline reading before.clock }
+  pub hand : after ≡ record before {
+    clock = clock_heeded (length before.log) asked deadline reading before.clock;
+  }
 
 -- what a worker does that has asked: it leaves, makes an action or a poll by a request with this outcome, or pauses
 pub data Deed : Type 0 where

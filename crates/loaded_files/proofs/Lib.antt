@@ -5,4 +5,5 @@ pub mod Laid
 pub mod Names
 pub mod Runs
 pub mod Steps
+pub mod Went
 pub mod Winning

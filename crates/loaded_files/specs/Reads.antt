@@ -6,6 +6,8 @@ use Rattle.loaded_files.specs.declared.reads.Seen.TheVariants.{There, Longer, Mi
 use Rattle.loaded_files.specs.declared.refusal.LoadRefusal.{LoadRefusal}
 use Rattle.loaded_files.specs.declared.refusal.LoadRefusal.TheVariants.{NotFound, ReadFault, FileTooLarge, TooManyFiles, Memory}
 use Rattle.outside_files.specs.Files.{Contents}
+use Rattle.outside_files.specs.Reads.{FailedAt, Went, Well, went}
+use Rattle.outside_files.specs.declared.file_read.FileRead.{FileRead}
 use Rattle.tree_base.specs.Entries.{value_at}
 
 -- what is given in the end, or a path to read and what follows what is seen there
@@ -59,6 +61,20 @@ Gives told result load = (result ≡ Err Memory → ⊥) → Ran told load resul
 -- what a call gave that reads nothing is this, unless memory was wanted
 abbrev pub IsGiven : {X : Type 0} → Result X LoadRefusal → Result X LoadRefusal → Type 0
 IsGiven result given = (result ≡ Err Memory → ⊥) → result ≡ given
+
+-- how the reads went of a call that is refused so: the last one failed where that is what it is refused with, and else all went well
+abbrev pub refused_as : LoadRefusal → Went
+refused_as (ReadFault path) = FailedAt path
+refused_as refusal = Well
+
+-- the same of what a call gave
+abbrev pub ends_as : {X : Type 0} → Result X LoadRefusal → Went
+ends_as (Ok x) = Well
+ends_as (Err refusal) = refused_as refusal
+
+-- where no read had failed before, the reads of a call went as it ended: so none failed but the last, of which it tells
+abbrev pub WentAs : {X : Type 0} → List FileRead → List FileRead → Result X LoadRefusal → Type 0
+WentAs old new result = went old ≡ Well → went new ≡ ends_as result
 
 -- a file is looked at
 abbrev pub look : List ℕ → Load Seen

@@ -1,6 +1,6 @@
 ghost use Rattle.std.specs.Prelude.{◌≡◌, ◌≤◌, ℕ, Err, List, Option};
 ghost use Rattle.loaded_files.specs.FileTrees.{file_laid, files_laid, look_or, over_laid, shaped, tree_at};
-ghost use Rattle.loaded_files.specs.Reads.{Gives, IsGiven};
+ghost use Rattle.loaded_files.specs.Reads.{Gives, IsGiven, WentAs};
 ghost use Rattle.loaded_files.specs.Refusing.{of_merge};
 ghost use Rattle.loaded_files.specs.declared.refusal.LoadRefusal.{LoadRefusal};
 ghost use Rattle.merge_rules.specs.Overlay.{over_files};
@@ -30,6 +30,7 @@ pub fn files_laid<F: Files>(
     ensures given { Gives (F.told files.old) result (files_laid env.now paths.now found Null left) }
     ensures fault { (at : List ℕ) → result ≡ Err (LoadRefusal.ReadFault at)
         → Rose (F.faults files.old) (F.faults files.new) }
+    ensures reads { WentAs (F.reads files.old) (F.reads files.new) result }
     ensures counted { F.faults files.old ≤ F.faults files.new }
     ensures kept { F.told files.new ≡ F.told files.old }
 {
@@ -59,6 +60,7 @@ pub fn file_laid<F: Files>(
     ensures given { Gives (F.told files.old) result (file_laid env.now path.now found base left) }
     ensures fault { (at : List ℕ) → result ≡ Err (LoadRefusal.ReadFault at)
         → Rose (F.faults files.old) (F.faults files.new) }
+    ensures reads { WentAs (F.reads files.old) (F.reads files.new) result }
     ensures counted { F.faults files.old ≤ F.faults files.new }
     ensures kept { F.told files.new ≡ F.told files.old }
 {
@@ -100,6 +102,7 @@ fn tree_at<F: Files>(
     ensures given { Gives (F.told files.old) result (tree_at env.now path.now found left) }
     ensures fault { (at : List ℕ) → result ≡ Err (LoadRefusal.ReadFault at)
         → Rose (F.faults files.old) (F.faults files.new) }
+    ensures reads { WentAs (F.reads files.old) (F.reads files.new) result }
     ensures counted { F.faults files.old ≤ F.faults files.new }
     ensures kept { F.told files.new ≡ F.told files.old }
 {
@@ -118,6 +121,7 @@ fn look_or<F: Files>(
     ensures given { Gives (F.told files.old) result (look_or path.now found) }
     ensures fault { (at : List ℕ) → result ≡ Err (LoadRefusal.ReadFault at)
         → Rose (F.faults files.old) (F.faults files.new) }
+    ensures reads { WentAs (F.reads files.old) (F.reads files.new) result }
     ensures counted { F.faults files.old ≤ F.faults files.new }
     ensures kept { F.told files.new ≡ F.told files.old }
 {

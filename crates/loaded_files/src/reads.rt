@@ -1,5 +1,5 @@
 ghost use Rattle.std.specs.Prelude.{◌≡◌, ℕ, ◌≤◌, List, Option, Err};
-ghost use Rattle.loaded_files.specs.Reads.{Gives, file_at, file_if_there, look, taken, taken_if};
+ghost use Rattle.loaded_files.specs.Reads.{Gives, file_at, file_if_there, look, taken, taken_if, WentAs};
 ghost use Rattle.loaded_files.specs.declared.refusal.LoadRefusal.{LoadRefusal};
 ghost use Rattle.outside_files.specs.Counts.{Rose};
 ghost use Rattle.outside_files.specs.Files.{Contents};
@@ -23,16 +23,17 @@ pub fn look<F: Files>(alloc: Global, files: &mut F, path: &Text) -> Result<Seen,
     ensures given { Gives (F.told files.old) result (look path.now) }
     ensures fault { (at : List ℕ) → result ≡ Err (LoadRefusal.ReadFault at)
         → Rose (F.faults files.old) (F.faults files.new) }
+    ensures reads { WentAs (F.reads files.old) (F.reads files.new) result }
     ensures counted { F.faults files.old ≤ F.faults files.new }
     ensures kept { F.told files.new ≡ F.told files.old }
 {
+    // Before the read, so that one that fails is always told.
+    let failing = path.copy(alloc)?;
     match files.read(alloc, path, MOST_FILE_BYTES) {
         FileAnswer::Bytes(bytes) => Ok(Seen::There(bytes)),
         FileAnswer::Missing => Ok(Seen::Missing),
         FileAnswer::Longer => Ok(Seen::Longer),
-        FileAnswer::Failed => Err(LoadRefusal::ReadFault {
-            path: path.copy(alloc)?,
-        }),
+        FileAnswer::Failed => Err(LoadRefusal::ReadFault { path: failing }),
         FileAnswer::Memory => Err(LoadRefusal::Memory),
     }
 }
@@ -84,6 +85,7 @@ pub(crate) fn file_at<F: Files>(
     ensures given { Gives (F.told files.old) result (file_at path.now left) }
     ensures fault { (at : List ℕ) → result ≡ Err (LoadRefusal.ReadFault at)
         → Rose (F.faults files.old) (F.faults files.new) }
+    ensures reads { WentAs (F.reads files.old) (F.reads files.new) result }
     ensures counted { F.faults files.old ≤ F.faults files.new }
     ensures kept { F.told files.new ≡ F.told files.old }
 {
@@ -101,6 +103,7 @@ pub(crate) fn file_if_there<F: Files>(
     ensures given { Gives (F.told files.old) result (file_if_there path.now left) }
     ensures fault { (at : List ℕ) → result ≡ Err (LoadRefusal.ReadFault at)
         → Rose (F.faults files.old) (F.faults files.new) }
+    ensures reads { WentAs (F.reads files.old) (F.reads files.new) result }
     ensures counted { F.faults files.old ≤ F.faults files.new }
     ensures kept { F.told files.new ≡ F.told files.old }
 {

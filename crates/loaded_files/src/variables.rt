@@ -2,7 +2,7 @@ ghost use Rattle.std.specs.Prelude.{◌≡◌, [], ℕ, ◌≤◌, Err, IfOk, On
 ghost use Rattle.dotenv.specs.Files.{env_file};
 ghost use Rattle.loaded_files.specs.EnvFiles.{default_env, env_file_if, env_files, environment, file_variables, with_all, with_env_file, with_file, with_file_if};
 ghost use Rattle.loaded_files.specs.Refusing.{of_env};
-ghost use Rattle.loaded_files.specs.Reads.{Gives, IsGiven};
+ghost use Rattle.loaded_files.specs.Reads.{Gives, IsGiven, WentAs};
 ghost use Rattle.loaded_files.specs.declared.refusal.LoadRefusal.{LoadRefusal};
 ghost use Rattle.outside_files.specs.Counts.{Rose};
 ghost use Rattle.tree_base.specs.Entries.{with_entry};
@@ -30,6 +30,7 @@ pub fn environment<F: Files>(
         (environment directory.now paths.now caller.now left) }
     ensures fault { (at : List ℕ) → result ≡ Err (LoadRefusal.ReadFault at)
         → Rose (F.faults files.old) (F.faults files.new) }
+    ensures reads { WentAs (F.reads files.old) (F.reads files.new) result }
     ensures counted { F.faults files.old ≤ F.faults files.new }
     ensures kept { F.told files.new ≡ F.told files.old }
 {
@@ -50,6 +51,7 @@ fn file_variables<F: Files>(
         (file_variables directory.now paths.now caller.now left) }
     ensures fault { (at : List ℕ) → result ≡ Err (LoadRefusal.ReadFault at)
         → Rose (F.faults files.old) (F.faults files.new) }
+    ensures reads { WentAs (F.reads files.old) (F.reads files.new) result }
     ensures counted { F.faults files.old ≤ F.faults files.new }
     ensures kept { F.told files.new ≡ F.told files.old }
 {
@@ -70,6 +72,7 @@ fn env_files<F: Files>(
     ensures given { Gives (F.told files.old) result (env_files caller.now paths.now [] left) }
     ensures fault { (at : List ℕ) → result ≡ Err (LoadRefusal.ReadFault at)
         → Rose (F.faults files.old) (F.faults files.new) }
+    ensures reads { WentAs (F.reads files.old) (F.reads files.new) result }
     ensures counted { F.faults files.old ≤ F.faults files.new }
     ensures kept { F.told files.new ≡ F.told files.old }
 {
@@ -98,6 +101,7 @@ pub fn with_file<F: Files>(
     ensures given { Gives (F.told files.old) result (with_file caller.now path.now earlier left) }
     ensures fault { (at : List ℕ) → result ≡ Err (LoadRefusal.ReadFault at)
         → Rose (F.faults files.old) (F.faults files.new) }
+    ensures reads { WentAs (F.reads files.old) (F.reads files.new) result }
     ensures counted { F.faults files.old ≤ F.faults files.new }
     ensures kept { F.told files.new ≡ F.told files.old }
 {
@@ -119,6 +123,7 @@ fn default_env<F: Files>(
     ensures given { Gives (F.told files.old) result (default_env directory.now caller.now left) }
     ensures fault { (at : List ℕ) → result ≡ Err (LoadRefusal.ReadFault at)
         → Rose (F.faults files.old) (F.faults files.new) }
+    ensures reads { WentAs (F.reads files.old) (F.reads files.new) result }
     ensures counted { F.faults files.old ≤ F.faults files.new }
     ensures kept { F.told files.new ≡ F.told files.old }
 {
@@ -140,6 +145,7 @@ pub fn with_file_if<F: Files>(
         (with_file_if caller.now path.now earlier left) }
     ensures fault { (at : List ℕ) → result ≡ Err (LoadRefusal.ReadFault at)
         → Rose (F.faults files.old) (F.faults files.new) }
+    ensures reads { WentAs (F.reads files.old) (F.reads files.new) result }
     ensures counted { F.faults files.old ≤ F.faults files.new }
     ensures kept { F.told files.new ≡ F.told files.old }
 {

@@ -11,4 +11,5 @@ counts_of counts = record {
   paused = counts.paused;
   looks = counts.looks;
   yeses = counts.yeses;
+  place = counts.place;
 }

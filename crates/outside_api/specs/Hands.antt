@@ -7,6 +7,7 @@ use Rattle.engine_types.specs.declared.Exchange.{Exchange}
 use Rattle.engine_types.specs.declared.Engine.{Engine}
 use Rattle.engine_types.specs.declared.Reply.{Reply}
 use Rattle.engine_types.specs.declared.WireEnd.{WireEnd}
+use Rattle.outside_api.specs.Rows.{IsOfRow}
 use Rattle.response_rules.specs.Broken.{IsBroken, IsReply}
 
 -- the log with one exchange more
@@ -58,11 +59,12 @@ abbrev pub HeardReply : Request → Reply → Option (List Heard) → Type 0
 HeardReply request reply heard =
     IfSome heard (λ items. (item : Heard) × HeardLast item items × IsReply request item.read item.ended reply)
 
--- the outcome of one exchange, after which this is heard, has its cause in it: a reply is the one that was heard; of a fault is
--- told only where the count of faults rose in the exchange, and of a lost response also where it is broken in the way that
--- the cause names
+-- the outcome of one exchange, after which this is heard, has its cause in it: a reply is one of its request's, and the one that
+-- was heard; of a fault is told only where the count of faults rose in the exchange, and of a lost response also where it is
+-- broken in the way that the cause names
 abbrev pub HasCause : Request → Option (List Heard) → ℕ → ℕ → Outcome → Type 0
-HasCause request heard old new (Outcome.Answered reply) = HeardReply request reply heard
+HasCause request heard old new (Outcome.Answered reply) =
+    IsOfRow request reply × HeardReply request reply heard
 HasCause request heard old new (Outcome.Lost cause) = Rose old new ⊎ HeardBroken request cause heard
 HasCause request heard old new Outcome.NotSent = Rose old new
 HasCause request heard old new Outcome.Memory = Unit {0}

@@ -1,6 +1,7 @@
 pub mod Clock
 pub mod ClockCounts
 pub mod Hands
+pub mod Rows
 pub mod Accounts
 pub mod Laws
 pub mod Pipes

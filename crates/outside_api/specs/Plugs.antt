@@ -1,6 +1,18 @@
--- How a plug counts the hands that it made.
-use Rattle.std.specs.Prelude.{◌≡◌, ℕ, ◌+◌, Option, Some, None}
+-- What a plug tells of the dials that it is asked for, and how it counts the hands that it made.
+use Rattle.std.specs.Prelude.{◌≡◌, ◌⊎◌, ℕ, ◌+◌, List, [], ◌∷◌, ◌++◌, Option, Some, None}
+use Rattle.outside_api.specs.declared.dial.Dial.{Dial}
+use Rattle.outside_api.specs.declared.plug.Target.{Target}
 use Rattle.outside_api.specs.declared.wire.DialAnswer.{DialAnswer}
+
+-- the dial of a worker's hand, by its number, for an Engine and with a stop file
+abbrev pub dial_of : Target → Option (List ℕ) → ℕ → Dial
+dial_of target stop_file number =
+    record { target = target; stop_file = stop_file; number = number }
+
+-- the dials that were asked for grew by exactly this one, whatever came of it; where memory was wanted they may have stayed
+abbrev pub AddsDial : {T : Type 0} → List Dial → Dial → List Dial → DialAnswer T → Type 0
+AddsDial old dial new DialAnswer.Memory = (new ≡ old) ⊎ (new ≡ old ++ dial ∷ [])
+AddsDial old dial new answer = new ≡ old ++ dial ∷ []
 
 -- the count rises by one exactly where a hand was made
 abbrev pub CountsDial : {T : Type 0} → Option ℕ → Option ℕ → DialAnswer T → Type 0

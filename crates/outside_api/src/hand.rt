@@ -1,8 +1,8 @@
-ghost use Rattle.std.specs.Prelude.{◌≡◌, ℕ, ◌<◌, ◌≤◌, ◌^◌, List, Option};
+ghost use Rattle.std.specs.Prelude.{◌≡◌, ℕ, ◌<◌, ◌≤◌, ◌^◌, List, Option, length};
 ghost use Rattle.engine_types.specs.declared.Engine.{Engine};
 ghost use Rattle.engine_types.specs.declared.Exchange.{Exchange};
 ghost use Rattle.run_model.specs.EngineRules.{Tells, DriftsTold};
-ghost use Rattle.outside_api.specs.Clock.{Clock, after_now, after_pause, after_asked};
+ghost use Rattle.outside_api.specs.Clock.{Clock, after_pause, after_asked, read_at};
 ghost use Rattle.outside_api.specs.Hands.{Heard, Logs, HearsNext, HasCause};
 
 use engine_types::{Outcome, Request};
@@ -38,10 +38,12 @@ pub trait Hand: Drop {
             (faults self.new) result }
         ensures clock { clock self.new ≡ clock self.old };
 
-    /// The time in milliseconds of a clock that all hands share. No memory.
+    /// The time in milliseconds of a clock that all hands share. No memory. The hand's own count of it tells behind how many
+    /// exchanges of its log it was read first.
     fn now(&mut self) -> u64
         requires { (clock self.old).readings < 2 ^ 62 }
-        ensures clock { clock self.new ≡ after_now (clock self.old) result }
+        ensures clock { clock self.new
+            ≡ read_at (length (log self.old)) (clock self.old) result }
         ensures log { log self.new ≡ log self.old }
         ensures engine { engine self.new ≡ engine self.old }
         ensures heard { heard self.new ≡ heard self.old }

@@ -7,6 +7,7 @@
 #![tactic(auto)]
 
 mod clock_counts;
+mod dial;
 mod hand;
 mod laws;
 mod memory_clock;
@@ -14,7 +15,8 @@ mod pipe;
 mod plug;
 mod wire;
 
-pub use clock_counts::ClockCounts;
+pub use clock_counts::{ClockCounts, placed};
+pub use dial::{Dial, copied_stop_file, note_dial};
 pub use hand::Hand;
 pub use laws::caused_stays_told;
 pub use memory_clock::MemoryClock;

@@ -1,5 +1,5 @@
 ghost use Rattle.std.specs.Prelude.{◌≡◌, ◌+◌, ◌<◌, ◌^◌, min};
-ghost use Rattle.outside_api.specs.Clock.{new_clock, after_now, after_pause, after_asked};
+ghost use Rattle.outside_api.specs.Clock.{new_clock, after_now, after_pause, after_asked, read_at};
 ghost use Rattle.outside_api.specs.ClockCounts.{counts_of};
 
 use crate::clock_counts::ClockCounts;
@@ -24,7 +24,7 @@ impl MemoryClock {
         }
     }
 
-    /// Reads the time. No memory.
+    /// Reads the time, for a wire. No memory.
     pub fn now(&mut self) -> u64
         requires { self.old.counts.readings < 2 ^ 62 }
         ensures counts { counts_of self.new.counts ≡ after_now (counts_of self.old.counts) result }
@@ -32,6 +32,18 @@ impl MemoryClock {
         ensures time { self.new.time ≡ self.old.time }
     {
         self.counts.read(self.time);
+        self.time
+    }
+
+    /// Reads the time, for a hand that has made so many exchanges. No memory.
+    pub fn now_at(&mut self, made: u64) -> u64
+        requires { self.old.counts.readings < 2 ^ 62 }
+        ensures counts { counts_of self.new.counts
+            ≡ read_at made (counts_of self.old.counts) result }
+        ensures reading { result ≡ self.old.time }
+        ensures time { self.new.time ≡ self.old.time }
+    {
+        self.counts.read_at(made, self.time);
         self.time
     }
 

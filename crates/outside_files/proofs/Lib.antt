@@ -1,1 +1,2 @@
+pub mod AfterReads
 pub mod Writes

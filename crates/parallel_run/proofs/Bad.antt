@@ -1,5 +1,5 @@
 -- What a run leaves that ended with its observation.
-use Rattle.std.proofs.Common.{◌≡◌, ◌⊎◌, ℕ, ◌+◌, ◌<◌, Bool, true, false, List, [], ◌∷◌, ◌++◌, Option, None, Some, if◌then◌else◌, reverse, refl, sym, ap, ◌∙◌, subst, inl, inr, arith}
+use Rattle.std.proofs.Common.{◌≡◌, ◌⊎◌, ℕ, ◌+◌, ◌<◌, Bool, true, false, List, [], ◌∷◌, ◌++◌, Option, None, Some, if◌then◌else◌, length, reverse, refl, sym, ap, ◌∙◌, subst, inl, inr, arith}
 use Rattle.std.proofs.lemmas.Bool.{ne_eqb}
 use Rattle.std.specs.Prelude.{◌==◌, option_map, slice_get}
 use Rattle.engine_types.specs.declared.Aim.{Aim}
@@ -17,7 +17,7 @@ use Rattle.outside_api.specs.Accounts.{Account, AreCaused}
 use Rattle.outside_api.specs.Clock.{Clock, new_clock}
 use Rattle.parallel_run.specs.Together.{HasRun, limits_by}
 use Rattle.parallel_run.proofs.Joined.{readings_else}
-use Rattle.project_run.proofs.Timed.{run_timed, still_timed}
+use Rattle.project_run.proofs.Timed.{reads_first, run_timed, still_timed}
 use Rattle.project_run.specs.Opening.{HasEndedBadly, Opens}
 use Rattle.project_run.specs.Options.{clock_begun}
 use Rattle.project_run.specs.Timing.{IsTimed, run_readings}
@@ -41,7 +41,7 @@ never_late None last = refl
 never_late (Some d) last = refl
 
 module _ (declared : Declared) (aim : Aim) (options : RunOptions) (workers : ℕ) (observed : Observed) (clock : Clock) (before now : Telling)
-    (unused : before.clock ≡ new_clock) (read : clock ≡ clock_begun options.wait_seconds clock.first)
+    (unused : before.clock ≡ new_clock) (read : clock ≡ clock_begun options.wait_seconds (length before.log) clock.first)
     (opens : Opens declared aim (Opening.Ended observed) (record before { clock = clock }) now) where
   abbrev bounds : RunLimits
   bounds = limits_by workers options now.clock.first
@@ -69,9 +69,10 @@ module _ (declared : Declared) (aim : Aim) (options : RunOptions) (workers : ℕ
       observed = λ zero other e. let same : Some (Entry.Seen observed) ≡ Some (Entry.Seen other) = e in
           let one : observed ≡ other = cc same in subst (λ (o : Observed). HasCauseOfEnd now.heard before.faults now.faults o.end) one opens.cause;
     };
-    timed = run_timed (task_of declared aim bounds) (Entry.Seen observed ∷ []) options.wait_seconds before.clock clock now.clock unused read refl
+    timed = run_timed (task_of declared aim bounds) (Entry.Seen observed ∷ []) options.wait_seconds (length before.log) before.clock clock now.clock unused read refl
         (subst (λ (c : Clock). of_worker.IsTimed (option_map (deadline_after clock.first) options.wait_seconds) (Entry.Seen observed ∷ []) clock c) (sym opens.timed)
         (still_timed (option_map (deadline_after clock.first) options.wait_seconds) observed clock));
+    read_first = λ zero. reads_first options.wait_seconds (length before.log) clock now.clock read (λ place e. ap (λ (c : Clock). c.place) opens.timed ∙ e);
   }
 
   bad_other : (w : ℕ) (s : Telling) → (w == 0) ≡ false → HasRun (task_of declared aim bounds) (Entry.Seen observed ∷ []) w s s
@@ -85,6 +86,7 @@ module _ (declared : Declared) (aim : Aim) (options : RunOptions) (workers : ℕ
       readings = no_more bounds.deadline w s.clock.readings other;
       late = never_late bounds.deadline s.clock.last;
     };
+    read_first = λ zero. absurd (never zero);
   }
     where
       never : w ≡ 0 → ⊥

@@ -1,9 +1,9 @@
 -- What is said of each hand of a run.
-use Rattle.std.proofs.Common.{ℕ, ◌+◌, List, [], ◌∷◌}
+use Rattle.std.proofs.Common.{◌≡◌, ℕ, ◌+◌, List, [], ◌∷◌, length}
 use Rattle.engine_types.specs.declared.Entry.{Entry}
 use Rattle.ledger_run.specs.Tellings.{Telling, account_in}
 use Rattle.parallel_run.specs.Together.{HasRun}
-use Rattle.project_run.specs.Timing.{IsTimed}
+use Rattle.project_run.specs.Timing.{IsTimed, ReadsFirst}
 use Rattle.project_run.specs.Whole.{IsCaused}
 use Rattle.run_model.specs.Logs.{GrowsBy}
 use Rattle.run_model.specs.Runs.{Task, run_exchanges}
@@ -33,3 +33,7 @@ module _ {H : Type 0} (tell : H → Telling) (task : Task) (journal : List Entry
   pub times : EachPair (λ w x y. IsTimed task journal w (tell x).clock (tell y).clock) 0 xs ys
   times = each_of (λ (w : ℕ) (x y : H). HasRun task journal w (tell x) (tell y)) (λ (w : ℕ) (x y : H). IsTimed task journal w (tell x).clock (tell y).clock)
       (λ w x y ran. ran.timed) 0 xs ys each
+
+  pub firsts : EachPair (λ w x y. w ≡ 0 → ReadsFirst task.limits.deadline (length (tell x).log) (tell y).clock) 0 xs ys
+  firsts = each_of (λ (w : ℕ) (x y : H). HasRun task journal w (tell x) (tell y)) (λ (w : ℕ) (x y : H). w ≡ 0 → ReadsFirst task.limits.deadline (length (tell x).log) (tell y).clock)
+      (λ w x y ran. ran.read_first) 0 xs ys each

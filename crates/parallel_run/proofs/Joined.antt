@@ -1,5 +1,5 @@
 -- What a run leaves that its workers left.
-use Rattle.std.proofs.Common.{◌≡◌, ◌⊎◌, ℕ, ◌+◌, ◌<◌, ◌≤◌, Bool, true, false, List, [], ◌∷◌, ◌++◌, Option, None, Some, if◌then◌else◌, reverse, refl, sym, ap, ◌∙◌, subst, inl, inr, arith}
+use Rattle.std.proofs.Common.{◌≡◌, ◌⊎◌, ℕ, ◌+◌, ◌<◌, ◌≤◌, Bool, true, false, List, [], ◌∷◌, ◌++◌, Option, None, Some, if◌then◌else◌, length, reverse, refl, sym, ap, ◌∙◌, subst, inl, inr, arith}
 use Rattle.std.proofs.lemmas.Bool.{ne_eqb}
 use Rattle.std.specs.Prelude.{◌==◌, option_map, slice_get}
 use Rattle.engine_types.specs.declared.Aim.{Aim}
@@ -25,7 +25,7 @@ use Rattle.outside_api.specs.Accounts.{Account, AreCaused}
 use Rattle.outside_api.specs.Clock.{Clock, new_clock}
 use Rattle.parallel_run.specs.Together.{HasRun, limits_by}
 use Rattle.project_run.proofs.Joining.{seen_after}
-use Rattle.project_run.proofs.Timed.{run_timed, same_deadline}
+use Rattle.project_run.proofs.Timed.{reads_first, run_timed, same_deadline}
 use Rattle.project_run.specs.Opening.{Opens}
 use Rattle.project_run.specs.Options.{bounded, clock_begun}
 use Rattle.project_run.specs.Timing.{IsTimed, run_readings}
@@ -56,11 +56,12 @@ first_timed deadline past old new t = record {
   paused = t.paused;
   readings = t.readings;
   first = t.first;
+  place = t.place;
   late = t.late;
 }
 
 module _ (declared : Declared) (aim : Aim) (options : RunOptions) (workers : ℕ) (limits : RunLimits) (observed : Observed) (plan : Plan) (journal : List Entry) (clock : Clock) (before mid now : Telling)
-    (unused : before.clock ≡ new_clock) (read : clock ≡ clock_begun options.wait_seconds clock.first) (bound : limits ≡ bounded aim (limits_by workers options clock.first))
+    (unused : before.clock ≡ new_clock) (read : clock ≡ clock_begun options.wait_seconds (length before.log) clock.first) (bound : limits ≡ bounded aim (limits_by workers options clock.first))
     (may : MayBegin declared observed plan limits)
     (opens : Opens declared aim (Opening.Planned observed plan) (record before { clock = clock }) mid)
     (seen : Seen) (good : observed.end ≡ SeenEnd.Good seen) (actions : plan.actions ≡ run_actions (basis_of declared seen aim))
@@ -87,7 +88,7 @@ module _ (declared : Declared) (aim : Aim) (options : RunOptions) (workers : ℕ
 
   same_bounds : limits_by workers options now.clock.first ≡ limits_by workers options clock.first
   same_bounds = ap (λ (d : Option ℕ). record { workers = workers; deadline = d; wait = options.wait; stop_seconds = options.stop_seconds })
-      (same_deadline options.wait_seconds clock now.clock read timed.first)
+      (same_deadline options.wait_seconds (length before.log) clock now.clock read timed.first)
 
   pub limits_are : bounded aim (limits_by workers options now.clock.first) ≡ limits
   limits_are = ap (bounded aim) same_bounds ∙ sym bound
@@ -159,7 +160,8 @@ module _ (declared : Declared) (aim : Aim) (options : RunOptions) (workers : ℕ
     log = subst (λ (l : List Exchange). GrowsBy l before.log now.log) (sym are_first)
         (grows-append observed.exchanges done.made before.log mid.log now.log opens.log done.log);
     caused = caused_first;
-    timed = run_timed task journal options.wait_seconds before.clock clock now.clock unused read refl timed;
+    timed = run_timed task journal options.wait_seconds (length before.log) before.clock clock now.clock unused read refl timed;
+    read_first = λ zero. reads_first options.wait_seconds (length before.log) clock now.clock read timed.place;
   }
 
   -- what another worker's hand did
@@ -181,6 +183,7 @@ module _ (declared : Declared) (aim : Aim) (options : RunOptions) (workers : ℕ
           (readings_else limits.deadline w (asks_unstopped (reverse journal) w) other ∙ ap (λ (d : Option ℕ). run_readings d w (asks_unstopped (reverse journal) w)) task_deadline);
       late = did.timed.late ∙ ap (λ (d : Option ℕ). late_by d (asks_unstopped (reverse journal) w) t.clock.last) task_deadline;
     };
+    read_first = λ zero. absurd (never zero);
   }
     where
       none : exchanges_of (setup_of old) (Entry.Seen observed ∷ []) w ≡ []

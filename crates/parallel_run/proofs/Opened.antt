@@ -92,8 +92,8 @@ module _ {H : Type 0} (tell : H → Telling) (declared : Declared) (aim : Aim) (
         fresh_all = subst (λ (hs : List H). All (λ h. (tell h).clock ≡ new_clock) hs) o.were unused
 
         rooms : All (λ h. HasRoom (tell h).clock) (o.opened ∷ o.others)
-        rooms zero d l = clocks.has_room options.wait_seconds o.clock.first (tell o.opened).clock (o.opens.timed ∙ o.read)
-        rooms (suc k) d l = clocks.has_room None 0 (tell (get_or o.others k d)).clock (fresh_all (suc k) d (omega (arith, l)))
+        rooms zero d l = clocks.has_room options.wait_seconds (length (tell o.first).log) o.clock.first (tell o.opened).clock (o.opens.timed ∙ o.read)
+        rooms (suc k) d l = clocks.has_room None 0 0 (tell (get_or o.others k d)).clock (fresh_all (suc k) d (omega (arith, l)))
 
     -- there was no memory to begin it: it has ended with its observation
     short : OpensWith tell declared aim options limits (Opening.Ended (cut_short observed.exchanges)) hands opened

@@ -15,7 +15,7 @@ use Rattle.outside_api.specs.Clock.{Clock}
 use Rattle.project_run.specs.Carrying.{come_to, cut_short}
 use Rattle.project_run.specs.Opening.{Opens}
 use Rattle.project_run.specs.Options.{bounded, clock_begun}
-use Rattle.project_run.specs.Timing.{IsTimed}
+use Rattle.project_run.specs.Timing.{IsTimed, ReadsFirst}
 use Rattle.project_run.specs.Whole.{IsCaused}
 use Rattle.project_run.specs.declared.opening.Opening.{Opening}
 use Rattle.engine_types.specs.declared.RunOptions.{RunOptions}
@@ -43,7 +43,7 @@ pub record OpensWith {H : Type 0} (tell : H → Telling) (declared : Declared) (
   pub were : before ≡ first ∷ others
   pub are : after ≡ opened ∷ others
   pub clock : Clock
-  pub read : clock ≡ clock_begun options.wait_seconds clock.first
+  pub read : clock ≡ clock_begun options.wait_seconds (length (tell first).log) clock.first
   pub bound : limits ≡ bounded aim (limits_by (length before) options clock.first)
   pub opens : Opens declared aim opening (record (tell first) { clock = clock }) (tell opened)
 
@@ -74,6 +74,7 @@ pub record HasRun (task : Task) (journal : List Entry) (w : ℕ) (before now : T
   pub log : GrowsBy (run_exchanges task journal w) before.log now.log
   pub caused : IsCaused task journal w (account_in before) (account_in now)
   pub timed : IsTimed task journal w before.clock now.clock
+  pub read_first : w ≡ 0 → ReadsFirst task.limits.deadline (length before.log) now.clock
 
 -- a whole run of the task was made with the hands, by as many workers
 pub record LeavesTogether {H : Type 0} (tell : H → Telling) (task : Task) (journal : List Entry)

@@ -5,7 +5,7 @@ ghost use Rattle.outside_api.specs.Accounts.{account};
 ghost use Rattle.outside_api.specs.Clock.{new_clock};
 ghost use Rattle.parallel_run.specs.Together.{LeavesTogether, first_reading, limits_by};
 ghost use Rattle.plan_core.specs.Order.{HasNoCycle};
-ghost use Rattle.project_run.specs.Timing.{IsTimed};
+ghost use Rattle.project_run.specs.Timing.{IsTimed, ReadsFirst};
 ghost use Rattle.project_run.specs.Whole.{IfBegun, IsCaused, IsFault, IsReport, SparesKept, task_of};
 ghost use Rattle.project_run.specs.Worlds.{EndsExact, EndsGone, MakesOnce, RollsFew, SparesAgreeing};
 ghost use Rattle.run_laws.specs.Orders.{NeedsDependencies};
@@ -81,6 +81,10 @@ pub fn run_parallel<R: Threads + Wait + Sync, H: Hand + Send>(
         IsTimed (task_of declared aim
         (limits_by (length hands) options (first_reading (λ h. H.clock h) result.hands)))
         result.ran.journal w (H.clock before) (H.clock after)) 0 hands result.hands) }
+    ensures read_first { IfBegun result.ran.journal (EachPair (λ w before after. w ≡ 0
+        → ReadsFirst (limits_by (length hands) options
+        (first_reading (λ h. H.clock h) result.hands)).deadline
+        (length (H.log before)) (H.clock after)) 0 hands result.hands) }
     ensures fault { IfBegun result.ran.journal (IsFault (run_fault (task_of declared aim
         (limits_by (length hands) options (first_reading (λ h. H.clock h) result.hands)))
         result.ran.journal) result.ran.fault) }

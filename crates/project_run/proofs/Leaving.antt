@@ -28,7 +28,7 @@ use Rattle.outside_api.specs.Clock.{Clock, new_clock}
 use Rattle.plan_core.specs.Order.{HasNoCycle}
 use Rattle.project_run.proofs.Beginning.{may_begin}
 use Rattle.project_run.proofs.Joining.{seen_after}
-use Rattle.project_run.proofs.Timed.{run_timed, same_limits, still_timed}
+use Rattle.project_run.proofs.Timed.{reads_first, run_timed, same_limits, still_timed}
 use Rattle.project_run.specs.Carrying.{IsCarriedOut, IsUnbegun, IsWorked, come_to, cut_short}
 use Rattle.project_run.specs.Opening.{HasEndedBadly, Opens}
 use Rattle.project_run.specs.Options.{bounded, clock_begun, limits_by}
@@ -51,7 +51,7 @@ use Rattle.world_laws.proofs.ToldRuns.{unpaused_are}
 
 -- a run that ended with its observation
 module _ (declared : Declared) (aim : Aim) (options : RunOptions) (observed : Observed) (clock : Clock) (before now : Telling)
-    (unused : before.clock ≡ new_clock) (read : clock ≡ clock_begun options.wait_seconds clock.first)
+    (unused : before.clock ≡ new_clock) (read : clock ≡ clock_begun options.wait_seconds (length before.log) clock.first)
     (opens : Opens declared aim (Opening.Ended observed) (record before { clock = clock }) now) where
   abbrev bounds : RunLimits
   bounds = limits_by options now.clock
@@ -76,7 +76,7 @@ module _ (declared : Declared) (aim : Aim) (options : RunOptions) (observed : Ob
   }
 
   bad_timed : IsTimed (task_of declared aim bounds) (Entry.Seen observed ∷ []) 0 before.clock now.clock
-  bad_timed = run_timed (task_of declared aim bounds) (Entry.Seen observed ∷ []) options.wait_seconds before.clock clock now.clock unused read refl
+  bad_timed = run_timed (task_of declared aim bounds) (Entry.Seen observed ∷ []) options.wait_seconds (length before.log) before.clock clock now.clock unused read refl
       (subst (λ (c : Clock). of_worker.IsTimed (option_map (deadline_after clock.first) options.wait_seconds) (Entry.Seen observed ∷ []) clock c) (sym opens.timed)
       (still_timed (option_map (deadline_after clock.first) options.wait_seconds) observed clock))
 
@@ -89,6 +89,7 @@ module _ (declared : Declared) (aim : Aim) (options : RunOptions) (observed : Ob
     told = opens.told;
     caused = bad_caused;
     timed = bad_timed;
+    read_first = reads_first options.wait_seconds (length before.log) clock now.clock read (λ place e. ap (λ (c : Clock). c.place) opens.timed ∙ e);
   }
 
 -- exchanges of which an observation was made may also have ended for want of memory
@@ -122,7 +123,7 @@ opens_short declared aim observed plan before now opens = record {
 
 -- a run whose worker left
 module _ (declared : Declared) (aim : Aim) (options : RunOptions) (limits : RunLimits) (observed : Observed) (plan : Plan) (journal : List Entry) (clock : Clock) (before mid now : Telling)
-    (unused : before.clock ≡ new_clock) (read : clock ≡ clock_begun options.wait_seconds clock.first) (bound : limits ≡ bounded aim (limits_by options clock))
+    (unused : before.clock ≡ new_clock) (read : clock ≡ clock_begun options.wait_seconds (length before.log) clock.first) (bound : limits ≡ bounded aim (limits_by options clock))
     (may : MayBegin declared observed plan limits)
     (opens : Opens declared aim (Opening.Planned observed plan) (record before { clock = clock }) mid)
     (seen : Seen) (good : observed.end ≡ SeenEnd.Good seen) (actions : plan.actions ≡ run_actions (basis_of declared seen aim))
@@ -144,7 +145,7 @@ module _ (declared : Declared) (aim : Aim) (options : RunOptions) (limits : RunL
   timed = subst (λ (c : Clock). of_worker.IsTimed (option_map (deadline_after clock.first) options.wait_seconds) (reverse journal) c now.clock) opens.timed at_limits
 
   limits_are : bounded aim (limits_by options now.clock) ≡ limits
-  limits_are = ap (bounded aim) (same_limits options clock now.clock read timed.first) ∙ sym bound
+  limits_are = ap (bounded aim) (same_limits options (length before.log) clock now.clock read timed.first) ∙ sym bound
 
   -- what it is of
   saw : Saw observed.end (first_seen (Entry.Seen observed ∷ []))
@@ -236,12 +237,13 @@ module _ (declared : Declared) (aim : Aim) (options : RunOptions) (limits : RunL
     told = subst (λ (l : List Step). TellsSteps l before.engine now.engine) (sym are_steps)
         (told-append (unpaused observed.exchanges) (steps_since old new) before.engine mid.engine now.engine opens.told worked.told);
     caused = caused;
-    timed = run_timed task journal options.wait_seconds before.clock clock now.clock unused read refl timed;
+    timed = run_timed task journal options.wait_seconds (length before.log) before.clock clock now.clock unused read refl timed;
+    read_first = reads_first options.wait_seconds (length before.log) clock now.clock read timed.place;
   }
 
 -- a run whose plan was carried out, or wasn't begun
 module _ (declared : Declared) (aim : Aim) (options : RunOptions) (limits : RunLimits) (observed : Observed) (plan : Plan) (journal : List Entry) (clock : Clock) (before mid now : Telling)
-    (unused : before.clock ≡ new_clock) (read : clock ≡ clock_begun options.wait_seconds clock.first) (bound : limits ≡ bounded aim (limits_by options clock))
+    (unused : before.clock ≡ new_clock) (read : clock ≡ clock_begun options.wait_seconds (length before.log) clock.first) (bound : limits ≡ bounded aim (limits_by options clock))
     (whole : IsWhole declared) (small : HasSmallNumbers declared) (acyclic : HasNoCycle declared) (needs : NeedsDependencies declared)
     (opens : Opens declared aim (Opening.Planned observed plan) (record before { clock = clock }) mid) where
   pub may : MayBegin declared observed plan limits

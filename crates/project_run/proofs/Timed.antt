@@ -9,27 +9,33 @@ use Rattle.ledger_run.specs.Timing.{HasRoom, late_by, readings_for}
 use Rattle.ledger_run.specs.Timing as of_worker
 use Rattle.outside_api.specs.Clock.{Clock, new_clock}
 use Rattle.project_run.specs.Options.{clock_begun, limits_by}
-use Rattle.project_run.specs.Timing.{IsTimed, run_readings}
+use Rattle.project_run.specs.Timing.{IsTimed, ReadsFirst, run_readings}
 use Rattle.run_model.specs.Logs.{asks, asks_unstopped, deadline_after, late_reading, pauses, was_stopped}
 use Rattle.run_model.specs.Runs.{Task}
 
 -- a clock on which a run has begun is far from its limits
-pub has_room : (seconds : Option ℕ) (first : ℕ) (clock : Clock) → clock ≡ clock_begun seconds first → HasRoom clock
-has_room None first clock is = rw is (record { looks = omega arith; readings = omega arith; paused = omega arith })
-has_room (Some s) first clock is = rw is (record { looks = omega arith; readings = omega arith; paused = omega arith })
+pub has_room : (seconds : Option ℕ) (made first : ℕ) (clock : Clock) → clock ≡ clock_begun seconds made first → HasRoom clock
+has_room None made first clock is = rw is (record { looks = omega arith; readings = omega arith; paused = omega arith })
+has_room (Some s) made first clock is = rw is (record { looks = omega arith; readings = omega arith; paused = omega arith })
 
 -- the first reading stays
-pub same_deadline : (seconds : Option ℕ) (clock new : Clock) → clock ≡ clock_begun seconds clock.first → (0 < clock.readings → new.first ≡ clock.first)
+pub same_deadline : (seconds : Option ℕ) (made : ℕ) (clock new : Clock) → clock ≡ clock_begun seconds made clock.first → (0 < clock.readings → new.first ≡ clock.first)
     → option_map (deadline_after new.first) seconds ≡ option_map (deadline_after clock.first) seconds
-same_deadline None clock new is kept = refl
-same_deadline (Some s) clock new is kept =
+same_deadline None made clock new is kept = refl
+same_deadline (Some s) made clock new is kept =
     let one : clock.readings ≡ 1 = ap (λ (c : Clock). c.readings) is in
     ap (λ (first : ℕ). Some (deadline_after first s)) (kept (omega (arith, one)))
 
-pub same_limits : (options : RunOptions) (clock new : Clock) → clock ≡ clock_begun options.wait_seconds clock.first → (0 < clock.readings → new.first ≡ clock.first)
+pub same_limits : (options : RunOptions) (made : ℕ) (clock new : Clock) → clock ≡ clock_begun options.wait_seconds made clock.first → (0 < clock.readings → new.first ≡ clock.first)
     → limits_by options new ≡ limits_by options clock
-same_limits options clock new is kept = ap (λ (deadline : Option ℕ). record { workers = 1; deadline = deadline; wait = options.wait; stop_seconds = options.stop_seconds })
-    (same_deadline options.wait_seconds clock new is kept)
+same_limits options made clock new is kept = ap (λ (deadline : Option ℕ). record { workers = 1; deadline = deadline; wait = options.wait; stop_seconds = options.stop_seconds })
+    (same_deadline options.wait_seconds made clock new is kept)
+
+-- and so does where it stands
+pub reads_first : (seconds : Option ℕ) (made : ℕ) (clock new : Clock) → clock ≡ clock_begun seconds made clock.first → ((place : ℕ) → clock.place ≡ Some place → new.place ≡ Some place)
+    → ReadsFirst (option_map (deadline_after new.first) seconds) made new
+reads_first None made clock new is kept = tt
+reads_first (Some s) made clock new is kept = kept made (ap (λ (c : Clock). c.place) is)
 
 -- nothing was done yet by a journal that has only its observation
 pub still_timed : (deadline : Option ℕ) (observed : Observed) (clock : Clock) → of_worker.IsTimed deadline (Entry.Seen observed ∷ []) clock clock
@@ -39,6 +45,7 @@ still_timed deadline observed clock = record {
   paused = omega arith;
   readings = none deadline;
   first = λ some. refl;
+  place = λ made e. e;
   late = never deadline;
 }
   where
@@ -51,11 +58,11 @@ still_timed deadline observed clock = record {
     never (Some d) = refl
 
 -- what the worker's loop says of its hand's clock, with the run's first reading before it
-pub run_timed : (task : Task) (journal : List Entry) (seconds : Option ℕ) (old clock new : Clock) → old ≡ new_clock → clock ≡ clock_begun seconds clock.first
+pub run_timed : (task : Task) (journal : List Entry) (seconds : Option ℕ) (made : ℕ) (old clock new : Clock) → old ≡ new_clock → clock ≡ clock_begun seconds made clock.first
     → task.limits.deadline ≡ option_map (deadline_after new.first) seconds
     → of_worker.IsTimed (option_map (deadline_after clock.first) seconds) (reverse journal) clock new
     → IsTimed task journal 0 old new
-run_timed task journal None old clock new unused is limit timed =
+run_timed task journal None made old clock new unused is limit timed =
     let begun : of_worker.IsTimed None (reverse journal) new_clock new = rw is at timed in
     rw unused (record {
       looks = begun.looks;
@@ -64,7 +71,7 @@ run_timed task journal None old clock new unused is limit timed =
       readings = rw limit begun.readings;
       late = rw limit begun.late;
     })
-run_timed task journal (Some s) old clock new unused is limit timed =
+run_timed task journal (Some s) made old clock new unused is limit timed =
     let one : clock.readings ≡ 1 = ap (λ (c : Clock). c.readings) is in
     let first : new.first ≡ clock.first = timed.first (omega (arith, one)) in
     let at : task.limits.deadline ≡ Some (deadline_after clock.first s) = limit ∙ ap (λ (n : ℕ). Some (deadline_after n s)) first in

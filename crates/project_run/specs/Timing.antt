@@ -12,6 +12,11 @@ abbrev pub run_readings : Option ℕ → ℕ → ℕ → ℕ
 run_readings None w asks = 0
 run_readings (Some deadline) w asks = if w == 0 then asks + 1 else asks
 
+-- where there is a deadline, the clock was read first behind so many exchanges of its hand's log: the deadline counts from there
+abbrev pub ReadsFirst : Option ℕ → ℕ → Clock → Type 0
+ReadsFirst None made clock = Unit {0}
+ReadsFirst (Some deadline) made clock = clock.place ≡ Some made
+
 -- a worker's hand looked before each ask whether it is to stop, and the task's journal has a Stop of it exactly where it was told
 -- so; it paused as the journal says; where there is a deadline, it read its clock for each ask that no Stop precedes, and the
 -- journal has a Late with the last of these readings exactly where that one is at or past the deadline

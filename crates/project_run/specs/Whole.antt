@@ -1,5 +1,5 @@
 -- What a whole run leaves.
-use Rattle.std.specs.Prelude.{◌≡◌, ◌⊎◌, ℕ, List, [], ◌∷◌, Option, Some, None, false, IfSome, IsSomeAnd, reverse, slice_get, true}
+use Rattle.std.specs.Prelude.{◌≡◌, ◌⊎◌, ℕ, List, [], ◌∷◌, Option, Some, None, false, IfSome, IsSomeAnd, length, reverse, slice_get, true}
 use Rattle.engine_types.specs.declared.ActionKind.{ActionKind}
 use Rattle.engine_types.specs.declared.ActionKind.TheVariants.{CreateSlot, RemoveContainer, StopContainer, StopKept}
 use Rattle.engine_types.specs.declared.Aim.{Aim}
@@ -13,7 +13,7 @@ use Rattle.ledger_run.specs.Steps.{steps_of}
 use Rattle.ledger_run.specs.Tellings.{Telling, account_in}
 use Rattle.observe_project.specs.Exchanges.{HasCauseOfEnd}
 use Rattle.outside_api.specs.Accounts.{Account, AreCaused}
-use Rattle.project_run.specs.Timing.{IsTimed}
+use Rattle.project_run.specs.Timing.{IsTimed, ReadsFirst}
 use Rattle.run_model.specs.EngineRules.{Among, Step, TellsSteps}
 use Rattle.run_model.specs.Logs.{GrowsBy}
 use Rattle.run_model.specs.Plans.{is_kept, is_restarted, kept, kind_of, slot_at}
@@ -76,3 +76,4 @@ pub record Leaves (task : Task) (journal : List Entry) (before now : Telling) : 
   pub told : TellsSteps (run_steps task journal 0) before.engine now.engine
   pub caused : IsCaused task journal 0 (account_in before) (account_in now)
   pub timed : IsTimed task journal 0 before.clock now.clock
+  pub read_first : ReadsFirst task.limits.deadline (length before.log) now.clock

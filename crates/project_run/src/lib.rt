@@ -3,9 +3,9 @@
 //!
 //! The contract of `run_project` says that the journal is that of a legal run which came to its end, for the declared
 //! set and anything that the Engine answers; that the hand's log grew by exactly the journal's exchanges, and that the
-//! hand looked whether to stop, read its clock and paused as the journal says; which fault and which report the journal
-//! has; that `up` removes no container that a slot keeps, and stops none but to start it anew; and what the Engine holds
-//! at the end.
+//! hand looked whether to stop, read its clock and paused as the journal says, and where there is a deadline read it before
+//! the first exchange; which fault and which report the journal has; that `up` removes no container that a slot keeps, and
+//! stops none but to start it anew; and what the Engine holds at the end.
 #![tactic(auto)]
 
 mod carrying;

@@ -1,4 +1,4 @@
-ghost use Rattle.std.specs.Prelude.{◌≡◌, option_map};
+ghost use Rattle.std.specs.Prelude.{◌≡◌, length, option_map};
 ghost use Rattle.ledger_run.specs.Tellings.{telling};
 ghost use Rattle.outside_api.specs.Clock.{new_clock};
 ghost use Rattle.run_model.specs.Logs.{deadline_after};
@@ -8,14 +8,14 @@ use engine_types::{Aim, RunLimits, RunOptions};
 use observe_project::is_up;
 use outside_api::Hand;
 
-/// What bounds a run, with a deadline that is counted from the first reading of the hand's clock, made here; there is no reading
-/// where there is no deadline. Goals are waited for only where a project is brought up.
+/// What bounds a run, with a deadline that is counted from the first reading of the hand's clock, made here, behind the exchanges
+/// that its log has; there is no reading where there is no deadline. Goals are waited for only where a project is brought up.
 pub fn limits_for<H: Hand>(hand: &mut H, aim: Aim, options: RunOptions) -> RunLimits
     requires { H.clock hand.old ≡ new_clock }
     ensures limits { result
         ≡ bounded aim (limits_by options (H.clock hand.new)) }
     ensures clock { H.clock hand.new
-        ≡ clock_begun options.wait_seconds (H.clock hand.new).first }
+        ≡ clock_begun options.wait_seconds (length (H.log hand.old)) (H.clock hand.new).first }
     ensures kept { telling (H.log hand.new) (H.heard hand.new) (H.faults hand.new)
         (H.clock hand.new) (H.engine hand.new)
         ≡ telling (H.log hand.old) (H.heard hand.old) (H.faults hand.old) (H.clock hand.new)
@@ -34,7 +34,8 @@ fn deadline_for<H: Hand>(hand: &mut H, wait_seconds: Option<u32>) -> Option<u64>
     requires { H.clock hand.old ≡ new_clock }
     ensures deadline { result
         ≡ option_map (deadline_after (H.clock hand.new).first) wait_seconds }
-    ensures clock { H.clock hand.new ≡ clock_begun wait_seconds (H.clock hand.new).first }
+    ensures clock { H.clock hand.new
+        ≡ clock_begun wait_seconds (length (H.log hand.old)) (H.clock hand.new).first }
     ensures kept { telling (H.log hand.new) (H.heard hand.new) (H.faults hand.new)
         (H.clock hand.new) (H.engine hand.new)
         ≡ telling (H.log hand.old) (H.heard hand.old) (H.faults hand.old) (H.clock hand.new)

@@ -1,11 +1,11 @@
-ghost use Rattle.std.specs.Prelude.{◌≡◌, ◌≤◌, [], Some, None, false, true, IfOk};
+ghost use Rattle.std.specs.Prelude.{◌≡◌, ◌≤◌, [], Some, None, false, true, IfOk, length};
 ghost use Rattle.engine_types.specs.declared.RunFault.{RunFault};
 ghost use Rattle.ledger_run.specs.Tellings.{telling};
 ghost use Rattle.outside_api.specs.Accounts.{account};
 ghost use Rattle.outside_api.specs.Clock.{new_clock};
 ghost use Rattle.plan_core.specs.Order.{HasNoCycle};
 ghost use Rattle.project_run.specs.Options.{limits_by};
-ghost use Rattle.project_run.specs.Timing.{IsTimed};
+ghost use Rattle.project_run.specs.Timing.{IsTimed, ReadsFirst};
 ghost use Rattle.project_run.specs.Whole.{IfBegun, IsCaused, IsFault, IsReport, Leaves, SparesKept, run_steps, task_of};
 ghost use Rattle.project_run.specs.Worlds.{EndsExact, EndsGone, GoesThrough, MakesOnce, RollsFew, SparesAgreeing};
 ghost use Rattle.run_laws.specs.Orders.{NeedsDependencies};
@@ -97,6 +97,9 @@ pub fn run_project<H: Hand>(
     ensures timed { IfBegun result.journal (IsTimed
         (task_of declared aim (limits_by options (H.clock hand.new))) result.journal 0
         (H.clock hand.old) (H.clock hand.new)) }
+    ensures read_first { IfBegun result.journal (ReadsFirst
+        (limits_by options (H.clock hand.new)).deadline
+        (length (H.log hand.old)) (H.clock hand.new)) }
 {
     match first_journal(alloc) {
         Ok(journal) => run(alloc, hand, declared, aim, options, journal),

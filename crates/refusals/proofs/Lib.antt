@@ -1,3 +1,4 @@
 pub mod BeforeDial
 pub mod Joined
 pub mod Said
+pub mod AfterReads

@@ -3,3 +3,4 @@ pub mod Origins
 pub mod Refused
 pub mod Saying
 pub mod Statuses
+pub mod Went

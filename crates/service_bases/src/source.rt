@@ -1,5 +1,5 @@
 ghost use Rattle.std.specs.Prelude.{◌≡◌, ◌≤◌, ℕ, Err, IfOk, List, codes};
-ghost use Rattle.loaded_files.specs.Reads.{Gives, IsGiven};
+ghost use Rattle.loaded_files.specs.Reads.{Gives, IsGiven, WentAs};
 ghost use Rattle.loaded_files.specs.Refusing.{of_path};
 ghost use Rattle.loaded_files.specs.declared.refusal.LoadRefusal.{LoadRefusal};
 ghost use Rattle.file_paths.specs.Resolving.{resolved_service};
@@ -90,6 +90,7 @@ pub(crate) fn base_file<F: Files>(
     ensures given { Gives (F.told files.old) result (base_file env.now path.now left) }
     ensures fault { (at : List ℕ) → result ≡ Err (LoadRefusal.ReadFault at)
         → Rose (F.faults files.old) (F.faults files.new) }
+    ensures reads { WentAs (F.reads files.old) (F.reads files.new) result }
     ensures counted { F.faults files.old ≤ F.faults files.new }
     ensures kept { F.told files.new ≡ F.told files.old }
 {

@@ -1,6 +1,6 @@
-ghost use Rattle.std.specs.Prelude.{◌≡◌, ◌<◌, ◌≤◌, ◌^◌, [], None};
+ghost use Rattle.std.specs.Prelude.{◌≡◌, ◌<◌, ◌≤◌, ◌^◌, [], None, length};
 ghost use Rattle.run_model.specs.EngineRules.{DriftsTold, Tells};
-ghost use Rattle.outside_api.specs.Clock.{new_clock, after_now, after_pause, after_asked};
+ghost use Rattle.outside_api.specs.Clock.{new_clock, after_pause, after_asked, read_at};
 ghost use Rattle.outside_api.specs.Hands.{HasCause, Logs};
 ghost use Rattle.shared_hand.specs.Outcomes.{IsOfShared};
 
@@ -87,12 +87,14 @@ impl<'r, R: Wait + Sync> Hand for SharedHand<'r, R> {
     /// The time in milliseconds, which rises by the pauses of all hands.
     fn now(&mut self) -> u64
         requires { (clock_of self.old).readings < 2 ^ 62 }
-        ensures clock { clock_of self.new ≡ after_now (clock_of self.old) result }
+        ensures clock { clock_of self.new
+            ≡ read_at (length (log_of self.old)) (clock_of self.old) result }
         ensures log { log_of self.new ≡ log_of self.old }
         ensures shared { self.new.shared ≡ self.old.shared }
     {
         let time = self.shared.lock(self.rt).clock;
-        self.counts.read(time);
+        let made = self.log.len() as u64;
+        self.counts.read_at(made, time);
         time
     }
 

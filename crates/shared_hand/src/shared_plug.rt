@@ -1,16 +1,17 @@
-ghost use Rattle.std.specs.Prelude.{◌≡◌, ◌↔◌, ◌<◌, ◌≤◌, [], Some, None, IfErr, IfOk};
+ghost use Rattle.std.specs.Prelude.{◌≡◌, ◌⊎◌, ◌<◌, ◌≤◌, [], Some, None, IfErr, IfOk};
+ghost use Rattle.std.specs.Option.{option_copied};
 ghost use Rattle.outside_api.specs.Clock.{new_clock};
-ghost use Rattle.outside_api.specs.Plugs.{CountsDial};
+ghost use Rattle.outside_api.specs.Plugs.{AddsDial, CountsDial, dial_of};
 ghost use Rattle.outside_files.specs.Counts.{Rose};
 ghost use Rattle.tree_base.specs.Limits.{most_workers};
 
 use crate::shared_engine::SharedEngine;
 use crate::shared_hand::SharedHand;
 use memory_engine::MemoryEngine;
-use outside_api::{DialAnswer, Hand, Plug, Target};
+use outside_api::{Dial, DialAnswer, Hand, Plug, Target, note_dial};
 use std::alloc::Global;
 use std::sync::{Arc, Mutex, Wait};
-use tree_base::{Memory, Text};
+use tree_base::{List, Memory, Text};
 
 /// A plug of hands that share one Engine in memory. It makes as many hands as it was told, whatever their target; a further dial
 /// fails. It tells no Engine, since each of the hands may change it.
@@ -19,12 +20,13 @@ pub struct SharedPlug<'r, R> {
     rt: &'r R,
     pub shared: Arc<Mutex<SharedEngine>>,
     hands: u32,
+    dials: List<Dial>,
     dialled: u32,
     failed: u64,
 }
 
 impl<'r, R> SharedPlug<'r, R> {
-    ghost use Rattle.shared_hand.specs.SharedPlugs.{dialled_of, faults_of, hands_of};
+    ghost use Rattle.shared_hand.specs.SharedPlugs.{dialled_of, dials_of, faults_of, hands_of};
 
     /// A plug of 1 to 16 hands for this Engine, whose hands' clock stands at 0.
     pub fn new(
@@ -36,6 +38,7 @@ impl<'r, R> SharedPlug<'r, R> {
         requires some { 0 < hands }
         requires few { hands ≤ most_workers }
         ensures hands { IfOk result (λ plug. hands_of plug ≡ hands) }
+        ensures dials { IfOk result (λ plug. dials_of plug ≡ []) }
         ensures dialled { IfOk result (λ plug. dialled_of plug ≡ 0) }
         ensures faults { IfOk result (λ plug. faults_of plug ≡ 0) }
     {
@@ -44,6 +47,7 @@ impl<'r, R> SharedPlug<'r, R> {
             rt,
             shared,
             hands,
+            dials: List::new(alloc),
             dialled: 0,
             failed: 0,
         })
@@ -57,6 +61,7 @@ impl<'r, R> SharedPlug<'r, R> {
             rt,
             shared,
             hands,
+            dials,
             dialled,
             failed,
         } = self;
@@ -66,6 +71,7 @@ impl<'r, R> SharedPlug<'r, R> {
                 rt,
                 shared,
                 hands,
+                dials,
                 dialled,
                 failed,
             }),
@@ -76,28 +82,34 @@ impl<'r, R> SharedPlug<'r, R> {
 impl<'r, R: Wait + Sync> Plug for SharedPlug<'r, R> {
     type Hand = SharedHand<'r, R>;
 
-    ghost use Rattle.shared_hand.specs.SharedPlugs.{dialled_of, faults_of, hands_of};
+    ghost use Rattle.shared_hand.specs.SharedPlugs.{dialled_of, dials_of, faults_of, hands_of};
     ghost use Rattle.shared_hand.specs.SharedHands.{clock_of, log_of};
 
     ghost engine = { λ _. None };
+
+    ghost dials = { λ plug. plug.dials };
 
     ghost dialled = { λ plug. Some plug.dialled };
 
     ghost faults = { λ plug. plug.failed };
 
-    /// Makes a hand, as long as fewer than it was told were made. No memory.
+    /// Makes a hand, as long as fewer than it was told were made. Memory only where there is none for the dial.
     fn dial(
         &mut self,
         alloc: Global,
-        _target: &Target,
-        _stop_file: Option<&Text>,
-        _number: u32,
+        target: &Target,
+        stop_file: Option<&Text>,
+        number: u32,
     ) -> DialAnswer<SharedHand<'r, R>>
         ensures counted { faults_of self.old ≤ faults_of self.new }
         ensures failed { result ≡ DialAnswer.Failed
             → Rose (faults_of self.old) (faults_of self.new) }
-        ensures exact { (result ≡ DialAnswer.Failed)
-            ↔ (hands_of self.old ≤ dialled_of self.old) }
+        ensures dials { AddsDial (dials_of self.old)
+            (dial_of target.now (option_copied stop_file.entry) number) (dials_of self.new) result }
+        ensures failed_only { result ≡ DialAnswer.Failed
+            → hands_of self.old ≤ dialled_of self.old }
+        ensures unmade { hands_of self.old ≤ dialled_of self.old
+            → (result ≡ DialAnswer.Failed) ⊎ (result ≡ DialAnswer.Memory) }
         ensures dialled { CountsDial (Some (dialled_of self.old)) (Some (dialled_of self.new))
             result }
         ensures log { (hand : _) → result ≡ DialAnswer.Dialled hand → log_of hand ≡ [] }
@@ -106,6 +118,9 @@ impl<'r, R: Wait + Sync> Plug for SharedPlug<'r, R> {
         ensures hands { hands_of self.new ≡ hands_of self.old }
         ensures shared { self.new.shared ≡ self.old.shared }
     {
+        if note_dial(alloc, &mut self.dials, target, stop_file, number).is_err() {
+            return DialAnswer::Memory;
+        }
         if self.dialled >= self.hands {
             self.failed = self.failed.saturating_add(1);
             return DialAnswer::Failed;

@@ -29,7 +29,7 @@ fn read<F: Files>(
 #[test]
 fn files_of_the_disk_are_read(rt: HostRuntime) -> Result<(), Fail> {
     let alloc = rt.alloc();
-    let mut files = DiskFiles::new(&rt);
+    let mut files = DiskFiles::new(rt.alloc(), &rt);
     for (path, limit, answer) in [
         ("/dev/null", 0, "bytes"),
         ("/dev/zero", 9, "longer"),

@@ -55,6 +55,10 @@ fn the_hands_of_the_program_speak_with_their_targets(rt: HostRuntime) -> Result<
 
 #[test]
 fn a_silent_peer_ends_the_connection(rt: HostRuntime) {
-    let outcome = outcome_at(rt.alloc(), &mut SilentPlug::new(), &Target::InMemory);
+    let outcome = outcome_at(
+        rt.alloc(),
+        &mut SilentPlug::new(rt.alloc()),
+        &Target::InMemory,
+    );
     assert_eq!(rt; outcome, "ended");
 }

@@ -42,6 +42,7 @@ timed_by_all w deadline past old new t = record {
   paused = t.paused ∙ ap (λ (n : ℕ). old.paused + n) (own_entries.pauses past w);
   readings = t.readings ∙ ap (λ (n : ℕ). old.readings + readings_for deadline n) (own_entries.unstopped past w);
   first = t.first;
+  place = t.place;
   late = sym (own_entries.late past w) ∙ t.late ∙ ap (λ (n : ℕ). late_by deadline n new.last) (own_entries.unstopped past w);
 }
 

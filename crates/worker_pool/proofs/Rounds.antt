@@ -1,10 +1,10 @@
 -- One round of a worker behind another.
-use Rattle.std.proofs.Common.{◌≡◌, ℕ, ◌<◌, Bool, true, false, List, [], ◌∷◌, ◌++◌, reverse, Option, Some, None, if◌then◌else◌, refl, sym, ap, ◌∙◌, subst, arith}
+use Rattle.std.proofs.Common.{◌≡◌, ℕ, ◌<◌, Bool, true, false, List, [], ◌∷◌, ◌++◌, length, reverse, Option, Some, None, if◌then◌else◌, refl, sym, ap, ◌∙◌, subst, arith}
 use Rattle.std.proofs.lemmas.Bool.{eq-eqb, true≢false}
 use Rattle.std.specs.Prelude.{nat_le}
 use Rattle.engine_types.specs.declared.Entry.{Entry}
 use Rattle.engine_types.specs.declared.LateWhy.{LateWhy}
-use Rattle.outside_api.specs.Clock.{Clock, after_asked, after_now, after_pause}
+use Rattle.outside_api.specs.Clock.{Clock, after_asked, after_pause, read_at}
 use Rattle.run_model.specs.Journals.{Nothing, has_left, holding}
 use Rattle.run_model.specs.Logs.{is_ask_of}
 use Rattle.journal_laws.specs.Courses.{Course}
@@ -18,15 +18,15 @@ use Rattle.worker_pool.proofs.Heeding.{may_ask_still, mine_with}
 use Rattle.worker_pool.proofs.Timing.{IsAsk, IsReadied, ask_timed, ended_timed, late_readied, none_readied, read_readied, stop_readied}
 
 -- the clock once the worker has heeded its limits
-heeded_timed : (n : ℕ) (deadline : Option ℕ) (asked : Bool) (reading : ℕ) (past : List Entry) (start old : Clock) → IsTimedBy n deadline past start old → IsCalm past n
-    → IsReadied n deadline (reverse (heeded_by n asked deadline reading) ++ past) start (clock_heeded asked deadline reading old)
-heeded_timed n deadline true reading past start old t c = stop_readied n deadline past start old t c
-heeded_timed n None false reading past start old t c = none_readied n past start old t
-heeded_timed n (Some d) false reading past start old t c = by (nat_le d reading) refl
+heeded_timed : (n made : ℕ) (deadline : Option ℕ) (asked : Bool) (reading : ℕ) (past : List Entry) (start old : Clock) → IsTimedBy n deadline past start old → IsCalm past n
+    → IsReadied n deadline (reverse (heeded_by n asked deadline reading) ++ past) start (clock_heeded made asked deadline reading old)
+heeded_timed n made deadline true reading past start old t c = stop_readied n deadline past start old t c
+heeded_timed n made None false reading past start old t c = none_readied n past start old t
+heeded_timed n made (Some d) false reading past start old t c = by (nat_le d reading) refl
   where
-    by : (b : Bool) → nat_le d reading ≡ b → IsReadied n (Some d) (reverse (if b then Entry.Late n (LateWhy.Deadline reading) ∷ [] else []) ++ past) start (after_now (after_asked old false) reading)
-    by true e = late_readied n d past start old reading t c e
-    by false e = read_readied n d past start old reading t c e
+    by : (b : Bool) → nat_le d reading ≡ b → IsReadied n (Some d) (reverse (if b then Entry.Late n (LateWhy.Deadline reading) ∷ [] else []) ++ past) start (read_at made (after_asked old false) reading)
+    by true e = late_readied n made d past start old reading t c e
+    by false e = read_readied n made d past start old reading t c e
 
 claim_ask : (n a : ℕ) → IsAsk n (Entry.Claim n a) 0
 claim_ask n a = record { is = eq-eqb n n refl; stopped = λ past. refl; late = λ past. refl; pauses_are = λ past. omega arith }
@@ -64,7 +64,7 @@ pub round_timed : (q : Course) (deadline : Option ℕ) (v w : SeatView) (s t : T
     → IsTimedBy v.number deadline (reverse (mine_of q v)) start s.clock → IsCalm (reverse (mine_of q v)) v.number → IsTimedBy w.number deadline (reverse (mine_of q w)) start t.clock
 round_timed q deadline v w s t goes start r timed c =
     let h = r.heeds in let a = r.acts in
-    let first = heeded_timed v.number deadline h.asked h.reading (reverse (mine_of q v)) start s.clock timed c in
+    let first = heeded_timed v.number (length s.log) deadline h.asked h.reading (reverse (mine_of q v)) start s.clock timed c in
     let mid : IsReadied r.mid.number deadline (reverse (mine_of q r.mid)) start r.between.clock =
     subst (λ (n : ℕ). IsReadied n deadline (reverse (mine_of q r.mid)) start r.between.clock) (sym h.went.number)
     (subst (λ (l : List Entry). IsReadied v.number deadline l start r.between.clock) (sym (mine_with q v r.mid (heeded_by v.number h.asked deadline h.reading) h.went.number h.mine))

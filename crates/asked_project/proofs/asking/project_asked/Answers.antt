@@ -1,8 +1,9 @@
-use Rattle.std.proofs.Common.{◌≡◌}
+use Rattle.std.proofs.Common.{◌≡◌, ◌∙◌, sym}
 use Rattle.asked_project.proofs.Answered.{IfSome-all, IfSome-map, is_spelled, means_loaded, means_refused, no_words, refused_answers, refused_exactly, same_options, unrefused_answers}
 use Rattle.asked_project.proofs.Refusing.{words_of_asking, words_no_read}
 use Rattle.loaded_files.specs.declared.LoadRefusal.{LoadRefusal}
 use Rattle.refusals.specs.declared.Refusal.{Refusal}
+use Rattle.refusals.proofs.AfterReads.{words_went}
 use Rattle.asked_project.proofs.asking.project_asked.Goals as goal
 
 pub returns-in-Ok-clause-told : goal.returns-in-Ok-clause-told
@@ -41,3 +42,6 @@ returns-in-Err-clause-read g c = λ path e.
 
 pub returns-in-Err-clause-kind : goal.returns-in-Err-clause-kind
 returns-in-Err-clause-kind g c = words_of_asking c.in-Err.refusal c.in-Err.ensures.kind
+
+pub returns-in-Err-clause-reads : goal.returns-in-Err-clause-reads
+returns-in-Err-clause-reads g c = λ well. well ∙ sym (words_went c.in-Err.refusal c.in-Err.ensures.kind)

@@ -3,11 +3,12 @@ use Rattle.std.specs.Prelude.{IfErr, IfOk, IfSome, IsTrue, Result}
 use Rattle.asked_project.specs.Meaning.{IsLoaded}
 use Rattle.asked_project.specs.Parts.{MeansFor}
 use Rattle.asked_project.specs.declared.asking.Asked.{Asked}
-use Rattle.asked_project.proofs.Answered.{is_loaded, load_no_words, loads_project, loads_read, loads_refused, with_kind, with_no_read, with_no_words, with_options, with_keyed}
+use Rattle.asked_project.proofs.Answered.{is_loaded, load_no_words, loads_project, loads_read, loads_refused, with_kind, with_no_read, with_no_words, with_options, with_keyed, with_went}
 use Rattle.loaded_files.specs.declared.LoadRefusal.{LoadRefusal}
 use Rattle.refusals.specs.Origins.{IsOfAsking, is_of_words}
 use Rattle.refusals.specs.declared.Refusal.{Refusal}
 use Rattle.typed_project.specs.DistinctNames.{IsKeyed}
+use Rattle.refusals.proofs.AfterReads.{load_went}
 use Rattle.asked_project.proofs.asking.project_for.Goals as goal
 
 pub returns-in-Ok-clause-told : goal.returns-in-Ok-clause-told
@@ -45,3 +46,9 @@ pub returns-in-Err-clause-read : goal.returns-in-Err-clause-read
 returns-in-Err-clause-read g c = λ path e.
     let same : c.from.result ≡ Refusal.Load (LoadRefusal.ReadFault path) = cc e in
     loads_read c.args.options c.args.env.now c.args.cwd.now (g.F.Files.told c.args.files.now) c.in-Err.refusal c.from.result path _ _ c.from.ensures.refusal same c.in-Err.ensures.given (λ at f. c.in-Err.ensures.fault at (ap Err f))
+
+pub returns-in-Ok-clause-reads : goal.returns-in-Ok-clause-reads
+returns-in-Ok-clause-reads g c = λ well. c.in-Ok.ensures.reads well ∙ sym (with_went c.args.options c.project_loaded-project.result c.asked_with.result c.asked_with.ensures c.project_loaded-project.ensures.kind)
+
+pub returns-in-Err-clause-reads : goal.returns-in-Err-clause-reads
+returns-in-Err-clause-reads g c = λ well. c.in-Err.ensures.reads well ∙ sym (load_went c.in-Err.refusal c.from.result c.from.ensures.refusal)

@@ -1,4 +1,4 @@
-use Rattle.std.proofs.Common.{◌≡◌, Err, List, ap, subst}
+use Rattle.std.proofs.Common.{◌≡◌, Err, List, ap, subst, ◌∙◌, sym}
 use Rattle.asked_run.proofs.Declared.{declares_refused, declares_with, is_declared, no_read, read_failed, told_as}
 use Rattle.asked_run.specs.Declaring.{declared_with}
 use Rattle.file_digests.specs.declared.DigestRefusal.{DigestRefusal}
@@ -6,6 +6,7 @@ use Rattle.refusals.specs.Refused.{wants_memory}
 use Rattle.refusals.specs.declared.Refusal.{Refusal}
 use Rattle.service_hashes.specs.declared.digest.FileDigest.{FileDigest}
 use Rattle.tree_base.specs.Answers.{Gives}
+use Rattle.refusals.proofs.AfterReads.{declared_went, digest_went}
 use Rattle.asked_run.proofs.declaring.declared_asked.Goals as goal
 
 pub returns-in-Ok-clause-given : goal.returns-in-Ok-clause-given
@@ -44,3 +45,9 @@ returns-in-Err-clause-read g c = λ path e.
     read_failed (g.F.Files.told c.args.files.now) c.args.command.now c.args.project.now c.in-Err.refusal c.from.result path _ _ c.from.ensures.refusal same
     (λ n. c.in-Err.ensures.given (λ q. let wanted : c.in-Err.refusal ≡ DigestRefusal.Memory = cc q in n wanted))
     (λ at f. c.in-Err.ensures.fault at (ap Err f))
+
+pub returns-in-Ok-clause-reads : goal.returns-in-Ok-clause-reads
+returns-in-Ok-clause-reads g c = λ well. c.in-Ok.ensures.reads well ∙ sym (declared_went c.declared_with-declared.result c.declared_with-declared.ensures.kind c.declared_with-declared.ensures.read)
+
+pub returns-in-Err-clause-reads : goal.returns-in-Err-clause-reads
+returns-in-Err-clause-reads g c = λ well. c.in-Err.ensures.reads well ∙ sym (digest_went c.in-Err.refusal c.from.result c.from.ensures.refusal)

@@ -26,7 +26,7 @@ returns-clause-ran g c =
     (ran_as (λ h. telling (g.H.Hand.log h) (g.H.Hand.heard h) (g.H.Hand.faults h) (g.H.Hand.clock h) (g.H.Hand.engine h)) (task_of c.args.declared c.args.aim (limits_by c.args.options (g.H.Hand.clock c.run_project-journal.new.hand))) c.run_project-journal.result.journal c.from_vec.result c.status_of.result
     c.run_project-journal.result.report c.run_project-journal.result.fault c.write_report.result c.say_if_any-refusal.result c.args.hand c.run_project-journal.new.hand
     (g.O.Sink.written c.args.out.now) (g.O.Sink.written c.write_report.new.out) (g.O.Sink.faults c.args.out.now) (g.O.Sink.faults c.write_report.new.out)
-    refl c.requires.own c.run_project-journal.ensures.run c.run_project-journal.ensures.left c.run_project-journal.ensures.log c.run_project-journal.ensures.fault c.run_project-journal.ensures.timed c.run_project-journal.ensures.report c.run_project-journal.ensures.cause
+    refl c.requires.own c.run_project-journal.ensures.run c.run_project-journal.ensures.left c.run_project-journal.ensures.log c.run_project-journal.ensures.fault c.run_project-journal.ensures.timed c.run_project-journal.ensures.read_first c.run_project-journal.ensures.report c.run_project-journal.ensures.cause
     c.run_project-journal.ensures.kept c.run_project-journal.ensures.once c.run_project-journal.ensures.agreeing c.run_project-journal.ensures.rolls c.run_project-journal.ensures.exact c.run_project-journal.ensures.gone
     c.requires.unused c.requires.unread c.requires.unheard c.requires.faultless one c.write_report.ensures.refused c.write_report.ensures.written c.say_if_any-refusal.ensures.refusal c.status_of.ensures)
     c.run_project-journal.ensures.world one)
@@ -34,4 +34,4 @@ returns-clause-ran g c =
 pub returns-clause-quiet_unbegun : goal.returns-clause-quiet_unbegun
 returns-clause-quiet_unbegun g c =
     unwritten (g.O.Sink.faults c.args.out.now) (g.O.Sink.faults c.write_report.new.out) (task_of c.args.declared c.args.aim (limits_by c.args.options (g.H.Hand.clock c.run_project-journal.new.hand))) c.run_project-journal.result.journal c.run_project-journal.result.fault
-    c.run_project-journal.result.report (g.O.Sink.written c.args.out.now) (g.O.Sink.written c.write_report.new.out) c.run_project-journal.ensures.report c.write_report.ensures.written
+    c.run_project-journal.result.report c.write_report.result (g.O.Sink.written c.args.out.now) (g.O.Sink.written c.write_report.new.out) c.run_project-journal.ensures.report c.write_report.ensures.written

@@ -1,4 +1,4 @@
-use Rattle.std.proofs.Common.{◌≡◌, ◌∙◌, Err, None, Some, ap, inr, refl, subst, sym}
+use Rattle.std.proofs.Common.{◌≡◌, ◌∙◌, Err, None, Some, ap, inr, length, refl, subst, sym}
 use Rattle.std.specs.Prelude.{IfErr, IfOk}
 use Rattle.asked_project.specs.Asking.{command_of, options_asked}
 use Rattle.asked_project.specs.Meaning.{meaning}
@@ -7,10 +7,12 @@ use Rattle.compose_config.proofs.Printed.{asked_prefix, asked_whole, page_comple
 use Rattle.compose_config.specs.Commands.{GrewByPrefix, IsReadFault, page_asked, page_for}
 use Rattle.asked_run.specs.Declaring.{declared_from}
 use Rattle.compose_cli.proofs.Declaring.{asking_undeclared, digest_faults, digest_read, if_declared, if_declared_idle, loads_fault}
+use Rattle.compose_cli.proofs.Dialled.{dial_asked, dials_by, undialled}
 use Rattle.compose_cli.proofs.Ending.{asking_no_digest, before_unbegun, beside, counts_none, if_runs, no_config, no_words, only_reads, refused_with}
 use Rattle.compose_cli.proofs.Circles.{spelled_acyclic}
 use Rattle.compose_cli.proofs.Reachable.{reachable}
 use Rattle.compose_cli.proofs.Ran.{asked, aims, idle, if_begun, said_not_zero, task_by, unasked}
+use Rattle.compose_cli.specs.Dialling.{IsDialAsked, IsDialFor}
 use Rattle.compose_cli.specs.Ends.{SendsNothing}
 use Rattle.compose_cli.specs.Runs.{IsFaultOfReads, IsUndeclared, RanAlone, first_reading}
 use Rattle.file_digests.specs.declared.DigestRefusal.{DigestRefusal}
@@ -19,6 +21,7 @@ use Rattle.refusals.specs.Origins.{IsOfLoading}
 use Rattle.refusals.specs.Saying.{IsSaid}
 use Rattle.refusals.specs.declared.Part.{Part}
 use Rattle.ledger_run.specs.Tellings.{telling}
+use Rattle.refusals.proofs.AfterReads.{ends_after, ends_loaded, ends_said}
 use Rattle.compose_cli.proofs.top.serial_main.Goals as goal
 
 pub returns-in-Some-clause-ran : goal.returns-in-Some-clause-ran
@@ -26,6 +29,18 @@ returns-in-Some-clause-ran g c = if_begun c.run_asked.result.journal c.run_asked
     task_by c.args.words.now c.args.env.now c.args.cwd.now (g.F.Files.told c.args.files.now) (g.F.Files.told c.project_asked.new.files) 1 (first_reading (λ h. g.P.Hand.Hand.clock h) c.run_asked.result.hands) c.in-Some.aim c.in-Ok.asked
     (λ task. RanAlone (λ h. telling (g.P.Hand.Hand.log h) (g.P.Hand.Hand.heard h) (g.P.Hand.Hand.faults h) (g.P.Hand.Hand.clock h) (g.P.Hand.Hand.engine h)) (g.P.Plug.engine c.args.plug.now) task c.run_asked.result (g.O.Sink.written c.args.out.now) (g.O.Sink.written c.run_asked.new.out) (g.O.Sink.faults c.args.out.now) (g.O.Sink.faults c.run_asked.new.out))
     c.project_asked.ensures.kept (command_is c.args.words.now c.args.env.now c.in-Ok.asked.options c.in-Ok.ensures.options) (aims c.in-Ok.asked.options.command c.aim_for.result c.in-Some.aim c.aim_for.ensures c.in-Some.is) c.in-Ok.ensures.told c.in-Ok.ensures.text ran)
+
+pub returns-in-Some-clause-dials : goal.returns-in-Some-clause-dials
+returns-in-Some-clause-dials g c = dials_by (IsDialFor c.in-Ok.asked.options c.args.env.now c.args.cwd.now) (IsDialAsked c.args.words.now c.args.env.now c.args.cwd.now) (g.P.Plug.dials c.args.plug.now) (g.P.Plug.dials c.run_asked.new.plug) (length c.run_asked.result.hands) c.run_asked.result.refusal
+    (dial_asked c.args.words.now c.args.env.now c.args.cwd.now c.in-Ok.asked.options c.in-Ok.ensures.options) c.run_asked.ensures.dials
+
+pub returns-in-None-clause-dials : goal.returns-in-None-clause-dials
+returns-in-None-clause-dials g c = undialled (IsDialAsked c.args.words.now c.args.env.now c.args.cwd.now) (g.P.Plug.dials c.args.plug.now) c.print_page.result.hands c.print_page.result.refusal c.print_page.ensures.nothing.0
+    (λ e. page_no_plug (page_for c.in-Ok.asked.options.command c.in-Ok.asked.project) (g.O.Sink.written c.args.out.now) (g.O.Sink.written c.print_page.new.out) (g.O.Sink.faults c.args.out.now) (g.O.Sink.faults c.print_page.new.out) c.print_page.result.refusal c.print_page.ensures.printed e)
+
+pub returns-in-Err-clause-dials : goal.returns-in-Err-clause-dials
+returns-in-Err-clause-dials g c = undialled (IsDialAsked c.args.words.now c.args.env.now c.args.cwd.now) (g.P.Plug.dials c.args.plug.now) c.refused.result.hands c.refused.result.refusal c.refused.ensures.nothing.0
+    (λ e. asking_no_outside c.in-Err.refusal c.refused.result.refusal c.in-Err.ensures.kind c.refused.ensures.refusal Part.Plug e)
 
 pub returns-in-Some-clause-words : goal.returns-in-Some-clause-words
 returns-in-Some-clause-words g c = no_words_refused c.args.words.now c.args.env.now _ c.in-Ok.asked.options c.in-Ok.ensures.options
@@ -183,3 +198,13 @@ run_asked-requires-clause-reachable g c = reachable c.args.env.now c.args.words.
 
 pub run_asked-requires-clause-acyclic : goal.run_asked-requires-clause-acyclic
 run_asked-requires-clause-acyclic g c = spelled_acyclic c.args.words.now c.args.env.now c.args.cwd.now (g.F.Files.told c.args.files.now) c.in-Ok.asked.project c.in-Ok.ensures.text
+
+pub returns-in-Some-clause-reads : goal.returns-in-Some-clause-reads
+returns-in-Some-clause-reads g c = ends_after (g.F.Files.reads c.project_asked.new.files) (g.F.Files.reads c.run_asked.new.files) (g.F.Files.reads c.args.files.now) c.run_asked.result.refusal c.in-Ok.ensures.reads c.run_asked.ensures.reads
+
+pub returns-in-None-clause-reads : goal.returns-in-None-clause-reads
+returns-in-None-clause-reads g c = ends_loaded (g.F.Files.reads c.args.files.now) (g.F.Files.reads c.project_asked.new.files) c.print_page.result.refusal
+    (page_no_loading (page_for c.in-Ok.asked.options.command c.in-Ok.asked.project) (g.O.Sink.written c.args.out.now) (g.O.Sink.written c.print_page.new.out) (g.O.Sink.faults c.args.out.now) (g.O.Sink.faults c.print_page.new.out) c.print_page.result.refusal c.print_page.ensures.printed) c.in-Ok.ensures.reads
+
+pub returns-in-Err-clause-reads : goal.returns-in-Err-clause-reads
+returns-in-Err-clause-reads g c = ends_said (g.F.Files.reads c.args.files.now) (g.F.Files.reads c.project_asked.new.files) c.in-Err.refusal c.refused.result.refusal c.refused.ensures.refusal c.in-Err.ensures.reads

@@ -5,6 +5,7 @@ use Rattle.compose_config.specs.Commands.{GrewByPrefix, IsReadFault, page_asked,
 use Rattle.compose_config.proofs.Loads.{IfSome-map, asking_kind, asking_no_outside, command_is, for_project, if_loads, means_unrefused, no_words_refused, only_outside, said_exactly, said_read, said_refusal, said_some, said_words}
 use Rattle.compose_config.proofs.Printed.{asked_prefix, asked_whole, page_complete, page_fault, page_kind, page_no_loading, page_no_read, page_no_words}
 use Rattle.outside_files.specs.Sinks.{GrewBy}
+use Rattle.refusals.proofs.AfterReads.{ends_loaded, ends_said}
 use Rattle.refusals.specs.declared.Part.{Part}
 use Rattle.compose_config.proofs.config.config_run.Goals as goal
 
@@ -39,6 +40,10 @@ returns-in-Ok-clause-prefix g c = inr (
 pub returns-in-Ok-clause-quiet : goal.returns-in-Ok-clause-quiet
 returns-in-Ok-clause-quiet g c = λ loading. absurd (page_no_loading (page_for c.in-Ok.asked.options.command c.in-Ok.asked.project) (g.O.Sink.written c.args.out.now) (g.O.Sink.written c.print_asked.new.out) (g.O.Sink.faults c.args.out.now) (g.O.Sink.faults c.print_asked.new.out) c.print_asked.result.refusal c.print_asked.ensures.printed loading)
 
+pub returns-in-Ok-clause-reads : goal.returns-in-Ok-clause-reads
+returns-in-Ok-clause-reads g c = ends_loaded (g.F.Files.reads c.args.files.now) (g.F.Files.reads c.project_asked.new.files) c.print_asked.result.refusal
+    (page_no_loading (page_for c.in-Ok.asked.options.command c.in-Ok.asked.project) (g.O.Sink.written c.args.out.now) (g.O.Sink.written c.print_asked.new.out) (g.O.Sink.faults c.args.out.now) (g.O.Sink.faults c.print_asked.new.out) c.print_asked.result.refusal c.print_asked.ensures.printed) c.in-Ok.ensures.reads
+
 pub returns-in-Ok-clause-complete : goal.returns-in-Ok-clause-complete
 returns-in-Ok-clause-complete g c = if_loads c.args.words.now c.args.env.now c.args.cwd.now (g.F.Files.told c.args.files.now) _ (page_complete (page_for c.in-Ok.asked.options.command c.in-Ok.asked.project) (g.O.Sink.written c.args.out.now) (g.O.Sink.written c.print_asked.new.out) (g.O.Sink.faults c.args.out.now) (g.O.Sink.faults c.print_asked.new.out) (IsReadFault c.args.words.now c.args.env.now c.args.cwd.now (g.F.Files.told c.args.files.now) (g.F.Files.faults c.args.files.now) (g.F.Files.faults c.project_asked.new.files)) c.print_asked.result.refusal c.print_asked.ensures.printed)
 
@@ -59,6 +64,9 @@ returns-in-Err-clause-read_fault g c = λ path e. c.in-Err.ensures.read path (ap
 
 pub returns-in-Err-clause-output_fault : goal.returns-in-Err-clause-output_fault
 returns-in-Err-clause-output_fault g c = λ e. absurd (asking_no_outside c.in-Err.refusal c.ended.result.refusal c.in-Err.ensures.kind c.ended.ensures.refusal Part.Out e)
+
+pub returns-in-Err-clause-reads : goal.returns-in-Err-clause-reads
+returns-in-Err-clause-reads g c = ends_said (g.F.Files.reads c.args.files.now) (g.F.Files.reads c.project_asked.new.files) c.in-Err.refusal c.ended.result.refusal c.ended.ensures.refusal c.in-Err.ensures.reads
 
 pub returns-in-Err-clause-page : goal.returns-in-Err-clause-page
 returns-in-Err-clause-page g c = λ zero. absurd (said_some c.in-Err.refusal c.ended.result.refusal c.ended.ensures.refusal (c.ended.ensures.none.1 zero))

@@ -38,3 +38,13 @@ returns-clause-given g c =
     (subst (λ (t : Option Contents). Digested t Kind.Secret project.secrets (Ok secrets)) c.in_ok-configs.ensures.kept
     (subst (λ (items : List FileItem). Digested (g.F.Files.told c.digests_of.new.files) Kind.Secret items (Ok secrets)) c.as_slice-2.ensures (c.in_ok-secrets.ensures.given (λ e. cc e))))
     c.in_ok-joined.ensures
+
+pub returns-in_err-configs-clause-reads : goal.returns-in_err-configs-clause-reads
+returns-in_err-configs-clause-reads g c =
+    let p = err_from_is_err_and c.from_residual.result c.from_residual.ensures.1 in
+    rw (p.1, p.2) c.in_err-configs.ensures.reads
+
+pub returns-in_err-secrets-clause-reads : goal.returns-in_err-secrets-clause-reads
+returns-in_err-secrets-clause-reads g c =
+    let p = err_from_is_err_and c.from_residual-in_err-secrets.result c.from_residual-in_err-secrets.ensures.1 in
+    rw (p.1, p.2) (λ well. c.in_err-secrets.ensures.reads (c.in_ok-configs.ensures.reads well))

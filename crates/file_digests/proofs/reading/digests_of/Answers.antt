@@ -16,6 +16,7 @@ loop-item-init g c = record {
   ran = λ given k. subst (λ (r : Given). Digested (g.F.Files.told c.args.files.now) c.args.kind c.args.items.now r) (sym (ap (λ (done : List FileDigest). behind done given) c.new-digests.ensures ∙ behind_none given)) k;
   counted = omega arith;
   kept = refl;
+  reads = λ well. well;
 }
 
 pub returns-in_err-digest-clause-given : goal.returns-in_err-digest-clause-given
@@ -47,6 +48,7 @@ loop-item-preserved g c =
           (one_on told kind item (drop (l.item-index + 1) items) digest one given k)));
       counted = omega (arith, l.invariant.counted, c.in_ok-digest.ensures.counted);
       kept = c.in_ok-digest.ensures.kept ∙ l.invariant.kept;
+      reads = λ well. c.in_ok-digest.ensures.reads (l.invariant.reads well);
     }
 
 pub returns-clause-given : goal.returns-clause-given
@@ -55,3 +57,8 @@ returns-clause-given g c =
     let l = c.loop-item in
     λ n. subst (λ (done : List FileDigest). Digested told c.args.kind c.args.items.now (Ok done)) (append-nil l.digests)
     (l.invariant.ran (Ok []) (subst (λ (is : List FileItem). Digested told c.args.kind is (Ok [])) (sym (none_left c.args.items.now l.item-index (omega arith))) refl))
+
+pub returns-in_err-digest-clause-reads : goal.returns-in_err-digest-clause-reads
+returns-in_err-digest-clause-reads g c =
+    let p = err_from_is_err_and c.from_residual.result c.from_residual.ensures.1 in
+    rw (p.1, p.2) (λ well. c.in_err-digest.ensures.reads (c.loop-item.invariant.reads well))

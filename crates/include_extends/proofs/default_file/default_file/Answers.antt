@@ -89,6 +89,7 @@ loop-name-preserved g c =
           c.in_ok-found.found c.in-Missing.is c.in_ok-found.ensures.given r k);
       counted = omega (arith, l.invariant.counted, c.in_ok-found.ensures.counted);
       kept = c.in_ok-found.ensures.kept ∙ l.invariant.kept;
+      reads = λ well. c.in_ok-found.ensures.reads (l.invariant.reads well);
     }
 
 pub returns-clause-given : goal.returns-clause-given
@@ -100,3 +101,8 @@ returns-clause-given g c =
     let none = none_left (texts names) l.name-index (omega (arith, length-map names (λ (name : Bor (List ℕ)). name.now))) in
     let answer : Result (List ℕ × Seen) LoadRefusal = Err (NotFound (joined directory (codes "compose.yaml"))) in
     rw c.in_ok-joined.ensures (λ n. l.invariant.ran answer (subst (λ (ns : List (List ℕ)). Ran told (default_file directory ns) answer) (sym none) refl))
+
+pub returns-in_err-found-clause-reads : goal.returns-in_err-found-clause-reads
+returns-in_err-found-clause-reads g c =
+    let p = err_from_is_err_and c.from_residual-in_err-found.result c.from_residual-in_err-found.ensures.1 in
+    rw (p.1, p.2) (λ well. c.in_err-found.ensures.reads (c.loop-name.invariant.reads well))

@@ -1,6 +1,7 @@
 use Rattle.std.proofs.Common.{◌≡◌, ◌≤◌, ℕ, List, drop, map, Result}
 use Rattle.include_extends.specs.Loading.{default_file}
 use Rattle.loaded_files.specs.Reads.{Ran}
+use Rattle.outside_files.specs.Reads.{Well, went}
 use Rattle.loaded_files.specs.declared.reads.Seen.{Seen}
 use Rattle.loaded_files.specs.declared.refusal.LoadRefusal.{LoadRefusal}
 use Rattle.include_extends.proofs.default_file.default_file.Given as goal
@@ -11,4 +12,5 @@ invariant-loop-name g l = record {
       → Ran (g.F.Files.told l.fn.files) (default_file l.directory (map (λ name. name.now) l.names)) r;
   counted : g.F.Files.faults l.fn.files ≤ g.F.Files.faults l.files;
   kept : g.F.Files.told l.files ≡ g.F.Files.told l.fn.files;
+  reads : went (g.F.Files.reads l.fn.files) ≡ Well → went (g.F.Files.reads l.files) ≡ Well;
 }

@@ -22,3 +22,8 @@ pub returns-clause-given : goal.returns-clause-given
 returns-clause-given g c =
     let told = g.F.Files.told c.args.files.now in
     rw (c.in_ok-push.ensures.ok, c.is_empty.ensures.0 c.if-not-is_empty.false) (default_there told c.args.directory.now c.in_ok-path.path c.in_ok-path.found c.in_ok-path.ensures.given)
+
+pub returns-in_err-path-clause-reads : goal.returns-in_err-path-clause-reads
+returns-in_err-path-clause-reads g c =
+    let p = err_from_is_err_and c.from_residual.result c.from_residual.ensures.1 in
+    rw (p.1, p.2) c.in_err-path.ensures.reads

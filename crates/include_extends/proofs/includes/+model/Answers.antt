@@ -3,6 +3,7 @@ use Rattle.std.proofs.lemmas.Option.{slice_get_read}
 use Rattle.std.proofs.lemmas.Result.{err_from_is_err_and}
 use Rattle.include_extends.specs.Includes.{item_places, items_included, model, places_included, with_includes}
 use Rattle.include_extends.proofs.Included.{add_refused, add_there, is_begun, item_on, item_out, items_refused, items_there, model_refused, no_level, own_refused, own_there, some_level}
+use Rattle.loaded_files.proofs.Went.{unread}
 use Rattle.include_extends.proofs.includes.+model.Goals as goal
 use Rattle.loaded_files.specs.Reads.{Gives, Ran}
 use Rattle.loaded_files.proofs.Laid.{next_item, none_left}
@@ -82,6 +83,7 @@ items_included-loop-item-preserved g t c =
           (item_on told (model a.levels) a.directory.now a.env.now a.begun.now item (drop (l.item-index + 1) items) l.tree l.left all rest r given k));
       counted = omega (arith, l.invariant.counted, c.in_ok-all.ensures.counted);
       kept = c.in_ok-all.ensures.kept ∙ l.invariant.kept;
+      reads = λ well. c.in_ok-all.ensures.reads (l.invariant.reads well);
     }
 
 pub items_included-returns-clause-given : goal.items_included-returns-clause-given
@@ -118,3 +120,33 @@ places_included-returns-clause-given g t c =
     let a = c.args in
     add_there (g.F.Files.told a.files.now) (model a.levels) a.env.now a.begun.now a.places.now a.tree a.left (rw c.as_slice.ensures at c.in_ok-not_begun.ensures.given)
     c.in_ok-own.own (rw (c.as_slice-3.ensures, c.in_ok-all.ensures, c.as_slice-2.ensures) at c.in_ok-own.ensures.given) c.in_ok-added_to.field-0 (rw c.first_file.ensures at c.in_ok-added_to.ensures.given)
+
+pub model-returns-in_err-own-clause-reads : goal.model-returns-in_err-own-clause-reads
+model-returns-in_err-own-clause-reads g t c =
+    let p = err_from_is_err_and c.from_residual-in_err-own.result c.from_residual-in_err-own.ensures.1 in
+    rw (p.1, p.2) c.in_err-own.ensures.reads
+
+pub with_includes-returns-in_err-tree-clause-reads : goal.with_includes-returns-in_err-tree-clause-reads
+with_includes-returns-in_err-tree-clause-reads g t c =
+    let p = err_from_is_err_and c.from_residual-in_err-tree.result c.from_residual-in_err-tree.ensures.1 in
+    rw (p.1, p.2) c.in_err-tree.ensures.reads
+
+pub items_included-returns-in_err-all-clause-reads : goal.items_included-returns-in_err-all-clause-reads
+items_included-returns-in_err-all-clause-reads g t c =
+    let p = err_from_is_err_and c.from_residual-in_err-all.result c.from_residual-in_err-all.ensures.1 in
+    rw (p.1, p.2) (λ well. c.in_err-all.ensures.reads (c.loop-item.invariant.reads well))
+
+pub places_included-returns-in_err-not_begun-clause-reads : goal.places_included-returns-in_err-not_begun-clause-reads
+places_included-returns-in_err-not_begun-clause-reads g t c =
+    let p = err_from_is_err_and c.from_residual.result c.from_residual.ensures.1 in
+    rw (p.1, p.2) (λ well. well ∙ sym (unread c.in_err-not_begun.field-0.0 c.in_err-not_begun.ensures.fault))
+
+pub places_included-returns-in_err-own-clause-reads : goal.places_included-returns-in_err-own-clause-reads
+places_included-returns-in_err-own-clause-reads g t c =
+    let p = err_from_is_err_and c.from_residual-in_err-own.result c.from_residual-in_err-own.ensures.1 in
+    rw (p.1, p.2) c.in_err-own.ensures.reads
+
+pub places_included-returns-in_err-added_to-clause-reads : goal.places_included-returns-in_err-added_to-clause-reads
+places_included-returns-in_err-added_to-clause-reads g t c =
+    let p = err_from_is_err_and c.from_residual-in_err-added_to.result c.from_residual-in_err-added_to.ensures.1 in
+    rw (p.1, p.2) (λ well. c.in_ok-own.ensures.reads well ∙ sym (unread c.in_err-added_to.field-0.0 c.in_err-added_to.ensures.fault))

@@ -3,6 +3,7 @@ use Rattle.include_extends.specs.Includes.{items_included, model}
 use Rattle.include_extends.proofs.includes.+model.Given as goal
 use Rattle.loaded_files.specs.Reads.{Ran}
 use Rattle.loaded_files.specs.declared.refusal.LoadRefusal.{LoadRefusal}
+use Rattle.outside_files.specs.Reads.{Well, went}
 use Rattle.tree_base.specs.declared.Tree.{Tree}
 
 abbrev pub decreases-model : goal.decreases-model
@@ -23,4 +24,5 @@ invariant-items_included-loop-item g l = record {
       → Ran (g.F.Files.told l.fn.files) (items_included (model l.levels) l.directory l.env l.begun l.items l.fn.tree l.fn.left) r;
   counted : g.F.Files.faults l.fn.files ≤ g.F.Files.faults l.files;
   kept : g.F.Files.told l.files ≡ g.F.Files.told l.fn.files;
+  reads : went (g.F.Files.reads l.fn.files) ≡ Well → went (g.F.Files.reads l.files) ≡ Well;
 }

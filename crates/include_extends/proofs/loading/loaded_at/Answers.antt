@@ -19,3 +19,8 @@ returns-clause-given g c =
     let given =
     subst (λ (t : Option Contents). Gives t r (loaded_of (with_files a.places c.in_ok-paths.paths) a.caller.now c.in_ok-paths.found)) c.in_ok-paths.ensures.kept c.loaded_of.ensures.given in
     found_there (g.F.Files.told a.files.now) a.places a.caller.now c.in_ok-paths.paths c.in_ok-paths.found r c.in_ok-paths.ensures.given given
+
+pub returns-in_err-paths-clause-reads : goal.returns-in_err-paths-clause-reads
+returns-in_err-paths-clause-reads g c =
+    let p = err_from_is_err_and c.from_residual.result c.from_residual.ensures.1 in
+    rw (p.1, p.2) c.in_err-paths.ensures.reads

@@ -18,3 +18,8 @@ returns-clause-given g c =
     let r = c.with_environments.result in
     let given = subst (λ (t : Option Contents). Gives t r (with_environments a.env.now c.in_ok-extended.extended c.in_ok-extended.left)) c.in_ok-extended.ensures.kept c.with_environments.ensures.given in
     are_extended (g.F.Files.told a.files.now) a.env.now a.file.now a.services a.left c.in_ok-extended.extended c.in_ok-extended.left r c.in_ok-extended.ensures.given given
+
+pub returns-in_err-extended-clause-reads : goal.returns-in_err-extended-clause-reads
+returns-in_err-extended-clause-reads g c =
+    let p = err_from_is_err_and c.from_residual.result c.from_residual.ensures.1 in
+    rw (p.1, p.2) c.in_err-extended.ensures.reads

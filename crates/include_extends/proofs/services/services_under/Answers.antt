@@ -29,3 +29,8 @@ returns-in_ok-put_services-in-Some-clause-given g c =
     ∙ put_twice nat_list_eq_equiv a.top (codes "services") Null (Map all) in
     services_there (g.F.Files.told a.files.now) a.env.now a.file.now a.top a.left c.in_ok-services-in-Some.services all c.in_ok-put_services-in-Some.field-0 c.in_ok-all-in-Some.left (found ∙ ap Some (sym same))
     c.in_ok-all-in-Some.ensures.given put
+
+pub returns-in_err-all-in-Some-clause-reads : goal.returns-in_err-all-in-Some-clause-reads
+returns-in_err-all-in-Some-clause-reads g c =
+    let p = err_from_is_err_and c.from_residual-in_err-all-in-Some.result c.from_residual-in_err-all-in-Some.ensures.1 in
+    rw (p.1, p.2) c.in_err-all-in-Some.ensures.reads

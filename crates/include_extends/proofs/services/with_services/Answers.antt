@@ -12,3 +12,8 @@ pub returns-clause-given : goal.returns-clause-given
 returns-clause-given g c =
     let a = c.args in
     tree_there (g.F.Files.told a.files.now) a.file.now a.own c.in_ok-tree.tree c.in_ok-tree.left c.in_ok-tree.ensures.given
+
+pub returns-in_err-tree-clause-reads : goal.returns-in_err-tree-clause-reads
+returns-in_err-tree-clause-reads g c =
+    let p = err_from_is_err_and c.from_residual.result c.from_residual.ensures.1 in
+    rw (p.1, p.2) c.in_err-tree.ensures.reads

@@ -1,6 +1,7 @@
-use Rattle.std.proofs.Common.{true, false, ap, ◌∙◌}
+use Rattle.std.proofs.Common.{List, true, false, length, ap, ◌∙◌}
 use Rattle.std.proofs.lemmas.Bool.{le-leb, lt-leb}
-use Rattle.outside_api.specs.Clock.{Clock, after_asked, after_now}
+use Rattle.engine_types.specs.declared.Exchange.{Exchange}
+use Rattle.outside_api.specs.Clock.{Clock, after_asked, read_at}
 use Rattle.ledger_run.specs.Tellings.{telling}
 use Rattle.ledger_run.proofs.Heeding.{heeds_early, heeds_late, heeds_none, heeds_stop}
 use Rattle.ledger_run.proofs.Turning.{told_again}
@@ -21,9 +22,10 @@ returns-then-is_late g c =
     (telling (g.H.Hand.log c.args.hand.now) (g.H.Hand.heard c.args.hand.now) (g.H.Hand.faults c.args.hand.now) (g.H.Hand.clock c.args.hand.now) (g.H.Hand.engine c.args.hand.now))
     (telling (g.H.Hand.log c.now-reading.new.self) (g.H.Hand.heard c.now-reading.new.self) (g.H.Hand.faults c.now-reading.new.self) (g.H.Hand.clock c.now-reading.new.self) (g.H.Hand.engine c.now-reading.new.self))
     c.in-Some.is (le-leb c.in-Some.deadline c.now-reading.result c.if-is_late.true) c.late.ensures
-    (told_again (g.H.Hand.log c.args.hand.now) (g.H.Hand.log c.now-reading.new.self) (g.H.Hand.heard c.args.hand.now) (g.H.Hand.heard c.now-reading.new.self) (g.H.Hand.faults c.args.hand.now) (g.H.Hand.faults c.now-reading.new.self) (after_now (after_asked (g.H.Hand.clock c.args.hand.now) false) c.now-reading.result) (g.H.Hand.clock c.now-reading.new.self) (g.H.Hand.engine c.args.hand.now) (g.H.Hand.engine c.now-reading.new.self)
+    (told_again (g.H.Hand.log c.args.hand.now) (g.H.Hand.log c.now-reading.new.self) (g.H.Hand.heard c.args.hand.now) (g.H.Hand.heard c.now-reading.new.self) (g.H.Hand.faults c.args.hand.now) (g.H.Hand.faults c.now-reading.new.self) (read_at (length (g.H.Hand.log c.args.hand.now)) (after_asked (g.H.Hand.clock c.args.hand.now) false) c.now-reading.result) (g.H.Hand.clock c.now-reading.new.self) (g.H.Hand.engine c.args.hand.now) (g.H.Hand.engine c.now-reading.new.self)
     (c.now-reading.ensures.log ∙ c.asked-stops.ensures.log) (c.now-reading.ensures.heard ∙ c.asked-stops.ensures.heard) (c.now-reading.ensures.faults ∙ c.asked-stops.ensures.faults)
-    (c.now-reading.ensures.clock ∙ ap (λ (k : Clock). after_now k c.now-reading.result) (c.asked-stops.ensures.clock ∙ ap (after_asked (g.H.Hand.clock c.args.hand.now)) c.if-stops.false)) (c.now-reading.ensures.engine ∙ c.asked-stops.ensures.engine))
+    (c.now-reading.ensures.clock ∙ ap (λ (k : Clock). read_at (length (g.H.Hand.log c.asked-stops.new.self)) k c.now-reading.result) (c.asked-stops.ensures.clock ∙ ap (after_asked (g.H.Hand.clock c.args.hand.now)) c.if-stops.false)
+    ∙ ap (λ (l : List Exchange). read_at (length l) (after_asked (g.H.Hand.clock c.args.hand.now) false) c.now-reading.result) c.asked-stops.ensures.log) (c.now-reading.ensures.engine ∙ c.asked-stops.ensures.engine))
 
 pub returns-else-is_late : goal.returns-else-is_late
 returns-else-is_late g c =
@@ -31,9 +33,10 @@ returns-else-is_late g c =
     (telling (g.H.Hand.log c.args.hand.now) (g.H.Hand.heard c.args.hand.now) (g.H.Hand.faults c.args.hand.now) (g.H.Hand.clock c.args.hand.now) (g.H.Hand.engine c.args.hand.now))
     (telling (g.H.Hand.log c.now-reading.new.self) (g.H.Hand.heard c.now-reading.new.self) (g.H.Hand.faults c.now-reading.new.self) (g.H.Hand.clock c.now-reading.new.self) (g.H.Hand.engine c.now-reading.new.self))
     c.in-Some.is (lt-leb c.in-Some.deadline c.now-reading.result c.if-is_late.false)
-    (told_again (g.H.Hand.log c.args.hand.now) (g.H.Hand.log c.now-reading.new.self) (g.H.Hand.heard c.args.hand.now) (g.H.Hand.heard c.now-reading.new.self) (g.H.Hand.faults c.args.hand.now) (g.H.Hand.faults c.now-reading.new.self) (after_now (after_asked (g.H.Hand.clock c.args.hand.now) false) c.now-reading.result) (g.H.Hand.clock c.now-reading.new.self) (g.H.Hand.engine c.args.hand.now) (g.H.Hand.engine c.now-reading.new.self)
+    (told_again (g.H.Hand.log c.args.hand.now) (g.H.Hand.log c.now-reading.new.self) (g.H.Hand.heard c.args.hand.now) (g.H.Hand.heard c.now-reading.new.self) (g.H.Hand.faults c.args.hand.now) (g.H.Hand.faults c.now-reading.new.self) (read_at (length (g.H.Hand.log c.args.hand.now)) (after_asked (g.H.Hand.clock c.args.hand.now) false) c.now-reading.result) (g.H.Hand.clock c.now-reading.new.self) (g.H.Hand.engine c.args.hand.now) (g.H.Hand.engine c.now-reading.new.self)
     (c.now-reading.ensures.log ∙ c.asked-stops.ensures.log) (c.now-reading.ensures.heard ∙ c.asked-stops.ensures.heard) (c.now-reading.ensures.faults ∙ c.asked-stops.ensures.faults)
-    (c.now-reading.ensures.clock ∙ ap (λ (k : Clock). after_now k c.now-reading.result) (c.asked-stops.ensures.clock ∙ ap (after_asked (g.H.Hand.clock c.args.hand.now)) c.if-stops.false)) (c.now-reading.ensures.engine ∙ c.asked-stops.ensures.engine))
+    (c.now-reading.ensures.clock ∙ ap (λ (k : Clock). read_at (length (g.H.Hand.log c.asked-stops.new.self)) k c.now-reading.result) (c.asked-stops.ensures.clock ∙ ap (after_asked (g.H.Hand.clock c.args.hand.now)) c.if-stops.false)
+    ∙ ap (λ (l : List Exchange). read_at (length l) (after_asked (g.H.Hand.clock c.args.hand.now) false) c.now-reading.result) c.asked-stops.ensures.log) (c.now-reading.ensures.engine ∙ c.asked-stops.ensures.engine))
 
 pub returns-in_default : goal.returns-in_default
 returns-in_default g c =

@@ -41,6 +41,7 @@ loop-path-preserved g c =
           (laid_on told env path (drop (l.path-index + 1) paths) l.found l.tree l.left tree rest r given k));
       counted = omega (arith, l.invariant.counted, c.in_ok-laid.ensures.counted);
       kept = c.in_ok-laid.ensures.kept ∙ l.invariant.kept;
+      reads = λ well. c.in_ok-laid.ensures.reads (l.invariant.reads well);
     }
 
 pub returns-clause-given : goal.returns-clause-given
@@ -48,3 +49,8 @@ returns-clause-given g c =
     let told = g.F.Files.told c.args.files.now in
     let l = c.loop-path in
     λ n. l.invariant.ran (Ok (l.tree, l.left)) (subst (λ (ps : List (List ℕ)). Ran told (files_laid c.args.env.now ps l.found l.tree l.left) (Ok (l.tree, l.left))) (sym (none_left c.args.paths.now l.path-index (omega arith))) refl)
+
+pub returns-in_err-laid-clause-reads : goal.returns-in_err-laid-clause-reads
+returns-in_err-laid-clause-reads g c =
+    let p = err_from_is_err_and c.from_residual.result c.from_residual.ensures.1 in
+    rw (p.1, p.2) (λ well. c.in_err-laid.ensures.reads (c.loop-path.invariant.reads well))

@@ -38,6 +38,7 @@ loop-path-preserved g c =
           (files_on told c.args.caller.now path (drop (l.path-index + 1) paths) l.values l.left values rest r given k));
       counted = omega (arith, l.invariant.counted, c.in_ok-more.ensures.counted);
       kept = c.in_ok-more.ensures.kept ∙ l.invariant.kept;
+      reads = λ well. c.in_ok-more.ensures.reads (l.invariant.reads well);
     }
 
 pub returns-clause-given : goal.returns-clause-given
@@ -45,3 +46,8 @@ returns-clause-given g c =
     let told = g.F.Files.told c.args.files.now in
     let l = c.loop-path in
     λ n. l.invariant.ran (Ok (l.values, l.left)) (subst (λ (ps : List (List ℕ)). Ran told (env_files c.args.caller.now ps l.values l.left) (Ok (l.values, l.left))) (sym (none_left c.args.paths.now l.path-index (omega arith))) refl)
+
+pub returns-in_err-more-clause-reads : goal.returns-in_err-more-clause-reads
+returns-in_err-more-clause-reads g c =
+    let p = err_from_is_err_and c.from_residual.result c.from_residual.ensures.1 in
+    rw (p.1, p.2) (λ well. c.in_err-more.ensures.reads (c.loop-path.invariant.reads well))

@@ -1,6 +1,6 @@
 use Rattle.std.specs.Prelude.{length}
 use Rattle.ledger_run.specs.Tellings.{telling}
-use Rattle.parallel_run.proofs.Each.{causes, each_same, logs, times}
+use Rattle.parallel_run.proofs.Each.{causes, each_same, firsts, logs, times}
 use Rattle.parallel_run.proofs.Ends.{ends_exact, ends_gone}
 use Rattle.parallel_run.specs.Together.{first_reading, limits_by}
 use Rattle.outside_api.specs.Accounts.{account}
@@ -26,6 +26,10 @@ returns-in-Ok-clause-cause g c = causes (λ h. telling (g.H.Hand.log h) (g.H.Han
 pub returns-in-Ok-clause-timed : goal.returns-in-Ok-clause-timed
 returns-in-Ok-clause-timed g c = if_any c.run.result.ran.journal
     (times (λ h. telling (g.H.Hand.log h) (g.H.Hand.heard h) (g.H.Hand.faults h) (g.H.Hand.clock h) (g.H.Hand.engine h)) (task_of c.args.declared c.args.aim (limits_by (length c.args.hands) c.args.options (first_reading (λ h. g.H.Hand.clock h) c.run.result.hands))) c.run.result.ran.journal c.args.hands c.run.result.hands c.run.ensures.leaves.hands)
+
+pub returns-in-Ok-clause-read_first : goal.returns-in-Ok-clause-read_first
+returns-in-Ok-clause-read_first g c = if_any c.run.result.ran.journal
+    (firsts (λ h. telling (g.H.Hand.log h) (g.H.Hand.heard h) (g.H.Hand.faults h) (g.H.Hand.clock h) (g.H.Hand.engine h)) (task_of c.args.declared c.args.aim (limits_by (length c.args.hands) c.args.options (first_reading (λ h. g.H.Hand.clock h) c.run.result.hands))) c.run.result.ran.journal c.args.hands c.run.result.hands c.run.ensures.leaves.hands)
 
 pub returns-in-Ok-clause-fault : goal.returns-in-Ok-clause-fault
 returns-in-Ok-clause-fault g c = if_any c.run.result.ran.journal c.run.ensures.fault

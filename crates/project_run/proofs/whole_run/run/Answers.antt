@@ -1,4 +1,4 @@
-use Rattle.std.proofs.Common.{◌≡◌, ◌∙◌, List, Option, refl, sym, subst}
+use Rattle.std.proofs.Common.{◌≡◌, ◌∙◌, List, Option, length, refl, sym, subst}
 use Rattle.engine_types.specs.declared.Entry.{Entry}
 use Rattle.engine_types.specs.declared.RunFault.{RunFault}
 use Rattle.ledger_run.specs.Tellings.{Telling, telling}
@@ -23,7 +23,7 @@ carry_out-requires-clause-may g c =
 
 pub carry_out-requires-clause-clock : goal.carry_out-requires-clause-clock
 carry_out-requires-clause-clock g c =
-    has_room c.args.options.wait_seconds (g.H.Hand.clock c.limits_for-limits.new.hand).first (g.H.Hand.clock c.open.new.hand) (c.in-Planned.ensures.timed ∙ c.limits_for-limits.ensures.clock)
+    has_room c.args.options.wait_seconds (length (g.H.Hand.log c.args.hand.now)) (g.H.Hand.clock c.limits_for-limits.new.hand).first (g.H.Hand.clock c.open.new.hand) (c.in-Planned.ensures.timed ∙ c.limits_for-limits.ensures.clock)
 
 pub returns-in-Planned-clause-leaves : goal.returns-in-Planned-clause-leaves
 returns-in-Planned-clause-leaves g c =

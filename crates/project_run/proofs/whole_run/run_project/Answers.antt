@@ -13,6 +13,9 @@ returns-in-Ok-clause-kept g c =
 pub returns-in-Ok-clause-left : goal.returns-in-Ok-clause-left
 returns-in-Ok-clause-left g c = if_any c.run.result.journal c.run.ensures.leaves.left
 
+pub returns-in-Ok-clause-read_first : goal.returns-in-Ok-clause-read_first
+returns-in-Ok-clause-read_first g c = if_any c.run.result.journal c.run.ensures.leaves.read_first
+
 pub returns-in-Ok-clause-world : goal.returns-in-Ok-clause-world
 returns-in-Ok-clause-world g c = if_any c.run.result.journal
     (goes_through c.args.declared c.args.aim (limits_by c.args.options (g.H.Hand.clock c.run.new.hand)) c.run.result.journal refl c.requires.whole c.run.ensures.leaves.run (g.H.Hand.engine c.args.hand.now) (g.H.Hand.engine c.run.new.hand) c.run.ensures.leaves.told)

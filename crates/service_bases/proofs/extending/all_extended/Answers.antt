@@ -41,6 +41,7 @@ loop-name-preserved g c =
           (service_on told a.env.now a.source.now name (drop (l.name-index + 1) names) l.services l.left service c.put_service.new.services rest r given c.in_ok-put_service.ensures k));
       counted = omega (arith, l.invariant.counted, c.in_ok-service.ensures.counted);
       kept = c.in_ok-service.ensures.kept ∙ l.invariant.kept;
+      reads = λ well. c.in_ok-service.ensures.reads (l.invariant.reads well);
     }
 
 pub returns-clause-given : goal.returns-clause-given
@@ -49,3 +50,8 @@ returns-clause-given g c =
     let told = g.F.Files.told a.files.now in
     let l = c.loop-name in
     λ n. l.invariant.ran (Ok (l.services, l.left)) (subst (λ (ns : List (List ℕ)). Ran told (all_extended a.env.now a.source.now ns l.services l.left) (Ok (l.services, l.left))) (sym (none_left a.names.now l.name-index (omega arith))) refl)
+
+pub returns-in_err-service-clause-reads : goal.returns-in_err-service-clause-reads
+returns-in_err-service-clause-reads g c =
+    let p = err_from_is_err_and c.from_residual.result c.from_residual.ensures.1 in
+    rw (p.1, p.2) (λ well. c.in_err-service.ensures.reads (c.loop-name.invariant.reads well))

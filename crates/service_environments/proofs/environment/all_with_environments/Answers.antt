@@ -48,6 +48,7 @@ loop-name-preserved g c =
           (service_on told a.env.now name (drop (l.name-index + 1) names) l.services l.left whole c.put_service.new.services rest r given put k));
       counted = omega (arith, l.invariant.counted, c.in_ok-whole.ensures.counted);
       kept = c.in_ok-whole.ensures.kept ∙ l.invariant.kept;
+      reads = λ well. c.in_ok-whole.ensures.reads (l.invariant.reads well);
     }
 
 pub returns-clause-given : goal.returns-clause-given
@@ -56,3 +57,8 @@ returns-clause-given g c =
     let told = g.F.Files.told a.files.now in
     let l = c.loop-name in
     λ n. l.invariant.ran (Ok (l.services, l.left)) (subst (λ (ns : List (List ℕ)). Ran told (all_with_environments a.env.now ns l.services l.left) (Ok (l.services, l.left))) (sym (none_left a.names.now l.name-index (omega arith))) refl)
+
+pub returns-in_err-whole-clause-reads : goal.returns-in_err-whole-clause-reads
+returns-in_err-whole-clause-reads g c =
+    let p = err_from_is_err_and c.from_residual-in_err-whole.result c.from_residual-in_err-whole.ensures.1 in
+    rw (p.1, p.2) (λ well. c.in_err-whole.ensures.reads (c.loop-name.invariant.reads well))

@@ -39,6 +39,7 @@ loop-item-preserved g c =
           (file_on told c.args.env.now item (drop (l.item-index + 1) items) l.values l.left values rest r given k));
       counted = omega (arith, l.invariant.counted, c.in_ok-more.ensures.counted);
       kept = c.in_ok-more.ensures.kept ∙ l.invariant.kept;
+      reads = λ well. c.in_ok-more.ensures.reads (l.invariant.reads well);
     }
 
 pub returns-clause-given : goal.returns-clause-given
@@ -46,3 +47,8 @@ returns-clause-given g c =
     let told = g.F.Files.told c.args.files.now in
     let l = c.loop-item in
     λ n. l.invariant.ran (Ok (l.values, l.left)) (subst (λ (ps : List EnvItem). Ran told (files_read c.args.env.now ps l.values l.left) (Ok (l.values, l.left))) (sym (none_left c.args.items.now l.item-index (omega arith))) refl)
+
+pub returns-in_err-more-clause-reads : goal.returns-in_err-more-clause-reads
+returns-in_err-more-clause-reads g c =
+    let p = err_from_is_err_and c.from_residual.result c.from_residual.ensures.1 in
+    rw (p.1, p.2) (λ well. c.in_err-more.ensures.reads (c.loop-item.invariant.reads well))

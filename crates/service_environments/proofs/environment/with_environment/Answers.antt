@@ -13,3 +13,8 @@ returns-clause-given g c =
     let a = c.args in
     values_there (g.F.Files.told a.files.now) a.env.now a.service a.left c.in_ok-values.values c.in_ok-values.left c.in_ok-with_all_values.field-0
     (rw (c.as_slice.ensures, c.in_ok-items.ensures) at c.in_ok-values.ensures.given) c.in_ok-with_all_values.ensures
+
+pub returns-in_err-values-clause-reads : goal.returns-in_err-values-clause-reads
+returns-in_err-values-clause-reads g c =
+    let p = err_from_is_err_and c.from_residual-in_err-values.result c.from_residual-in_err-values.ensures.1 in
+    rw (p.1, p.2) c.in_err-values.ensures.reads

@@ -1,9 +1,10 @@
 -- The wire's past grows by what was said in the exchange, which is what was heard.
-use Rattle.std.proofs.Common.{◌∷◌, ◌++◌, [], List, Bool, ap, ◌∙◌}
+use Rattle.std.proofs.Common.{ℕ, ◌∷◌, ◌++◌, [], List, Bool, Option, ap, ◌∙◌}
 use Rattle.engine_types.specs.declared.Exchange.{Exchange}
 use Rattle.engine_bodies.specs.Requests.{bytes_of}
 use Rattle.http_hand.proofs.Closing.{speaks_kept}
 use Rattle.http_hand.proofs.Hearing.{caused_after, dialled_after, heard_after, told_after}
+use Rattle.http_hand.specs.HttpHands.{at_place}
 use Rattle.http_hand.proofs.http_hand.HttpHandHand.exchange.Goals as goal
 
 pub invariant_of-self : goal.invariant_of-self
@@ -35,6 +36,11 @@ returns-clause-cause g c =
     (g.W.Wire.past c.args.self.now.wire) (g.W.Wire.past c.speak-outcome.new.wire) (g.W.Wire.dialled c.args.self.now.wire) (g.W.Wire.dialled c.speak-outcome.new.wire)
     (g.W.Wire.faults c.args.self.now.wire) (g.W.Wire.faults c.speak-outcome.new.wire)
     (rw c.has_room.ensures.wire at c.speak-outcome.ensures.speaks) c.args.self.now.told put c.twice-outcome.ensures.kept
+
+pub returns-clause-clock : goal.returns-clause-clock
+returns-clause-clock g c =
+    ap (at_place c.has_room.new.self.place) (c.speak-outcome.ensures.clock ∙ ap (λ (wire : _). g.W.Wire.clock wire) c.has_room.ensures.wire)
+    ∙ ap (λ (place : Option ℕ). at_place place (g.W.Wire.clock c.args.self.now.wire)) c.has_room.ensures.place
 
 pub returns-clause-speaks : goal.returns-clause-speaks
 returns-clause-speaks g c = λ _. (
