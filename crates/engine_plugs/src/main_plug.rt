@@ -191,5 +191,3 @@ fn socket_hand<'r>(
     let path = path.copy(alloc)?;
     Ok(HttpHand::new(alloc, SocketWire::new(rt, path, stop_file)))
 }
-
-}
