@@ -25,7 +25,7 @@ shown_options =
     ∷ shown (codes "PATH") (codes "resolve relative paths against this directory")
     ∷ shown (codes "NAME") (codes "enable the services of this profile")
     ∷ shown (codes "PATH") (codes "take variables from this file")
-    ∷ shown (codes "N") (codes "use N workers, 1 to 16, or -1 for 16; so far one is used")
+    ∷ shown (codes "N") (codes "use N workers, 1 to 16, or -1 for 16; 4 by default")
     ∷ shown (codes "PATH") (codes "reach the Engine at this socket")
     ∷ shown (codes "") (codes "use an Engine in memory, which is empty at first")
     ∷ shown (codes "PATH") (codes "stop once there is a file at this path")

@@ -157,7 +157,7 @@ static OPTIONS: [OptionLine; 19] = option_lines! {
     "--project-directory" - ProjectDirectory: once ValueKind::Text, for EVERY; "PATH" "resolve relative paths against this directory"
     "--profile" - Profile: many ValueKind::Text, for EVERY; "NAME" "enable the services of this profile"
     "--env-file" - EnvFile: many ValueKind::Text, for EVERY; "PATH" "take variables from this file"
-    "--parallel" - Parallel: once ValueKind::Workers, for EVERY; "N" "use N workers, 1 to 16, or -1 for 16; so far one is used"
+    "--parallel" - Parallel: once ValueKind::Workers, for EVERY; "N" "use N workers, 1 to 16, or -1 for 16; 4 by default"
     "--socket" - Socket: once ValueKind::Text, for EVERY; "PATH" "reach the Engine at this socket"
     "--memory" - Memory: many ValueKind::Flag, for EVERY; "" "use an Engine in memory, which is empty at first"
     "--stop-file" - StopFile: once ValueKind::Text, for EVERY; "PATH" "stop once there is a file at this path"
