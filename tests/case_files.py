@@ -50,6 +50,8 @@ FORMS = {
     "removed": is_text,
     "variables": is_named_texts,
     "call": is_words,
+    "workers": is_text,
+    "any_order": is_text,
     "input": is_built,
     "engine": is_list,
     "status": is_number,
