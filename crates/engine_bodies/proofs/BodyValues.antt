@@ -1,5 +1,5 @@
 -- The value of each body has no float and nests five levels deep at most.
-use Rattle.std.proofs.Common.{◌≡◌, ◌≤◌, ◌∙◌, ℕ, suc, false, List, Option, Some, sym, ap, subst, arith}
+use Rattle.std.proofs.Common.{◌≡◌, ◌≤◌, ◌∙◌, ℕ, suc, true, false, List, Option, Some, sym, ap, subst, arith}
 use Rattle.std.specs.Option.{option_map}
 use Rattle.serde_json.specs.Data.{Data, depth}
 use Rattle.serde_json.specs.Read.{max_depth, read}
@@ -210,18 +210,21 @@ network_plain spec =
     object_plain 4 (network_members spec) (
       may (boolean_plain 4) spec.attachable,
       (
-        may (string_plain 4) spec.driver,
+        boolean_plain 4 true,
         (
-          may (boolean_plain 4) spec.enable_ipv6,
+          may (string_plain 4) spec.driver,
           (
-            may (boolean_plain 4) spec.internal,
+            may (boolean_plain 4) spec.enable_ipv6,
             (
-              pairs_plain 3 spec.labels,
+              may (boolean_plain 4) spec.internal,
               (
-                string_plain 4 spec.name,
+                pairs_plain 3 spec.labels,
                 (
-                  may (pairs_plain 3) spec.options,
-                  tt,
+                  string_plain 4 spec.name,
+                  (
+                    may (pairs_plain 3) spec.options,
+                    tt,
+                  ),
                 ),
               ),
             ),

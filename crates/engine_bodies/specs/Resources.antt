@@ -1,5 +1,5 @@
 -- Networks and volumes as bodies of the Docker Engine API v1.43, member by member.
-use Rattle.std.specs.Prelude.{ℕ, List, [], ◌∷◌, Some, codes}
+use Rattle.std.specs.Prelude.{ℕ, true, List, [], ◌∷◌, Some, codes}
 use Rattle.std.specs.Option.{option_map}
 use Rattle.serde_json.specs.Data.{Data, boolean, string}
 use Rattle.engine_types.specs.declared.NetworkSpec.{NetworkSpec}
@@ -7,10 +7,11 @@ use Rattle.engine_types.specs.declared.VolumeSpec.{VolumeSpec}
 use Rattle.engine_bodies.specs.Containers.{endpoint_value}
 use Rattle.engine_bodies.specs.Json.{Member, object_of, pairs}
 
--- a network, member by member
+-- a network, member by member; a second one of its name is to be refused
 abbrev pub network_members : NetworkSpec → List Member
 network_members spec =
     (codes "Attachable", option_map boolean spec.attachable)
+    ∷ (codes "CheckDuplicate", Some (boolean true))
     ∷ (codes "Driver", option_map string spec.driver)
     ∷ (codes "EnableIPv6", option_map boolean spec.enable_ipv6)
     ∷ (codes "Internal", option_map boolean spec.internal)

@@ -9,12 +9,14 @@ use serde_json::Value;
 use std::alloc::Global;
 use tree_base::{List, Memory, Text};
 
-/// The body of `POST /networks/create` as a value of JSON.
+/// The body of `POST /networks/create` as a value of JSON. It asks older Engines to refuse a second network of one name;
+/// newer ones always do.
 pub(crate) fn network_json(alloc: Global, spec: &NetworkSpec) -> Result<Value, Memory>
     ensures { IfOk result (λ value. view value ≡ network_value spec.now) }
 {
     let mut network = Object::new(alloc);
     network.option("Attachable", &spec.attachable);
+    network.value("CheckDuplicate", &true);
     network.option("Driver", &spec.driver);
     network.option("EnableIPv6", &spec.enable_ipv6);
     network.option("Internal", &spec.internal);

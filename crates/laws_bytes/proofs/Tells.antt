@@ -169,12 +169,12 @@ containers a b p q e =
 pub networks : BodiesTellNetworks
 networks a b pl ql po qo e =
     let attachable : a.attachable ≡ b.attachable = option_same boolean boolean_same a.attachable b.attachable (same_at (network_members a) (network_members b) refl refl e 0 (lit< tt) (lit< tt) refl) in
-    let driver : a.driver ≡ b.driver = option_same string string_same a.driver b.driver (same_at (network_members a) (network_members b) refl refl e 1 (lit< tt) (lit< tt) refl) in
-    let enable_ipv6 : a.enable_ipv6 ≡ b.enable_ipv6 = option_same boolean boolean_same a.enable_ipv6 b.enable_ipv6 (same_at (network_members a) (network_members b) refl refl e 2 (lit< tt) (lit< tt) refl) in
-    let internal : a.internal ≡ b.internal = option_same boolean boolean_same a.internal b.internal (same_at (network_members a) (network_members b) refl refl e 3 (lit< tt) (lit< tt) refl) in
-    let labels : a.labels ≡ b.labels = pairs_same a.labels b.labels pl ql (some_same (pairs a.labels) (pairs b.labels) (same_at (network_members a) (network_members b) refl refl e 4 (lit< tt) (lit< tt) refl)) in
-    let name : a.name ≡ b.name = string_same a.name b.name (some_same (string a.name) (string b.name) (same_at (network_members a) (network_members b) refl refl e 5 (lit< tt) (lit< tt) refl)) in
-    let options : a.options ≡ b.options = option_same_if PairsInOrder pairs pairs_same a.options b.options po qo (same_at (network_members a) (network_members b) refl refl e 6 (lit< tt) (lit< tt) refl) in
+    let driver : a.driver ≡ b.driver = option_same string string_same a.driver b.driver (same_at (network_members a) (network_members b) refl refl e 2 (lit< tt) (lit< tt) refl) in
+    let enable_ipv6 : a.enable_ipv6 ≡ b.enable_ipv6 = option_same boolean boolean_same a.enable_ipv6 b.enable_ipv6 (same_at (network_members a) (network_members b) refl refl e 3 (lit< tt) (lit< tt) refl) in
+    let internal : a.internal ≡ b.internal = option_same boolean boolean_same a.internal b.internal (same_at (network_members a) (network_members b) refl refl e 4 (lit< tt) (lit< tt) refl) in
+    let labels : a.labels ≡ b.labels = pairs_same a.labels b.labels pl ql (some_same (pairs a.labels) (pairs b.labels) (same_at (network_members a) (network_members b) refl refl e 5 (lit< tt) (lit< tt) refl)) in
+    let name : a.name ≡ b.name = string_same a.name b.name (some_same (string a.name) (string b.name) (same_at (network_members a) (network_members b) refl refl e 6 (lit< tt) (lit< tt) refl)) in
+    let options : a.options ≡ b.options = option_same_if PairsInOrder pairs pairs_same a.options b.options po qo (same_at (network_members a) (network_members b) refl refl e 7 (lit< tt) (lit< tt) refl) in
     (λ i. record { attachable = attachable i; driver = driver i; enable_ipv6 = enable_ipv6 i; internal = internal i; labels = labels i; name = name i; options = options i; external = false })
 
 pub volumes : BodiesTellVolumes
