@@ -1,5 +1,5 @@
 -- How reads went, after one more.
-use Rattle.std.proofs.Common.{◌≡◌, ◌∙◌, ℕ, List, [], ◌∷◌, ◌++◌, true, false, ap, inl, inr, refl}
+use Rattle.std.proofs.Common.{◌≡◌, ◌∙◌, ℕ, List, [], ◌∷◌, ◌++◌, false, ap, inl, inr, refl}
 use Rattle.outside_files.specs.Reads.{AddsRead, FailedAt, Went, Well, answered_as, is_failed, read_of, went, went_after, went_from, with_read}
 use Rattle.outside_files.specs.declared.file_read.FileRead.{FileRead}
 use Rattle.outside_files.specs.declared.files.FileAnswer.{FileAnswer}
