@@ -1,5 +1,5 @@
 -- Which hands a call asks its plug for.
-use Rattle.std.specs.Prelude.{◌≡◌, ◌⊎◌, ℕ, ◌+◌, List, [], ◌∷◌, ◌++◌, Option, Some, Result, Ok, length}
+use Rattle.std.specs.Prelude.{◌≡◌, ◌⊎◌, ◌≤◌, ℕ, ◌+◌, List, [], ◌∷◌, ◌++◌, Option, Some, Result, Ok, length}
 use Rattle.asked_project.specs.Asking.{Variables, options_asked}
 use Rattle.asked_target.specs.Targets.{asked_stop_file, asked_target}
 use Rattle.compose_cli.specs.Ends.{failed_dial}
@@ -37,10 +37,10 @@ MadeHands dials hands refusal =
     ((dials ≡ hands) × (refusal ≡ failed_dial → ⊥))
     ⊎ ((dials ≡ hands + 1) × ((refusal ≡ failed_dial) ⊎ (refusal ≡ Some Refusal.Memory)))
 
--- a plug was asked for the hands of some workers from 0 on, in order, by dials of which this holds: for each of these hands, and for
--- no other but one that wasn't made, since the plug failed or memory was wanted
+-- a plug was asked for the hands of so many workers at most, from 0 on and in order, by dials of which this holds: for each of these
+-- hands, and for no other but one that wasn't made, since the plug failed or memory was wanted
 abbrev pub Dials :
-    (ℕ → Dial → Type 0) → List Dial → List Dial → ℕ → Option Refusal → Type 0
-Dials Fact old new hands refusal =
+    (ℕ → Dial → Type 0) → ℕ → List Dial → List Dial → ℕ → Option Refusal → Type 0
+Dials Fact workers old new hands refusal =
     (dials : List Dial) × (new ≡ old ++ dials) × AreDials Fact 0 dials
-    × MadeHands (length dials) hands refusal
+    × (length dials ≤ workers) × MadeHands (length dials) hands refusal

@@ -50,7 +50,7 @@ pub(crate) fn run_declared<P: Plug, O: Sink, G: Sink>(
     requires needs { NeedsDependencies declared }
     requires own { HasOwnSpecs declared }
     ensures origin { IsOfLoading result.refusal → ⊥ }
-    ensures dials { Dials (IsDialAt place) (P.dials plug.old) (P.dials plug.new)
+    ensures dials { Dials (IsDialAt place) 1 (P.dials plug.old) (P.dials plug.new)
         (length result.hands) result.refusal }
     ensures dial { result.refusal ≡ Some (Refusal.Outside Part.Plug)
         → SendsNothing result × Rose (P.faults plug.old) (P.faults plug.new) }

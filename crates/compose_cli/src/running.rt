@@ -73,7 +73,7 @@ pub(crate) fn run_asked<F: Files, P: Plug, O: Sink, G: Sink>(
     ensures nothing_sent { IsOfLoading result.refusal → SendsNothing result }
     ensures quiet_loading { IsOfLoading result.refusal → O.written out.new ≡ O.written out.old }
 
-    ensures dials { Dials (IsDialFor asked.options env.now cwd.now) (P.dials plug.old)
+    ensures dials { Dials (IsDialFor asked.options env.now cwd.now) 1 (P.dials plug.old)
         (P.dials plug.new) (length result.hands) result.refusal }
     ensures dial { result.refusal ≡ Some (Refusal.Outside Part.Plug)
         → SendsNothing result × Rose (P.faults plug.old) (P.faults plug.new) }

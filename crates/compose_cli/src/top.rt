@@ -75,9 +75,9 @@ pub fn serial_main<F: Files, P: Plug, O: Sink, G: Sink>(
     ensures dial { result.refusal ≡ failed_dial
         → SendsNothing result × Rose (P.faults plug.old) (P.faults plug.new) }
 
-    // Its dials are those that words and variables ask for: of their Engine, with their stop file, one for each worker's number from
-    // 0 on.
-    ensures dials { Dials (IsDialAsked words.now env.now cwd.now) (P.dials plug.old)
+    // Its one dial, if it comes to any, is the one that words and variables ask for: of their Engine, with their stop file, and for
+    // worker 0.
+    ensures dials { Dials (IsDialAsked words.now env.now cwd.now) 1 (P.dials plug.old)
         (P.dials plug.new) (length result.hands) result.refusal }
 
     // Every hand that was made is handed back; the status is that of the refusal, whose line is written to `err`.

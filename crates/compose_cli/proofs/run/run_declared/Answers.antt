@@ -12,26 +12,26 @@ returns-in-Dialled-clause-ran g c = if_begun c.run_with.result.journal c.run_wit
 pub returns-in-Dialled-clause-dials : goal.returns-in-Dialled-clause-dials
 returns-in-Dialled-clause-dials g c =
     let here = c.in-Ok.place in
-    dialled (IsDialAt c.args.place) (g.P.Plug.dials c.args.plug.now) c.run_with.result.hands c.run_with.result.refusal (g.P.Plug.dials c.dial.new.self) (dial_of here.target (option_copied c.as_ref.result) 0)
-    (dial_at c.args.place here (option_copied c.as_ref.result) 0 c.in-Ok.is c.as_ref.ensures.value)
+    dialled (IsDialAt c.args.place) (g.P.Plug.dials c.args.plug.now) (g.P.Plug.dials c.dial.new.self) (dial_of here.target (option_copied c.as_ref.result) 0)
+    (dial_at c.args.place here (option_copied c.as_ref.result) 0 c.in-Ok.is c.as_ref.ensures.value) c.run_with.result.hands c.run_with.result.refusal
     c.in-Dialled.ensures.dials c.run_with.ensures.hands (of_run c.run_with.result.refusal c.run_with.ensures.origin)
 
 pub returns-in-Failed-clause-dials : goal.returns-in-Failed-clause-dials
 returns-in-Failed-clause-dials g c =
     let here = c.in-Ok.place in
-    unanswered (IsDialAt c.args.place) (g.P.Plug.dials c.args.plug.now) c.refused.result.hands c.refused.result.refusal (g.P.Plug.dials c.dial.new.self) (dial_of here.target (option_copied c.as_ref.result) 0)
-    (dial_at c.args.place here (option_copied c.as_ref.result) 0 c.in-Ok.is c.as_ref.ensures.value)
+    unanswered (IsDialAt c.args.place) (g.P.Plug.dials c.args.plug.now) (g.P.Plug.dials c.dial.new.self) (dial_of here.target (option_copied c.as_ref.result) 0)
+    (dial_at c.args.place here (option_copied c.as_ref.result) 0 c.in-Ok.is c.as_ref.ensures.value) c.refused.result.hands c.refused.result.refusal
     c.in-Failed.ensures.dials c.refused.ensures.nothing.0 c.refused.ensures.refusal
 
 pub returns-in-Memory-clause-dials : goal.returns-in-Memory-clause-dials
 returns-in-Memory-clause-dials g c =
     let here = c.in-Ok.place in
-    unmoved (IsDialAt c.args.place) (g.P.Plug.dials c.args.plug.now) c.refused.result.hands c.refused.result.refusal (g.P.Plug.dials c.dial.new.self) (dial_of here.target (option_copied c.as_ref.result) 0)
-    (dial_at c.args.place here (option_copied c.as_ref.result) 0 c.in-Ok.is c.as_ref.ensures.value)
+    unmoved (IsDialAt c.args.place) (g.P.Plug.dials c.args.plug.now) (g.P.Plug.dials c.dial.new.self) (dial_of here.target (option_copied c.as_ref.result) 0)
+    (dial_at c.args.place here (option_copied c.as_ref.result) 0 c.in-Ok.is c.as_ref.ensures.value) c.refused.result.hands c.refused.result.refusal
     c.in-Memory.ensures.dials c.refused.ensures.nothing.0 c.refused.ensures.refusal
 
 pub returns-in_default-clause-dials : goal.returns-in_default-clause-dials
-returns-in_default-clause-dials g c = unplaced (IsDialAt c.args.place) (g.P.Plug.dials c.args.plug.now) c.refused.result.hands c.refused.result.refusal c.refused.ensures.nothing.0 c.refused.ensures.refusal
+returns-in_default-clause-dials g c = unplaced (IsDialAt c.args.place) 1 (g.P.Plug.dials c.args.plug.now) c.refused.result.hands c.refused.result.refusal c.refused.ensures.nothing.0 c.refused.ensures.refusal
 
 pub returns-in_default-with_capacity-clause-dials : goal.returns-in_default-with_capacity-clause-dials
-returns-in_default-with_capacity-clause-dials g c = unplaced (IsDialAt c.args.place) (g.P.Plug.dials c.args.plug.now) c.refused.result.hands c.refused.result.refusal c.refused.ensures.nothing.0 c.refused.ensures.refusal
+returns-in_default-with_capacity-clause-dials g c = unplaced (IsDialAt c.args.place) 1 (g.P.Plug.dials c.args.plug.now) c.refused.result.hands c.refused.result.refusal c.refused.ensures.nothing.0 c.refused.ensures.refusal

@@ -45,11 +45,11 @@ returns-in-Ok-clause-ran g c = if_begun c.run_declared.result.journal c.run_decl
     c.options_for-options.ensures c.in-Ok.ensures.told c.in-Ok.ensures.declared ran)
 
 pub returns-in-Ok-clause-dials : goal.returns-in-Ok-clause-dials
-returns-in-Ok-clause-dials g c = dials_by (IsDialAt c.place_asked-place.result) (IsDialFor c.args.asked.options c.args.env.now c.args.cwd.now) (g.P.Plug.dials c.args.plug.now) (g.P.Plug.dials c.run_declared.new.plug) (length c.run_declared.result.hands) c.run_declared.result.refusal
+returns-in-Ok-clause-dials g c = dials_by (IsDialAt c.place_asked-place.result) (IsDialFor c.args.asked.options c.args.env.now c.args.cwd.now) 1 (g.P.Plug.dials c.args.plug.now) (g.P.Plug.dials c.run_declared.new.plug) (length c.run_declared.result.hands) c.run_declared.result.refusal
     (dial_for c.args.asked.options c.args.env.now c.args.cwd.now c.place_asked-place.result c.place_asked-place.ensures.target c.place_asked-place.ensures.stop_file) c.run_declared.ensures.dials
 
 pub returns-in-Err-clause-dials : goal.returns-in-Err-clause-dials
-returns-in-Err-clause-dials g c = undialled (IsDialFor c.args.asked.options c.args.env.now c.args.cwd.now) (g.P.Plug.dials c.args.plug.now) c.refused.result.hands c.refused.result.refusal c.refused.ensures.nothing.0
+returns-in-Err-clause-dials g c = undialled (IsDialFor c.args.asked.options c.args.env.now c.args.cwd.now) 1 (g.P.Plug.dials c.args.plug.now) c.refused.result.hands c.refused.result.refusal c.refused.ensures.nothing.0
     (λ e. declaring_no_outside c.in-Err.refusal c.refused.result.refusal Part.Plug c.in-Err.ensures.kind c.refused.ensures.refusal e)
 
 pub returns-in-Err-clause-declaring : goal.returns-in-Err-clause-declaring

@@ -31,15 +31,15 @@ returns-in-Some-clause-ran g c = if_begun c.run_asked.result.journal c.run_asked
     c.project_asked.ensures.kept (command_is c.args.words.now c.args.env.now c.in-Ok.asked.options c.in-Ok.ensures.options) (aims c.in-Ok.asked.options.command c.aim_for.result c.in-Some.aim c.aim_for.ensures c.in-Some.is) c.in-Ok.ensures.told c.in-Ok.ensures.text ran)
 
 pub returns-in-Some-clause-dials : goal.returns-in-Some-clause-dials
-returns-in-Some-clause-dials g c = dials_by (IsDialFor c.in-Ok.asked.options c.args.env.now c.args.cwd.now) (IsDialAsked c.args.words.now c.args.env.now c.args.cwd.now) (g.P.Plug.dials c.args.plug.now) (g.P.Plug.dials c.run_asked.new.plug) (length c.run_asked.result.hands) c.run_asked.result.refusal
+returns-in-Some-clause-dials g c = dials_by (IsDialFor c.in-Ok.asked.options c.args.env.now c.args.cwd.now) (IsDialAsked c.args.words.now c.args.env.now c.args.cwd.now) 1 (g.P.Plug.dials c.args.plug.now) (g.P.Plug.dials c.run_asked.new.plug) (length c.run_asked.result.hands) c.run_asked.result.refusal
     (dial_asked c.args.words.now c.args.env.now c.args.cwd.now c.in-Ok.asked.options c.in-Ok.ensures.options) c.run_asked.ensures.dials
 
 pub returns-in-None-clause-dials : goal.returns-in-None-clause-dials
-returns-in-None-clause-dials g c = undialled (IsDialAsked c.args.words.now c.args.env.now c.args.cwd.now) (g.P.Plug.dials c.args.plug.now) c.print_page.result.hands c.print_page.result.refusal c.print_page.ensures.nothing.0
+returns-in-None-clause-dials g c = undialled (IsDialAsked c.args.words.now c.args.env.now c.args.cwd.now) 1 (g.P.Plug.dials c.args.plug.now) c.print_page.result.hands c.print_page.result.refusal c.print_page.ensures.nothing.0
     (λ e. page_no_plug (page_for c.in-Ok.asked.options.command c.in-Ok.asked.project) (g.O.Sink.written c.args.out.now) (g.O.Sink.written c.print_page.new.out) (g.O.Sink.faults c.args.out.now) (g.O.Sink.faults c.print_page.new.out) c.print_page.result.refusal c.print_page.ensures.printed e)
 
 pub returns-in-Err-clause-dials : goal.returns-in-Err-clause-dials
-returns-in-Err-clause-dials g c = undialled (IsDialAsked c.args.words.now c.args.env.now c.args.cwd.now) (g.P.Plug.dials c.args.plug.now) c.refused.result.hands c.refused.result.refusal c.refused.ensures.nothing.0
+returns-in-Err-clause-dials g c = undialled (IsDialAsked c.args.words.now c.args.env.now c.args.cwd.now) 1 (g.P.Plug.dials c.args.plug.now) c.refused.result.hands c.refused.result.refusal c.refused.ensures.nothing.0
     (λ e. asking_no_outside c.in-Err.refusal c.refused.result.refusal c.in-Err.ensures.kind c.refused.ensures.refusal Part.Plug e)
 
 pub returns-in-Some-clause-words : goal.returns-in-Some-clause-words
