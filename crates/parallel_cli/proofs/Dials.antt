@@ -1,11 +1,20 @@
 -- What is known of hands that are dialled one after another.
-use Rattle.std.proofs.Common.{◌≡◌, ◌⊎◌, ℕ, ◌+◌, ◌<◌, ◌≤◌, ◌^◌, List, [], ◌∷◌, ◌++◌, Some, None, length, inl, inr, refl, sym, ap, ◌∙◌, subst, arith}
+use Rattle.std.proofs.Common.{◌≡◌, ◌⊎◌, ℕ, ◌+◌, ◌<◌, ◌≤◌, ◌^◌, List, [], ◌∷◌, ◌++◌, Some, None, Err, append-nil, append_assoc, length, inl, inr, refl, sym, ap, ◌∙◌, subst, arith}
 use Rattle.std.proofs.lemmas.List.{length_push}
 use Rattle.std.specs.Option.{ForSome}
-use Rattle.std.specs.Prelude.{Option}
-use Rattle.compose_cli.specs.Ends.{CountsHands}
+use Rattle.std.specs.Prelude.{Option, Result}
+use Rattle.compose_cli.proofs.Dialled.{of_run}
+use Rattle.compose_cli.specs.Dialling.{AreDials, Dials, MadeHands}
+use Rattle.compose_cli.specs.Ends.{CountsHands, failed_dial}
 use Rattle.ledger_run.specs.Tellings.{Telling}
+use Rattle.outside_api.specs.declared.dial.Dial.{Dial}
+use Rattle.parallel_cli.specs.Dials.{AddsDialOf, refusal_of}
 use Rattle.parallel_cli.specs.Hands.{AreNew, IsNew}
+use Rattle.parallel_cli.specs.declared.dialling.DialFault.{DialFault}
+use Rattle.refusals.proofs.Said.{said}
+use Rattle.refusals.specs.Origins.{IsOfRun}
+use Rattle.refusals.specs.Saying.{IsSaid}
+use Rattle.refusals.specs.declared.Refusal.{Refusal}
 use Rattle.run_model.specs.EngineRules.{Among}
 use Rattle.tree_base.specs.Limits.{most_workers}
 
@@ -52,3 +61,70 @@ pub few_counted : (first now : Option ℕ) (n : ℕ) → ForSome first (λ m. m 
 few_counted None now n told counts few m e = let bad : None ≡ Some m = sym counts ∙ e in absurd (cc bad)
 few_counted (Some k) now n told counts few m e =
     let both : Some (k + n) ≡ Some m = sym counts ∙ e in let same : k + n ≡ m = cc both in let low : k < 2 ^ 61 = told k refl in omega (arith, same, low, few)
+
+-- dials that go on from others, with one more
+behind_dial : (old between new dials : List Dial) (dial : Dial) → between ≡ old ++ dials → new ≡ between ++ dial ∷ [] → new ≡ old ++ (dials ++ dial ∷ [])
+behind_dial old between new dials dial are grown = grown ∙ (ap (λ (l : List Dial). l ++ dial ∷ []) are ∙ append_assoc old dials (dial ∷ []))
+
+-- without a refusal there are as many dials as hands
+as_dialled : (dials hands : ℕ) → MadeHands dials hands None → dials ≡ hands
+as_dialled dials hands (inl made) = made.0
+as_dialled dials hands (inr made) = absurd (unmade made.1)
+  where
+    unmade : (None ≡ failed_dial) ⊎ (None ≡ Some Refusal.Memory) → ⊥
+    unmade (inl e) = cc e
+    unmade (inr e) = cc e
+
+abbrev fails : (X : Type 0) → DialFault → Result X DialFault
+fails X fault = Err fault
+
+module _ (Fact : ℕ → Dial → Type 0) where
+  each_more : (from : ℕ) (dials : List Dial) (dial : Dial) → AreDials Fact from dials → Fact (from + length dials) dial → AreDials Fact from (dials ++ dial ∷ [])
+  each_more from [] dial are is = let place : from + 0 ≡ from = omega arith in (subst (λ (n : ℕ). Fact n dial) place is, tt)
+  each_more from (first ∷ rest) dial are is =
+      let place : from + length (first ∷ rest) ≡ (from + 1) + length rest = omega arith in
+      (are.0, each_more (from + 1) rest dial are.1 (subst (λ (n : ℕ). Fact n dial) place is))
+
+  -- the dials with the next worker's
+  all_more : (dials : List Dial) (dial : Dial) (n : ℕ) → length dials ≡ n → AreDials Fact 0 dials → Fact n dial → AreDials Fact 0 (dials ++ dial ∷ [])
+  all_more dials dial n many are is = let place : n ≡ 0 + length dials = omega (arith, many) in each_more 0 dials dial are (subst (λ (k : ℕ). Fact k dial) place is)
+
+module _ (Fact : ℕ → Dial → Type 0) (workers : ℕ) where
+  -- no dial made no hand
+  pub dials_none : (old : List Dial) (n : ℕ) → n ≡ 0 → Dials Fact workers old old n None
+  dials_none old n none = ([], sym (append-nil old), tt, omega arith, inl (sym none, λ e. cc e))
+
+  -- one more made one more
+  pub dials_more : (old between new : List Dial) (dial : Dial) (n more : ℕ) → Fact n dial → n < workers → new ≡ between ++ dial ∷ [] → more ≡ n + 1 → Dials Fact workers old between n None → Dials Fact workers old new more None
+  dials_more old between new dial n more is within grown longer h =
+      let many = as_dialled (length h.0) n h.4 in let one = length_push h.0 dial in let count : length (h.0 ++ dial ∷ []) ≡ more = omega (arith, one, many, longer) in
+      (h.0 ++ dial ∷ [], behind_dial old between new h.0 dial h.1 grown, all_more Fact h.0 dial n many h.2 is, omega (arith, count, longer, within), inl (count, λ e. cc e))
+
+  -- the last one made none
+  dials_last : (old between new : List Dial) (dial : Dial) (n : ℕ) (refusal : Option Refusal) → Fact n dial → n < workers → new ≡ between ++ dial ∷ [] → (refusal ≡ failed_dial) ⊎ (refusal ≡ Some Refusal.Memory) → Dials Fact workers old between n None → Dials Fact workers old new n refusal
+  dials_last old between new dial n refusal is within grown why h =
+      let many = as_dialled (length h.0) n h.4 in let one = length_push h.0 dial in let count : length (h.0 ++ dial ∷ []) ≡ n + 1 = omega (arith, one, many) in
+      (h.0 ++ dial ∷ [], behind_dial old between new h.0 dial h.1 grown, all_more Fact h.0 dial n many h.2 is, omega (arith, count, within), inr (count, why))
+
+  -- the dials end with one that made no hand, or before it where memory was wanted
+  pub dials_end : {X : Type 0} (old between new : List Dial) (dial : Dial) (n : ℕ) (fault : DialFault) → Fact n dial → n < workers → AddsDialOf between dial new (fails X fault) → Dials Fact workers old between n None → Dials Fact workers old new n (Some (refusal_of fault))
+  dials_end old between new dial n DialFault.Plug is within grown h = dials_last old between new dial n failed_dial is within grown (inl refl) h
+  dials_end old between new dial n DialFault.Memory is within (inr grown) h = dials_last old between new dial n (Some Refusal.Memory) is within grown (inr refl) h
+  dials_end old between new dial n DialFault.Memory is within (inl same) h = (h.0, same ∙ h.1, h.2, h.3, inl (as_dialled (length h.0) n h.4, λ e. cc e))
+
+  module _ (old new : List Dial) (n : ℕ) where
+    -- a run that follows is refused for none of its dials
+    pub dials_run : (refusal : Option Refusal) → IsOfRun refusal → Dials Fact workers old new n None → Dials Fact workers old new n refusal
+    dials_run refusal run h = (h.0, h.1, h.2, h.3, inl (as_dialled (length h.0) n h.4, of_run refusal run))
+
+    wanted : (dials : ℕ) → MadeHands dials n failed_dial → MadeHands dials n (Some Refusal.Memory)
+    wanted dials (inl made) = absurd (made.1 refl)
+    wanted dials (inr made) = inr (made.0, inr refl)
+
+    short : (fault : DialFault) → Dials Fact workers old new n (Some (refusal_of fault)) → Dials Fact workers old new n (Some Refusal.Memory)
+    short DialFault.Plug h = (h.0, h.1, h.2, h.3, wanted (length h.0) h.4)
+    short DialFault.Memory h = h
+
+    -- what is said of them, once the refusal was
+    pub dials_said : (fault : DialFault) (found : Option Refusal) → IsSaid (refusal_of fault) found → Dials Fact workers old new n (Some (refusal_of fault)) → Dials Fact workers old new n found
+    dials_said fault found is_said h = said (refusal_of fault) found is_said (Dials Fact workers old new n) (short fault h) h

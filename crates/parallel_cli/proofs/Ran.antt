@@ -4,7 +4,7 @@ use Rattle.std.specs.Prelude.{All, slice_get}
 use Rattle.compose_cli.proofs.Ran.{if_begun_in, refused_by, reports_by, status_by, went_well}
 use Rattle.compose_cli.proofs.Statuses.{not_refused}
 use Rattle.compose_cli.specs.Runs as cli
-use Rattle.compose_cli.specs.Runs.{IsCausedAnew, IsRefusalOf, RanAs}
+use Rattle.compose_cli.specs.Runs.{IsCausedAnew, IsRefusalOf, RanAs, Reports}
 use Rattle.compose_cli.specs.declared.Ended.{Ended}
 use Rattle.engine_types.specs.declared.Entry.{Entry}
 use Rattle.engine_types.specs.declared.Exchange.{Exchange}
@@ -12,10 +12,9 @@ use Rattle.engine_types.specs.declared.RunFault.{RunFault}
 use Rattle.ledger_run.specs.Tellings.{Telling, account_in}
 use Rattle.outside_api.specs.Accounts.{account}
 use Rattle.outside_api.specs.Clock.{Clock, new_clock}
-use Rattle.outside_files.specs.Writing.{Says}
 use Rattle.parallel_cli.specs.Hands.{AreNew, IsNew}
 use Rattle.parallel_run.specs.Together as together
-use Rattle.project_run.specs.Timing.{IsTimed}
+use Rattle.project_run.specs.Timing.{IsTimed, ReadsFirst}
 use Rattle.project_run.specs.Whole.{IfBegun, IsCaused, IsFault, IsReport, SparesKept}
 use Rattle.project_run.specs.Worlds.{EndsExact, EndsGone, MakesOnce, RollsFew, SparesAgreeing}
 use Rattle.refusals.specs.Saying.{IsSaidIfAny}
@@ -90,19 +89,27 @@ module _ {H : Type 0} (tell : H → Telling) (task : Task) (journal : List Entry
       let f = at_worker (λ (n : ℕ) (x y : Telling). IsTimed task journal n x.clock y.clock) each w hand m in
       subst (λ (c : Clock). IsTimed task journal w c (tell hand).clock) f.1.unread f.2
 
+  -- the hand of worker 0 read its clock first before its first exchange
+  pub reads : EachPair (λ w x y. w ≡ 0 → ReadsFirst task.limits.deadline (length (tell x).log) (tell y).clock) 0 before after → (hand : H) → slice_get after 0 ≡ Some hand
+      → ReadsFirst task.limits.deadline 0 (tell hand).clock
+  reads each hand m =
+      let f = at_worker (λ (n : ℕ) (x y : Telling). n ≡ 0 → ReadsFirst task.limits.deadline (length x.log) y.clock) each 0 hand m in
+      subst (λ (l : List Exchange). ReadsFirst task.limits.deadline (length l) (tell hand).clock) f.1.unused (f.2 refl)
+
 -- what a call leaves, by what its run left
 pub ran_together : {H : Type 0} (tell : H → Telling) (task : Task) (ended : Ended H) (before : List H) (report : List ℕ) (fault : Option RunFault) (refusal : Option Refusal) (written_old written_new : Option (List ℕ)) (old new : ℕ)
     → task.limits.workers ≡ length before → HasOwnSpecs task.declared → AreNew tell before → IfBegun ended.journal (IsRun task ended.journal) → IfBegun ended.journal (IsLeftByAll task ended.journal)
     → IfBegun ended.journal (EachPair (λ w x y. GrowsBy (run_exchanges task ended.journal w) (tell x).log (tell y).log) 0 before ended.hands)
     → EachPair (λ w x y. IsCaused task ended.journal w (account_in (tell x)) (account_in (tell y))) 0 before ended.hands
     → IfBegun ended.journal (EachPair (λ w x y. IsTimed task ended.journal w (tell x).clock (tell y).clock) 0 before ended.hands)
+    → IfBegun ended.journal (EachPair (λ w x y. w ≡ 0 → ReadsFirst task.limits.deadline (length (tell x).log) (tell y).clock) 0 before ended.hands)
     → IfBegun ended.journal (IsFault (run_fault task ended.journal) fault) → IsReport (run_report task ended.journal) fault report → (is_up task.aim.purpose ≡ true → SparesKept task ended.journal)
     → IfBegun ended.journal (is_up task.aim.purpose ≡ true → HasOwnSpecs task.declared → MakesOnce task ended.journal) → IfBegun ended.journal (is_up task.aim.purpose ≡ true → HasOwnSpecs task.declared → SparesAgreeing task ended.journal)
     → IfBegun ended.journal (is_up task.aim.purpose ≡ true → RollsFew task ended.journal)
     → (fault ≡ None → is_up task.aim.purpose ≡ true → HasOwnSpecs task.declared → EndsExact task ended.journal) → (fault ≡ None → is_up task.aim.purpose ≡ false → EndsGone task ended.journal)
-    → IsRefusalOf fault old new refusal → Says report written_old written_new old new → IsSaidIfAny refusal ended.refusal → ended.status ≡ status_of ended.refusal
+    → IsRefusalOf fault old new refusal → Reports report refusal written_old written_new old new → IsSaidIfAny refusal ended.refusal → ended.status ≡ status_of ended.refusal
     → IfBegun ended.journal (RanAs tell task ended written_old written_new old new)
-ran_together {H} tell task ended before report fault refusal written_old written_new old new workers own fresh is left grows caused timed told reports spares once agreeing rolls ends lacks refused says is_said is_status =
+ran_together {H} tell task ended before report fault refusal written_old written_new old new workers own fresh is left grows caused timed firsts told reports spares once agreeing rolls ends lacks refused says is_said is_status =
     if_begun_in ended.journal is (λ inside run.
     let is_refusal = refused_by old new (run_fault task ended.journal) fault refusal ended.refusal (inside (IsFault (run_fault task ended.journal) fault) told) refused is_said in record {
       legal = run;
@@ -111,6 +118,7 @@ ran_together {H} tell task ended before report fault refusal written_old written
       log = logs tell task ended.journal before ended.hands fresh (inside (EachPair (λ w x y. GrowsBy (run_exchanges task ended.journal w) (tell x).log (tell y).log) 0 before ended.hands) grows);
       cause = causes tell task ended.journal before ended.hands fresh caused;
       timed = times tell task ended.journal before ended.hands fresh (inside (EachPair (λ w x y. IsTimed task ended.journal w (tell x).clock (tell y).clock) 0 before ended.hands) timed);
+      read_first = reads tell task ended.journal before ended.hands fresh (inside (EachPair (λ w x y. w ≡ 0 → ReadsFirst task.limits.deadline (length (tell x).log) (tell y).clock) 0 before ended.hands) firsts);
       run_status = status_by (run_fault task ended.journal) old new ended.refusal ended.status is_refusal is_status;
       run_fault = is_refusal;
       report = reports_by old new (run_report task ended.journal) report fault refusal ended.refusal written_old written_new reports says refused is_said;

@@ -1,4 +1,8 @@
--- Why there is no hand for some worker.
+-- Which hands are dialled at a place, and why there is none for some worker.
+use Rattle.std.specs.Prelude.{◌≡◌, ◌⊎◌, ℕ, List, [], ◌∷◌, ◌++◌, Option, Some, None, Result, Ok, Err}
+use Rattle.compose_cli.specs.declared.Place.{Place}
+use Rattle.outside_api.specs.Plugs.{dial_of}
+use Rattle.outside_api.specs.declared.dial.Dial.{Dial}
 use Rattle.parallel_cli.specs.declared.dialling.DialFault.{DialFault}
 use Rattle.refusals.specs.declared.Part.{Part}
 use Rattle.refusals.specs.declared.Refusal.{Refusal}
@@ -7,3 +11,17 @@ use Rattle.refusals.specs.declared.Refusal.{Refusal}
 abbrev pub refusal_of : DialFault → Refusal
 refusal_of DialFault.Plug = Refusal.Outside Part.Plug
 refusal_of DialFault.Memory = Refusal.Memory
+
+-- what a call is refused with after its dials, if anything
+abbrev pub refusal_by : {X : Type 0} → Result X DialFault → Option Refusal
+refusal_by (Ok x) = None
+refusal_by (Err fault) = Some (refusal_of fault)
+
+-- the dial of worker n's hand here
+abbrev pub IsDialHere : Place → ℕ → Dial → Type 0
+IsDialHere here n dial = dial ≡ dial_of here.target here.stop_file n
+
+-- the dials grew by this one; where memory was wanted they may have stayed
+abbrev pub AddsDialOf : {X : Type 0} → List Dial → Dial → List Dial → Result X DialFault → Type 0
+AddsDialOf old dial new (Err DialFault.Memory) = (new ≡ old) ⊎ (new ≡ old ++ dial ∷ [])
+AddsDialOf old dial new result = new ≡ old ++ dial ∷ []

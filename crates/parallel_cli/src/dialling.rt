@@ -1,8 +1,11 @@
 ghost use Rattle.std.specs.Prelude.{◌≡◌, ◌<◌, ◌≤◌, ◌^◌, [], Err, IfErr, IfOk, length, vec_capacity};
 ghost use Rattle.std.specs.Option.{ForSome};
+ghost use Rattle.compose_cli.specs.Dialling.{Dials};
 ghost use Rattle.compose_cli.specs.Ends.{CountsHands};
 ghost use Rattle.ledger_run.specs.Tellings.{telling};
+ghost use Rattle.outside_api.specs.Plugs.{dial_of};
 ghost use Rattle.outside_files.specs.Counts.{Rose};
+ghost use Rattle.parallel_cli.specs.Dials.{AddsDialOf, IsDialHere, refusal_by};
 ghost use Rattle.parallel_cli.specs.Hands.{AreNew, IsNew};
 ghost use Rattle.tree_base.specs.Limits.{most_workers};
 
@@ -33,6 +36,8 @@ pub(crate) fn dial_all<P: Plug>(
     ensures all { IfOk result (λ done. length hands.new.items ≡ workers) }
     ensures made { AreNew (λ h. telling (P.Hand.log h) (P.Hand.heard h) (P.Hand.faults h)
         (P.Hand.clock h) (P.Hand.engine h)) hands.new.items }
+    ensures dials { Dials (IsDialHere place.now) workers (P.dials plug.old)
+        (P.dials plug.new) (length hands.new.items) (refusal_by result) }
     ensures dialled { CountsHands (P.dialled plug.old) (P.dialled plug.new)
         (length hands.new.items) }
     ensures fault { result ≡ Err DialFault.Plug → Rose (P.faults plug.old) (P.faults plug.new) }
@@ -54,6 +59,8 @@ fn dial<P: Plug>(
     requires { ForSome (P.dialled plug.old) (λ n. n < 2 ^ 62) }
     ensures made { IfOk result (λ h. IsNew (telling (P.Hand.log h) (P.Hand.heard h)
         (P.Hand.faults h) (P.Hand.clock h) (P.Hand.engine h))) }
+    ensures dials { AddsDialOf (P.dials plug.old)
+        (dial_of place.now.target place.now.stop_file number) (P.dials plug.new) result }
     ensures dialled { IfOk result (λ h.
         CountsHands (P.dialled plug.old) (P.dialled plug.new) 1) }
     ensures undialled { IfErr result (λ fault. P.dialled plug.new ≡ P.dialled plug.old) }

@@ -1,5 +1,6 @@
 ghost use Rattle.std.specs.Prelude.{◌≡◌, ◌<◌, ◌≤◌, ◌^◌, [], Some, length};
 ghost use Rattle.std.specs.Option.{ForSome};
+ghost use Rattle.compose_cli.specs.Dialling.{Dials, IsDialAt};
 ghost use Rattle.compose_cli.specs.Ends.{CountsHands};
 ghost use Rattle.compose_cli.specs.Runs.{IsUnbegun, RanAs, first_reading};
 ghost use Rattle.ledger_run.specs.Tellings.{telling};
@@ -57,6 +58,8 @@ where
     requires needs { NeedsDependencies declared }
     requires own { HasOwnSpecs declared }
     ensures origin { IsOfLoading result.refusal → ⊥ }
+    ensures dials { Dials (IsDialAt place) workers (P.dials plug.old) (P.dials plug.new)
+        (length result.hands) result.refusal }
     ensures dial { result.refusal ≡ Some (Refusal.Outside Part.Plug)
         → NoneSent (λ h. P.Hand.log h) result × Rose (P.faults plug.old) (P.faults plug.new) }
     ensures dialled { CountsHands (P.dialled plug.old) (P.dialled plug.new) (length result.hands) }

@@ -1,6 +1,7 @@
 ghost use Rattle.std.specs.Prelude.{◌≡◌, ◌<◌, ◌≤◌, ◌^◌, [], None, Some, IfErr, IfOk, IfSome, IsTrue, length};
 ghost use Rattle.std.specs.Option.{ForSome};
 ghost use Rattle.asked_run.specs.Declaring.{ForDeclared, IsFailedDigest, declared_from};
+ghost use Rattle.compose_cli.specs.Dialling.{Dials, IsDialFor};
 ghost use Rattle.compose_cli.specs.Ends.{CountsHands, SendsNothing};
 ghost use Rattle.compose_cli.specs.Reaching.{IsReachable};
 ghost use Rattle.compose_cli.specs.Runs.{IsDigestOf, IsUnbegun, IsUndeclared, RanAs, first_reading, options_for};
@@ -13,6 +14,7 @@ ghost use Rattle.project_run.specs.Whole.{IfBegun, task_of};
 ghost use Rattle.refusals.specs.Origins.{IsOfLoading, is_of_words};
 ghost use Rattle.refusals.specs.Saying.{SaysRefusal};
 ghost use Rattle.refusals.specs.Statuses.{status_of};
+ghost use Rattle.refusals.specs.Went.{ReadsEnd};
 ghost use Rattle.refusals.specs.declared.Part.{Part};
 ghost use Rattle.refusals.specs.declared.Refusal.{Refusal};
 ghost use Rattle.run_model.specs.EngineRules.{Among};
@@ -73,10 +75,14 @@ where
         → result.refusal ≡ Some refusal → ⊥ }
     ensures load { (path : _)
         → result.refusal ≡ Some (Refusal.Load (LoadRefusal.ReadFault path)) → ⊥ }
+    ensures reads { ReadsEnd (F.reads files.old) (F.reads files.new) result.refusal }
     ensures counted { F.faults files.old ≤ F.faults files.new }
     ensures nothing_sent { IsOfLoading result.refusal → SendsNothing result }
     ensures quiet_loading { IsOfLoading result.refusal → O.written out.new ≡ O.written out.old }
 
+    ensures dials { Dials (IsDialFor asked.options env.now cwd.now)
+        asked.options.parallel (P.dials plug.old) (P.dials plug.new)
+        (length result.hands) result.refusal }
     ensures dial { result.refusal ≡ Some (Refusal.Outside Part.Plug)
         → NoneSent (λ h. P.Hand.log h) result × Rose (P.faults plug.old) (P.faults plug.new) }
     ensures dialled { CountsHands (P.dialled plug.old) (P.dialled plug.new) (length result.hands) }

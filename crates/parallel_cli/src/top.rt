@@ -2,6 +2,7 @@ ghost use Rattle.std.specs.Prelude.{◌≡◌, ◌⊎◌, ◌<◌, ◌^◌, [], 
 ghost use Rattle.std.specs.Option.{ForSome};
 ghost use Rattle.asked_project.specs.Asking.{command_of, options_asked};
 ghost use Rattle.asked_project.specs.Meaning.{IsFailedRead, meaning};
+ghost use Rattle.compose_cli.specs.Dialling.{Dials, IsDialAsked};
 ghost use Rattle.compose_cli.specs.Ends.{CountsHands, IsRefusedWith, SendsNothing, WritesPage, WritesPrefix, failed_dial, failed_digest, failed_output, failed_read};
 ghost use Rattle.compose_cli.specs.Runs.{ForTask, IfDeclared, IfRuns, IsFailedDigestRead, IsFaultOfReads, IsUnbegun, IsUndeclared, RanAs, aim_asked, first_reading};
 ghost use Rattle.compose_config.specs.Commands.{IfLoads, IsConfig, IsOfConfig, IsReadFault, OnlyOutsideFails};
@@ -12,6 +13,7 @@ ghost use Rattle.parallel_cli.specs.Workers.{workers_asked};
 ghost use Rattle.project_run.specs.Whole.{IfBegun};
 ghost use Rattle.refusals.specs.Origins.{IsOfLoading, is_of_words};
 ghost use Rattle.refusals.specs.Statuses.{status_of};
+ghost use Rattle.refusals.specs.Went.{ReadsEnd};
 ghost use Rattle.run_model.specs.EngineRules.{Among};
 ghost use Rattle.refusals.specs.Saying.{IsSaid, SaysRefusal};
 
@@ -73,12 +75,21 @@ where
         → IsFailedDigestRead words.now env.now cwd.now (F.told files.old)
         (F.faults files.old) (F.faults files.new) path }
 
+    // Where no read had failed before, none fails but the last, and that is what the call is then refused with, by its path.
+    ensures reads { ReadsEnd (F.reads files.old) (F.reads files.new) result.refusal }
+
     // A refused project sends nothing, and neither does `config`, nor a call of which a dial failed: the hands that were made
     // before are handed back as they were.
     ensures nothing_sent { IsOfLoading result.refusal → SendsNothing result }
     ensures config { aim_asked (command_of words.now env.now) ≡ None → SendsNothing result }
     ensures dial { result.refusal ≡ failed_dial
         → NoneSent (λ h. P.Hand.log h) result × Rose (P.faults plug.old) (P.faults plug.new) }
+
+    // Its dials are those that words and variables ask for: of their Engine, with their stop file, one for each worker's number from
+    // 0 on, and for no more workers than they ask for; there is none after one that makes no hand.
+    ensures dials { Dials (IsDialAsked words.now env.now cwd.now)
+        (workers_asked words.now env.now) (P.dials plug.old) (P.dials plug.new)
+        (length result.hands) result.refusal }
 
     // Every hand that was made is handed back; the status is that of the refusal, whose line is written to `err`.
     ensures dialled { CountsHands (P.dialled plug.old) (P.dialled plug.new) (length result.hands) }

@@ -31,11 +31,11 @@ returns-clause-ran g c =
     (ran_together (λ h. telling (g.H.Hand.log h) (g.H.Hand.heard h) (g.H.Hand.faults h) (g.H.Hand.clock h) (g.H.Hand.engine h)) (task_of c.args.declared c.args.aim (limits_by (length c.args.hands) c.args.options (first_reading (λ h. g.H.Hand.clock h) c.run_parallel-ran.result.hands)))
     (record { status = c.status_of.result; journal = c.run_parallel-ran.result.ran.journal; hands = c.run_parallel-ran.result.hands; refusal = c.say_if_any-refusal.result }) c.args.hands c.run_parallel-ran.result.ran.report c.run_parallel-ran.result.ran.fault c.write_report.result
     (g.O.Sink.written c.args.out.now) (g.O.Sink.written c.write_report.new.out) (g.O.Sink.faults c.args.out.now) (g.O.Sink.faults c.write_report.new.out)
-    refl c.requires.own c.requires.unused c.run_parallel-ran.ensures.run c.run_parallel-ran.ensures.left c.run_parallel-ran.ensures.log c.run_parallel-ran.ensures.cause c.run_parallel-ran.ensures.timed c.run_parallel-ran.ensures.fault c.run_parallel-ran.ensures.report
+    refl c.requires.own c.requires.unused c.run_parallel-ran.ensures.run c.run_parallel-ran.ensures.left c.run_parallel-ran.ensures.log c.run_parallel-ran.ensures.cause c.run_parallel-ran.ensures.timed c.run_parallel-ran.ensures.read_first c.run_parallel-ran.ensures.fault c.run_parallel-ran.ensures.report
     c.run_parallel-ran.ensures.kept c.run_parallel-ran.ensures.once c.run_parallel-ran.ensures.agreeing c.run_parallel-ran.ensures.rolls c.run_parallel-ran.ensures.exact c.run_parallel-ran.ensures.gone
     c.write_report.ensures.refused c.write_report.ensures.written c.say_if_any-refusal.ensures.refusal c.status_of.ensures)
 
 pub returns-clause-quiet_unbegun : goal.returns-clause-quiet_unbegun
 returns-clause-quiet_unbegun g c =
     unwritten (g.O.Sink.faults c.args.out.now) (g.O.Sink.faults c.write_report.new.out) (task_of c.args.declared c.args.aim (limits_by (length c.args.hands) c.args.options (first_reading (λ h. g.H.Hand.clock h) c.run_parallel-ran.result.hands))) c.run_parallel-ran.result.ran.journal c.run_parallel-ran.result.ran.fault
-    c.run_parallel-ran.result.ran.report (g.O.Sink.written c.args.out.now) (g.O.Sink.written c.write_report.new.out) c.run_parallel-ran.ensures.report c.write_report.ensures.written
+    c.run_parallel-ran.result.ran.report c.write_report.result (g.O.Sink.written c.args.out.now) (g.O.Sink.written c.write_report.new.out) c.run_parallel-ran.ensures.report c.write_report.ensures.written

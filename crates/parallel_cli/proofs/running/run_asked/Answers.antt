@@ -1,12 +1,15 @@
-use Rattle.std.proofs.Common.{Err, ap, subst, sym}
+use Rattle.std.proofs.Common.{Err, ap, length, subst, sym}
 use Rattle.asked_run.specs.Declaring.{declared_from}
 use Rattle.compose_cli.proofs.Declaring.{declared_unrefused, declaring_no_load, declaring_no_outside, declaring_no_words, declaring_unbegun, for_declared_by, only_digests, refused_undeclared, said_digest}
+use Rattle.compose_cli.proofs.Dialled.{dial_for, dials_by, undialled}
 use Rattle.compose_cli.proofs.Ending.{counts_none, no_words}
 use Rattle.compose_cli.proofs.Ran.{if_begun}
+use Rattle.compose_cli.specs.Dialling.{IsDialAt, IsDialFor}
 use Rattle.compose_cli.specs.Runs.{RanAs, first_reading, options_for}
 use Rattle.compose_config.proofs.Loads.{IfSome-map}
 use Rattle.ledger_run.specs.Tellings.{telling}
 use Rattle.project_run.specs.Whole.{task_of}
+use Rattle.refusals.proofs.AfterReads.{ends_loaded, ends_said}
 use Rattle.refusals.specs.Origins.{IsOfLoading}
 use Rattle.refusals.specs.declared.Part.{Part}
 use Rattle.run_model.specs.Runs.{limits_of}
@@ -66,3 +69,18 @@ returns-in-Err-clause-dialled g c = counts_none (g.P.Plug.dialled c.args.plug.no
 
 pub returns-in-Err-clause-unbegun : goal.returns-in-Err-clause-unbegun
 returns-in-Err-clause-unbegun g c = λ empty. declaring_unbegun c.in-Err.refusal c.refused.result.refusal c.in-Err.ensures.kind c.refused.ensures.refusal
+
+pub returns-in-Ok-clause-dials : goal.returns-in-Ok-clause-dials
+returns-in-Ok-clause-dials g c =
+    dials_by (IsDialAt c.place_asked-place.result) (IsDialFor c.args.asked.options c.args.env.now c.args.cwd.now) c.args.asked.options.parallel (g.P.Plug.dials c.args.plug.now) (g.P.Plug.dials c.run_declared.new.plug) (length c.run_declared.result.hands) c.run_declared.result.refusal
+    (dial_for c.args.asked.options c.args.env.now c.args.cwd.now c.place_asked-place.result c.place_asked-place.ensures.target c.place_asked-place.ensures.stop_file) c.run_declared.ensures.dials
+
+pub returns-in-Err-clause-dials : goal.returns-in-Err-clause-dials
+returns-in-Err-clause-dials g c = undialled (IsDialFor c.args.asked.options c.args.env.now c.args.cwd.now) c.args.asked.options.parallel (g.P.Plug.dials c.args.plug.now) c.refused.result.hands c.refused.result.refusal c.refused.ensures.nothing.0
+    (λ e. declaring_no_outside c.in-Err.refusal c.refused.result.refusal Part.Plug c.in-Err.ensures.kind c.refused.ensures.refusal e)
+
+pub returns-in-Ok-clause-reads : goal.returns-in-Ok-clause-reads
+returns-in-Ok-clause-reads g c = ends_loaded (g.F.Files.reads c.args.files.now) (g.F.Files.reads c.declared_asked.new.files) c.run_declared.result.refusal c.run_declared.ensures.origin c.in-Ok.ensures.reads
+
+pub returns-in-Err-clause-reads : goal.returns-in-Err-clause-reads
+returns-in-Err-clause-reads g c = ends_said (g.F.Files.reads c.args.files.now) (g.F.Files.reads c.declared_asked.new.files) c.in-Err.refusal c.refused.result.refusal c.refused.ensures.refusal c.in-Err.ensures.reads

@@ -1,4 +1,4 @@
-use Rattle.std.proofs.Common.{◌≡◌, ◌∙◌, ℕ, Err, None, Some, ap, inr, refl, subst, sym}
+use Rattle.std.proofs.Common.{◌≡◌, ◌∙◌, ℕ, Err, None, Some, ap, inr, length, refl, subst, sym}
 use Rattle.std.specs.Prelude.{IfErr, IfOk}
 use Rattle.asked_project.specs.Asking.{command_of, options_asked}
 use Rattle.asked_project.specs.Meaning.{meaning}
@@ -7,20 +7,24 @@ use Rattle.compose_config.proofs.Printed.{asked_prefix, asked_whole, page_comple
 use Rattle.compose_config.specs.Commands.{GrewByPrefix, IsReadFault, page_asked, page_for}
 use Rattle.asked_run.specs.Declaring.{declared_from}
 use Rattle.compose_cli.proofs.Declaring.{asking_undeclared, digest_faults, digest_read, if_declared, if_declared_idle, loads_fault}
+use Rattle.compose_cli.proofs.Dialled.{dial_asked, dials_by, undialled}
 use Rattle.compose_cli.proofs.Ending.{asking_no_digest, before_unbegun, beside, counts_none, if_runs, no_config, only_reads, refused_with}
 use Rattle.compose_cli.proofs.Circles.{spelled_acyclic}
 use Rattle.compose_cli.proofs.Reachable.{reachable}
 use Rattle.compose_cli.proofs.Ran.{asked, aims, idle, if_begun, said_not_zero, task_by, unasked}
+use Rattle.compose_cli.specs.Dialling.{Dials, IsDialAsked, IsDialFor}
 use Rattle.compose_cli.specs.Ends.{SendsNothing}
 use Rattle.compose_cli.specs.Runs.{ForTask, IsFaultOfReads, IsUndeclared, RanAs, first_reading}
 use Rattle.file_digests.specs.declared.DigestRefusal.{DigestRefusal}
 use Rattle.outside_files.specs.Sinks.{GrewBy}
+use Rattle.refusals.proofs.AfterReads.{ends_after, ends_loaded, ends_said}
 use Rattle.refusals.specs.Origins.{IsOfLoading}
 use Rattle.refusals.specs.Saying.{IsSaid}
 use Rattle.refusals.specs.declared.Part.{Part}
 use Rattle.ledger_run.specs.Tellings.{telling}
 use Rattle.run_model.specs.Runs.{Task}
 use Rattle.parallel_cli.proofs.Workers.{bounded, workers_are}
+use Rattle.parallel_cli.specs.Workers.{workers_asked}
 use Rattle.parallel_cli.proofs.top.compose_main.Goals as goal
 
 pub returns-in-Some-clause-ran : goal.returns-in-Some-clause-ran
@@ -193,3 +197,29 @@ run_asked-requires-clause-some g c κs within = (bounded c.args.env.now c.args.w
 
 pub run_asked-requires-clause-few : goal.run_asked-requires-clause-few
 run_asked-requires-clause-few g c κs within = (bounded c.args.env.now c.args.words.now c.in-Ok.asked.options c.in-Ok.ensures.options).workers.1
+
+pub returns-in-Some-clause-dials : goal.returns-in-Some-clause-dials
+returns-in-Some-clause-dials g c =
+    let old = g.P.Plug.dials c.args.plug.now in let new = g.P.Plug.dials c.run_asked.new.plug in let hands = length c.run_asked.result.hands in
+    let For = IsDialFor c.in-Ok.asked.options c.args.env.now c.args.cwd.now in let Asked = IsDialAsked c.args.words.now c.args.env.now c.args.cwd.now in let workers = c.in-Ok.asked.options.parallel in
+    subst (λ (n : ℕ). Dials Asked n old new hands c.run_asked.result.refusal) (sym (workers_are c.args.words.now c.args.env.now c.in-Ok.asked.options c.in-Ok.ensures.options))
+    (dials_by For Asked workers old new hands c.run_asked.result.refusal
+    (dial_asked c.args.words.now c.args.env.now c.args.cwd.now c.in-Ok.asked.options c.in-Ok.ensures.options) c.run_asked.ensures.dials)
+
+pub returns-in-None-clause-dials : goal.returns-in-None-clause-dials
+returns-in-None-clause-dials g c = undialled (IsDialAsked c.args.words.now c.args.env.now c.args.cwd.now) (workers_asked c.args.words.now c.args.env.now) (g.P.Plug.dials c.args.plug.now) c.print_page.result.hands c.print_page.result.refusal c.print_page.ensures.nothing.0
+    (λ e. page_no_plug (page_for c.in-Ok.asked.options.command c.in-Ok.asked.project) (g.O.Sink.written c.args.out.now) (g.O.Sink.written c.print_page.new.out) (g.O.Sink.faults c.args.out.now) (g.O.Sink.faults c.print_page.new.out) c.print_page.result.refusal c.print_page.ensures.printed e)
+
+pub returns-in-Err-clause-dials : goal.returns-in-Err-clause-dials
+returns-in-Err-clause-dials g c = undialled (IsDialAsked c.args.words.now c.args.env.now c.args.cwd.now) (workers_asked c.args.words.now c.args.env.now) (g.P.Plug.dials c.args.plug.now) c.refused.result.hands c.refused.result.refusal c.refused.ensures.nothing.0
+    (λ e. asking_no_outside c.in-Err.refusal c.refused.result.refusal c.in-Err.ensures.kind c.refused.ensures.refusal Part.Plug e)
+
+pub returns-in-Some-clause-reads : goal.returns-in-Some-clause-reads
+returns-in-Some-clause-reads g c = ends_after (g.F.Files.reads c.project_asked.new.files) (g.F.Files.reads c.run_asked.new.files) (g.F.Files.reads c.args.files.now) c.run_asked.result.refusal c.in-Ok.ensures.reads c.run_asked.ensures.reads
+
+pub returns-in-None-clause-reads : goal.returns-in-None-clause-reads
+returns-in-None-clause-reads g c = ends_loaded (g.F.Files.reads c.args.files.now) (g.F.Files.reads c.project_asked.new.files) c.print_page.result.refusal
+    (page_no_loading (page_for c.in-Ok.asked.options.command c.in-Ok.asked.project) (g.O.Sink.written c.args.out.now) (g.O.Sink.written c.print_page.new.out) (g.O.Sink.faults c.args.out.now) (g.O.Sink.faults c.print_page.new.out) c.print_page.result.refusal c.print_page.ensures.printed) c.in-Ok.ensures.reads
+
+pub returns-in-Err-clause-reads : goal.returns-in-Err-clause-reads
+returns-in-Err-clause-reads g c = ends_said (g.F.Files.reads c.args.files.now) (g.F.Files.reads c.project_asked.new.files) c.in-Err.refusal c.refused.result.refusal c.refused.ensures.refusal c.in-Err.ensures.reads
