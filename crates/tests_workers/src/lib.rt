@@ -1,0 +1,16 @@
+//! Tests of several workers that cases can't say as data: hands that meet in their first create, so that all work at the same time.
+//! The crate gives out nothing.
+#![tactic(auto)]
+
+#[cfg(test)]
+mod calls;
+#[cfg(test)]
+mod meeting;
+#[cfg(test)]
+mod meeting_hand;
+#[cfg(test)]
+mod meeting_plug;
+#[cfg(test)]
+mod runs;
+#[cfg(test)]
+mod together;
