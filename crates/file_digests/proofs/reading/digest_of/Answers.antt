@@ -9,4 +9,4 @@ pub returns-clause-fault : goal.returns-clause-fault
 returns-clause-fault g c = λ at e. c.read-answer.ensures.failed (c.digest_read.ensures.fault at e)
 
 pub returns-clause-reads : goal.returns-clause-reads
-returns-clause-reads g c = λ well. read_goes (g.F.Files.reads c.args.files.now) (g.F.Files.reads c.read-answer.new.files) c.args.item.now.file c.read-answer.result c.read-answer.ensures.reads well ∙ sym c.digest_read.ensures.ends
+returns-clause-reads g c = λ well. read_goes (g.F.Files.reads c.args.files.now) (g.F.Files.reads c.read-answer.new.self) c.args.item.now.file c.read-answer.result c.read-answer.ensures.reads well ∙ sym c.digest_read.ensures.ends
