@@ -1,5 +1,6 @@
-ghost use Rattle.std.specs.Prelude.{◌≡◌, ◌+◌, Some, min};
+ghost use Rattle.std.specs.Prelude.{◌≡◌, ℕ, ◌+◌, Some, None, min};
 ghost use Rattle.run_model.specs.EngineRules.{DriftsTold, Tells};
+ghost use Rattle.outside_api.specs.Hands.{HasCause};
 ghost use Rattle.outside_files.specs.Counts.{one_more};
 ghost use Rattle.memory_engine.specs.Ticking.{later, ticked};
 ghost use Rattle.engine_hand.specs.Fates.{IsServed, is_asked};
@@ -34,6 +35,7 @@ impl SharedEngine {
             (Some self.new.engine.engine) }
         ensures served { IsServed self.old.engine.catalogue self.old.engine.engine request.now
             result.0 self.new.engine.engine }
+        ensures cause { (faults : ℕ) → HasCause request.now None faults faults result.0 }
         ensures made { self.new.engine.made ≡ one_more self.old.engine.made }
         ensures script { self.new.engine.script ≡ self.old.engine.script }
         ensures plan { self.new.engine.faults ≡ self.old.engine.faults }
