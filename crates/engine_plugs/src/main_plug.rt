@@ -79,7 +79,9 @@ impl<'r, R: Wait + Sync> MainPlug<'r, R> {
             Target::InMemory => Ok(MainHand::Memory(self.memory_hand(alloc)?)),
         }
     }
+}
 
+impl<'r, R> MainPlug<'r, R> {
     /// A new hand that shares the Engine in memory.
     fn memory_hand(&mut self, alloc: Global) -> Result<SharedHand<'r, R>, Memory>
         ensures log { IfOk result (λ hand. log_of hand ≡ []) }
