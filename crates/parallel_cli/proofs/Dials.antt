@@ -1,13 +1,15 @@
 -- What is known of hands that are dialled one after another.
-use Rattle.std.proofs.Common.{◌≡◌, ◌⊎◌, ℕ, ◌+◌, ◌<◌, ◌≤◌, ◌^◌, List, [], ◌∷◌, ◌++◌, Some, None, Err, append-nil, append_assoc, length, inl, inr, refl, sym, ap, ◌∙◌, subst, arith}
+use Rattle.std.proofs.Common.{◌≡◌, ◌⊎◌, ℕ, ◌+◌, ◌<◌, ◌≤◌, ◌^◌, List, [], ◌∷◌, ◌++◌, Some, None, append-nil, append_assoc, length, inl, inr, refl, sym, ap, ◌∙◌, subst, arith}
 use Rattle.std.proofs.lemmas.List.{length_push}
 use Rattle.std.specs.Option.{ForSome}
-use Rattle.std.specs.Prelude.{Option, Result}
+use Rattle.std.specs.Prelude.{Option}
 use Rattle.compose_cli.proofs.Dialled.{of_run}
 use Rattle.compose_cli.specs.Dialling.{AreDials, Dials, MadeHands}
 use Rattle.compose_cli.specs.Ends.{CountsHands, failed_dial}
 use Rattle.ledger_run.specs.Tellings.{Telling}
+use Rattle.outside_api.specs.Plugs.{dial_of}
 use Rattle.outside_api.specs.declared.dial.Dial.{Dial}
+use Rattle.outside_api.specs.declared.plug.Target.{Target}
 use Rattle.parallel_cli.specs.Dials.{AddsDialOf, refusal_of}
 use Rattle.parallel_cli.specs.Hands.{AreNew, IsNew}
 use Rattle.parallel_cli.specs.declared.dialling.DialFault.{DialFault}
@@ -62,6 +64,14 @@ few_counted None now n told counts few m e = let bad : None ≡ Some m = sym cou
 few_counted (Some k) now n told counts few m e =
     let both : Some (k + n) ≡ Some m = sym counts ∙ e in let same : k + n ≡ m = cc both in let low : k < 2 ^ 61 = told k refl in omega (arith, same, low, few)
 
+-- the dial that was asked for is the one for a stop file, where that was lent
+pub added : (old new : List Dial) (target : Target) (lent stop : Option (List ℕ)) (n : ℕ) → lent ≡ stop → new ≡ old ++ dial_of target lent n ∷ [] → new ≡ old ++ dial_of target stop n ∷ []
+added old new target lent stop n same grown = subst (λ (file : Option (List ℕ)). new ≡ old ++ dial_of target file n ∷ []) same grown
+
+-- the same where it may not have been noted
+pub added_or_not : (old new : List Dial) (target : Target) (lent stop : Option (List ℕ)) (n : ℕ) → lent ≡ stop → (new ≡ old) ⊎ (new ≡ old ++ dial_of target lent n ∷ []) → (new ≡ old) ⊎ (new ≡ old ++ dial_of target stop n ∷ [])
+added_or_not old new target lent stop n same adds = subst (λ (file : Option (List ℕ)). (new ≡ old) ⊎ (new ≡ old ++ dial_of target file n ∷ [])) same adds
+
 -- dials that go on from others, with one more
 behind_dial : (old between new dials : List Dial) (dial : Dial) → between ≡ old ++ dials → new ≡ between ++ dial ∷ [] → new ≡ old ++ (dials ++ dial ∷ [])
 behind_dial old between new dials dial are grown = grown ∙ (ap (λ (l : List Dial). l ++ dial ∷ []) are ∙ append_assoc old dials (dial ∷ []))
@@ -74,9 +84,6 @@ as_dialled dials hands (inr made) = absurd (unmade made.1)
     unmade : (None ≡ failed_dial) ⊎ (None ≡ Some Refusal.Memory) → ⊥
     unmade (inl e) = cc e
     unmade (inr e) = cc e
-
-abbrev fails : (X : Type 0) → DialFault → Result X DialFault
-fails X fault = Err fault
 
 module _ (Fact : ℕ → Dial → Type 0) where
   each_more : (from : ℕ) (dials : List Dial) (dial : Dial) → AreDials Fact from dials → Fact (from + length dials) dial → AreDials Fact from (dials ++ dial ∷ [])
@@ -107,7 +114,7 @@ module _ (Fact : ℕ → Dial → Type 0) (workers : ℕ) where
       (h.0 ++ dial ∷ [], behind_dial old between new h.0 dial h.1 grown, all_more Fact h.0 dial n many h.2 is, omega (arith, count, within), inr (count, why))
 
   -- the dials end with one that made no hand, or before it where memory was wanted
-  pub dials_end : {X : Type 0} (old between new : List Dial) (dial : Dial) (n : ℕ) (fault : DialFault) → Fact n dial → n < workers → AddsDialOf between dial new (fails X fault) → Dials Fact workers old between n None → Dials Fact workers old new n (Some (refusal_of fault))
+  pub dials_end : (old between new : List Dial) (dial : Dial) (n : ℕ) (fault : DialFault) → Fact n dial → n < workers → AddsDialOf between dial new (Some (refusal_of fault)) → Dials Fact workers old between n None → Dials Fact workers old new n (Some (refusal_of fault))
   dials_end old between new dial n DialFault.Plug is within grown h = dials_last old between new dial n failed_dial is within grown (inl refl) h
   dials_end old between new dial n DialFault.Memory is within (inr grown) h = dials_last old between new dial n (Some Refusal.Memory) is within grown (inr refl) h
   dials_end old between new dial n DialFault.Memory is within (inl same) h = (h.0, same ∙ h.1, h.2, h.3, inl (as_dialled (length h.0) n h.4, λ e. cc e))

@@ -21,7 +21,7 @@ refusal_by (Err fault) = Some (refusal_of fault)
 abbrev pub IsDialHere : Place → ℕ → Dial → Type 0
 IsDialHere here n dial = dial ≡ dial_of here.target here.stop_file n
 
--- the dials grew by this one; where memory was wanted they may have stayed
-abbrev pub AddsDialOf : {X : Type 0} → List Dial → Dial → List Dial → Result X DialFault → Type 0
-AddsDialOf old dial new (Err DialFault.Memory) = (new ≡ old) ⊎ (new ≡ old ++ dial ∷ [])
-AddsDialOf old dial new result = new ≡ old ++ dial ∷ []
+-- the dials grew by this one, after which a call is refused so, if at all; where memory was wanted they may have stayed
+abbrev pub AddsDialOf : List Dial → Dial → List Dial → Option Refusal → Type 0
+AddsDialOf old dial new (Some Refusal.Memory) = (new ≡ old) ⊎ (new ≡ old ++ dial ∷ [])
+AddsDialOf old dial new refusal = new ≡ old ++ dial ∷ []

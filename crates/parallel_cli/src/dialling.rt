@@ -60,7 +60,8 @@ fn dial<P: Plug>(
     ensures made { IfOk result (λ h. IsNew (telling (P.Hand.log h) (P.Hand.heard h)
         (P.Hand.faults h) (P.Hand.clock h) (P.Hand.engine h))) }
     ensures dials { AddsDialOf (P.dials plug.old)
-        (dial_of place.now.target place.now.stop_file number) (P.dials plug.new) result }
+        (dial_of place.now.target place.now.stop_file number) (P.dials plug.new)
+        (refusal_by result) }
     ensures dialled { IfOk result (λ h.
         CountsHands (P.dialled plug.old) (P.dialled plug.new) 1) }
     ensures undialled { IfErr result (λ fault. P.dialled plug.new ≡ P.dialled plug.old) }
