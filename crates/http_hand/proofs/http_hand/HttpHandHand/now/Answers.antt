@@ -6,6 +6,6 @@ use Rattle.http_hand.proofs.http_hand.HttpHandHand.now.Goals as goal
 
 pub returns-clause-clock : goal.returns-clause-clock
 returns-clause-clock g c =
-    ap (at_place c.placed.result) c.now.ensures.clock
+    ap (at_place c.placed-self.result) c.now.ensures.clock
     ∙ ap (λ (place : Option ℕ). at_place place (after_now (g.W.Wire.clock c.args.self.now.wire) c.now.result))
-    (c.placed.ensures ∙ ap (λ (made : ℕ). placed made c.args.self.now.place) c.len.ensures)
+    (c.placed-self.ensures ∙ ap (λ (made : ℕ). placed made c.args.self.now.place) c.len.ensures)
