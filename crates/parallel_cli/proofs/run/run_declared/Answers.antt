@@ -29,7 +29,7 @@ pub returns-in-Err-clause-dials : goal.returns-in-Err-clause-dials
 returns-in-Err-clause-dials g c =
     let old = g.P.Plug.dials c.args.plug.now in let new = g.P.Plug.dials c.dial_all.new.plug in let hands = length c.undialled.result.hands in
     let Here = IsDialHere c.in-Ok.place in
-    let many : length c.dial_all.new.hands.items ≡ hands = sym (ap length c.undialled.ensures.hands ∙ ap length c.from_vec.ensures) in
+    let many : length c.dial_all.new.hands.items ≡ hands = sym (ap length c.undialled.ensures.hands ∙ ap length c.from_vec-in-Err.ensures) in
     dials_by Here (IsDialAt c.args.place) c.args.workers old new hands c.undialled.result.refusal
     (λ n dial is. (c.in-Ok.place, c.in-Ok.is, is))
     (dials_said Here c.args.workers old new hands c.in-Err.fault c.undialled.result.refusal c.undialled.ensures.refusal (subst (λ (n : ℕ). Dials Here c.args.workers old new n (Some (refusal_of c.in-Err.fault))) many c.in-Err.ensures.dials))
@@ -38,4 +38,4 @@ pub returns-in_default-clause-dials : goal.returns-in_default-clause-dials
 returns-in_default-clause-dials g c = unplaced (IsDialAt c.args.place) c.args.workers (g.P.Plug.dials c.args.plug.now) c.refused.result.hands c.refused.result.refusal c.refused.ensures.nothing.0 c.refused.ensures.refusal
 
 pub returns-in_default-with_capacity-clause-dials : goal.returns-in_default-with_capacity-clause-dials
-returns-in_default-with_capacity-clause-dials g c = unplaced (IsDialAt c.args.place) c.args.workers (g.P.Plug.dials c.args.plug.now) c.refused.result.hands c.refused.result.refusal c.refused.ensures.nothing.0 c.refused.ensures.refusal
+returns-in_default-with_capacity-clause-dials g c = unplaced (IsDialAt c.args.place) c.args.workers (g.P.Plug.dials c.args.plug.now) c.refused-in_default-with_capacity.result.hands c.refused-in_default-with_capacity.result.refusal c.refused-in_default-with_capacity.ensures.nothing.0 c.refused-in_default-with_capacity.ensures.refusal
