@@ -1,7 +1,8 @@
-ghost use Rattle.std.specs.Prelude.{◌≡◌, ◌≤◌, ◌<◌, ◌^◌, [], Some, None, IfOk};
+ghost use Rattle.std.specs.Prelude.{◌≡◌, ℕ, ◌≤◌, ◌<◌, ◌^◌, List as Items, [], Some, None, IfOk};
 ghost use Rattle.std.specs.Option.{ForSome, option_copied};
 ghost use Rattle.engine_plugs.specs.MainHands.{IsFresh, IsSocketHand, no_engine};
-ghost use Rattle.outside_api.specs.Clock.{new_clock};
+ghost use Rattle.engine_types.specs.declared.Exchange.{Exchange};
+ghost use Rattle.outside_api.specs.Clock.{Clock, new_clock};
 ghost use Rattle.outside_api.specs.Hands.{BeginsWith, HeardNothing};
 ghost use Rattle.outside_api.specs.Plugs.{AddsDial, CountsDial, dial_of};
 ghost use Rattle.outside_files.specs.Counts.{Rose};
@@ -47,22 +48,33 @@ impl<'r, R: Wait + Sync> MainPlug<'r, R> {
             dialled: 0,
         }
     }
+}
 
-    /// A new hand that speaks with the Engine of a target.
+impl<'r, R> MainPlug<'r, R> {
+    /// A new hand that speaks with the Engine of a target. What it tells is said by its variants, and not as of a `Hand`: that asks of
+    /// the handle what a method of a plug doesn't know of it.
     fn hand_for(
         &mut self,
         alloc: Global,
         target: &Target,
         stop_file: Option<&Text>,
     ) -> Result<MainHand<'r, R>, Memory>
-        ensures log { IfOk result (λ hand.
-            ⟦<MainHand<'r, R> as Hand>⟧.log hand ≡ []) }
-        ensures heard { IfOk result (λ hand.
-            HeardNothing (⟦<MainHand<'r, R> as Hand>⟧.heard hand)) }
-        ensures clock { IfOk result (λ hand.
-            ⟦<MainHand<'r, R> as Hand>⟧.clock hand ≡ new_clock) }
-        ensures faults { IfOk result (λ hand.
-            ⟦<MainHand<'r, R> as Hand>⟧.faults hand ≡ 0) }
+        ensures log { IfOk result (λ hand. (elim hand as (λ _. Items Exchange) [
+          | MainHand.Http http ↦ ⟦<HttpHand<SocketWire<'r>> as Hand>⟧.log http
+          | MainHand.Memory memory ↦ log_of memory
+        ]) ≡ []) }
+        ensures heard { IfOk result (λ hand. HeardNothing (elim hand [
+          | MainHand.Http http ↦ ⟦<HttpHand<SocketWire<'r>> as Hand>⟧.heard http
+          | MainHand.Memory memory ↦ None
+        ])) }
+        ensures clock { IfOk result (λ hand. (elim hand as (λ _. Clock) [
+          | MainHand.Http http ↦ ⟦<HttpHand<SocketWire<'r>> as Hand>⟧.clock http
+          | MainHand.Memory memory ↦ clock_of memory
+        ]) ≡ new_clock) }
+        ensures faults { IfOk result (λ hand. (elim hand as (λ _. ℕ) [
+          | MainHand.Http http ↦ ⟦<HttpHand<SocketWire<'r>> as Hand>⟧.faults http
+          | MainHand.Memory memory ↦ 0
+        ]) ≡ 0) }
         ensures made { IfOk result (λ hand. elim hand [
           | MainHand.Http http ↦ IsSocketHand target.now (option_copied stop_file.entry)
               (path_of http.wire) (stop_file_of http.wire)
@@ -79,9 +91,7 @@ impl<'r, R: Wait + Sync> MainPlug<'r, R> {
             Target::InMemory => Ok(MainHand::Memory(self.memory_hand(alloc)?)),
         }
     }
-}
 
-impl<'r, R> MainPlug<'r, R> {
     /// A new hand that shares the Engine in memory.
     fn memory_hand(&mut self, alloc: Global) -> Result<SharedHand<'r, R>, Memory>
         ensures log { IfOk result (λ hand. log_of hand ≡ []) }
@@ -152,9 +162,9 @@ impl<'r, R: Wait + Sync> Plug for MainPlug<'r, R> {
               | MainHand.Memory memory ↦ target.now ≡ Target.InMemory
             ] }
     {
-        if note_dial(alloc, &mut self.dials, target, stop_file, number).is_err() {
+        let Ok(()) = note_dial(alloc, &mut self.dials, target, stop_file, number) else {
             return DialAnswer::Memory;
-        }
+        };
         match self.hand_for(alloc, target, stop_file) {
             Ok(hand) => {
                 self.dialled += 1;
