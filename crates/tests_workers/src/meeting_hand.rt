@@ -18,7 +18,7 @@ pub(crate) struct MeetingHand<'r, R> {
     has_met: bool,
 }
 
-impl<'r, R: Wait + Sync + Clock> MeetingHand<'r, R> {
+impl<'r, R: Wait + Clock> MeetingHand<'r, R> {
     /// The same hand, which meets the others as the one with this number.
     pub(crate) fn new(
         rt: &'r R,
