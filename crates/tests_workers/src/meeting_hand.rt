@@ -26,7 +26,7 @@ impl<'r, R: Wait + Clock> MeetingHand<'r, R> {
         meeting: Arc<Meeting>,
         number: u32,
     ) -> MeetingHand<'r, R>
-        ensures { result.hand ≡ hand }
+        ensures { result.hand ≡ hand.entry }
     {
         MeetingHand {
             rt,

@@ -1,6 +1,6 @@
 //! Runs of several workers, without the call around them.
 
-ghost use Rattle.std.specs.Prelude.{◌≡◌, ◌<◌, ◌≤◌, ◌^◌, None, Some, All, IfOk, IfSome, length};
+ghost use Rattle.std.specs.Prelude.{◌≡◌, ◌+◌, ◌<◌, ◌≤◌, ◌^◌, None, Some, All, IfOk, IfSome, length};
 ghost use Rattle.outside_api.specs.Clock.{new_clock};
 ghost use Rattle.plan_core.specs.Order.{HasNoCycle};
 ghost use Rattle.run_laws.specs.Orders.{NeedsDependencies};
