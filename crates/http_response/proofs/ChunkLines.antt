@@ -52,21 +52,21 @@ not_found part old new a b f g end good worse le h as_that =
     refuses (λ (k : ℕ). IsFilled old new n e × (part (left old ++ n) ≡ ends k)) (good n e) (MissesEnd (part (left old ++ n)) (old.ended || e)) (worse n e)
     f f g end (omega arith) le r (as_that n e))
 
-line_misses : (at before : ℕ) (bytes : List ℕ) (ended : Bool) (cause : WireEnd) → MissesEnd (chunk_line_part bytes) ended cause → BreaksChunk at before bytes ended cause
-line_misses at before bytes ended WireEnd.Ended m = line_cut at before bytes ended m.0 m.1
-line_misses at before bytes ended WireEnd.TooLarge m = line_long at before bytes ended m
-line_misses at before bytes ended (WireEnd.Malformed k) m = absurd m
-line_misses at before bytes ended WireEnd.Encoded m = absurd m
-line_misses at before bytes ended WireEnd.Fault m = absurd m
-line_misses at before bytes ended WireEnd.BadBody m = absurd m
+line_misses : (at before framed : ℕ) (bytes : List ℕ) (ended : Bool) (cause : WireEnd) → MissesEnd (chunk_line_part bytes) ended cause → BreaksChunk at before framed bytes ended cause
+line_misses at before framed bytes ended WireEnd.Ended m = line_cut at before framed bytes ended m.0 m.1
+line_misses at before framed bytes ended WireEnd.TooLarge m = line_long at before framed bytes ended m
+line_misses at before framed bytes ended (WireEnd.Malformed k) m = absurd m
+line_misses at before framed bytes ended WireEnd.Encoded m = absurd m
+line_misses at before framed bytes ended WireEnd.Fault m = absurd m
+line_misses at before framed bytes ended WireEnd.BadBody m = absurd m
 
 pub size_lost : (old new : Stock) (a b : Option Talk) (f g : ℕ) (end : ResponseEnd) → f ≤ g → Hears a b (FindsEndBy chunk_line_part old new f g (Err end))
     → Hears a b (ReadsSizeBy old new f g (Err end))
 size_lost old new a b f g end le h =
     not_found chunk_line_part old new a b f g end (λ (n : List ℕ) (e : Bool). IsPastLine old new (left old ++ n) (old.ended || e))
-    (λ (n : List ℕ) (e : Bool) (cause : WireEnd). (before : ℕ) → place old < 2 ^ 64 → BreaksChunk (place old) before (left old ++ n) (old.ended || e) cause) le h
+    (λ (n : List ℕ) (e : Bool) (cause : WireEnd). (before framed : ℕ) → place old < 2 ^ 64 → BreaksChunk (place old) before framed (left old ++ n) (old.ended || e) cause) le h
     (λ (n : List ℕ) (e : Bool) (cause : WireEnd) (m : MissesEnd (chunk_line_part (left old ++ n)) (old.ended || e) cause).
-    λ (before : ℕ) (small : place old < 2 ^ 64). line_misses (place old) before (left old ++ n) (old.ended || e) cause m)
+    λ (before framed : ℕ) (small : place old < 2 ^ 64). line_misses (place old) before framed (left old ++ n) (old.ended || e) cause m)
 
 -- ---- the line that was found
 
@@ -111,7 +111,7 @@ module _ (old mid : Stock) (a b : Option Talk) (f g end : ℕ) (found : Hears a 
           let w = fits.1 in
           omega (arith, e, p, l, w)
 
-      pub size_read : (last : Stock) → left last ≡ drop len (left mid) → place last ≡ place mid + len → last.ended ≡ mid.ended → Hears a b (ReadsSizeBy old last f g (Ok size))
+      pub size_read : (last : Stock) → left last ≡ drop len (left mid) → place last ≡ place mid + len → last.ended ≡ mid.ended → Hears a b (ReadsSizeBy old last f g (Ok (record { size = size; length = len })))
       size_read last left_is place_is ended_is = record {
         more = found.more;
         found_end = found.found_end;
@@ -130,6 +130,7 @@ module _ (old mid : Stock) (a b : Option Talk) (f g end : ℕ) (found : Hears a 
             within = let p = printed_fits in let w = fits.0 in omega (arith, p, w);
           };
           size_is = at.size_is;
+          length_is = at.len_is;
           ended_is = ended_is ∙ found.comes.0.ended_is;
           place_is = λ (small : place old < 2 ^ 64). let p = found.comes.0.place_is small in let l = at.len_is in omega (arith, p, l, place_is);
         };
@@ -140,11 +141,11 @@ module _ (old mid : Stock) (a b : Option Talk) (f g end : ℕ) (found : Hears a 
       more = found.more;
       found_end = found.found_end;
       heard = found.heard;
-      comes = λ (before : ℕ) (small : place old < 2 ^ 64).
+      comes = λ (before framed : ℕ) (small : place old < 2 ^ 64).
           let same : place mid ≡ place old = found.comes.0.place_is small in
           let is_at : at ≡ place old = there (subst (λ (p : ℕ). p < 2 ^ 64) (sym same) small) ∙ same in
-          subst (λ (p : ℕ). BreaksChunk (place old) before tail (old.ended || found.found_end) (WireEnd.Malformed p)) (sym is_at)
-          (line_bad (place old) before end tail (old.ended || found.found_end) found.comes.1 (subst HasNoChunkLine bytes_are none));
+          subst (λ (p : ℕ). BreaksChunk (place old) before framed tail (old.ended || found.found_end) (WireEnd.Malformed p)) (sym is_at)
+          (line_bad (place old) before framed end tail (old.ended || found.found_end) found.comes.1 (subst HasNoChunkLine bytes_are none));
     }
 
 pub never_line : (bytes : List ℕ) → NeverHasChunkLine bytes → HasNoChunkLine bytes

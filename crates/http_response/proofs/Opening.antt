@@ -2,7 +2,7 @@
 use Rattle.std.proofs.Common.{◌≡◌, ℕ, ◌+◌, ◌<◌, ◌||◌, ◌==◌, ◌^◌, Bool, true, false, if◌then◌else◌, List, [], ◌++◌, length, Option, Some, refl, sym, ap, ◌∙◌, subst, inl, arith, true≢false}
 use Rattle.std.proofs.lemmas.List.{length-append}
 use Rattle.std.specs.Prelude.{Err, IsTrue, Ok}
-use Rattle.tree_base.specs.Limits.{most_body_bytes}
+use Rattle.tree_base.specs.Limits.{most_body_bytes, most_framing_bytes}
 use Rattle.engine_types.specs.declared.WireEnd.{WireEnd}
 use Rattle.httparse.specs.Grammar.{print_response, status_code}
 use Rattle.outside_api.specs.Pipes.{Talk}
@@ -33,7 +33,7 @@ ends_by good read ended f g WireEnd.Encoded c = c
 ends_by good read ended f g WireEnd.TooLarge c = c
 
 no_chunks : AreChunks []
-no_chunks = record { each = λ (k : ℕ) (d : Chunk) (l : k < 0). absurd (omega arith); within = omega arith }
+no_chunks = record { each = λ (k : ℕ) (d : Chunk) (l : k < 0). absurd (omega arith); within = omega arith; framed = omega arith }
 
 module _ (old new : Stock) (found : Head) (more : List ℕ) (found_end : Bool) (p : IsPastHead old new more found_end found) (first : place old ≡ 0) where
   abbrev opened : Rest → OpenBody
@@ -101,7 +101,7 @@ module _ (old new : Stock) (found : Head) (more : List ℕ) (found_end : Bool) (
   by_framing ReadFraming.ToEnd e body = with_rest (Rest.ToEnd most_body_bytes) refl body (e, refl, refl)
   by_framing (ReadFraming.Sized n) e body =
       with_rest (Rest.Sized n) refl body (e ∙ ap (λ (m : ℕ). Some (sized m)) (let z : n ≡ 0 + n = omega arith in z), refl)
-  by_framing ReadFraming.Chunked e body = with_rest (Rest.Chunks most_body_bytes) refl body (e, refl, ([], no_chunks, refl, refl))
+  by_framing ReadFraming.Chunked e body = with_rest (Rest.Chunks most_body_bytes most_framing_bytes) refl body (e, refl, ([], no_chunks, refl, refl, refl))
 
   pub is_opened : IsOpen (opened (opening found.status found.framing)) more found_end []
   is_opened = by (found.status == 204 || found.status == 304) refl

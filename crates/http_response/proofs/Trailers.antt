@@ -1,5 +1,5 @@
 -- The lines behind a last chunk: looked for while more is read, and then parsed.
-use Rattle.std.proofs.Common.{◌≡◌, ◌≢◌, ℕ, ◌<◌, ◌≤◌, ◌||◌, ◌^◌, Bool, false, List, [], ◌++◌, length, take, drop, Option, refl, sym, ap, ◌∙◌, subst, arith, append_assoc}
+use Rattle.std.proofs.Common.{◌≡◌, ◌≢◌, ℕ, ◌+◌, ◌<◌, ◌≤◌, ◌||◌, ◌^◌, Bool, false, List, [], ◌++◌, length, take, drop, Option, refl, sym, ap, ◌∙◌, subst, arith, append_assoc}
 use Rattle.std.proofs.lemmas.List.{append-nil, length-map, length-take-le, take-append-drop}
 use Rattle.std.specs.Prelude.{Err, Ok}
 use Rattle.tree_base.specs.Limits.{most_head_bytes, most_header_lines}
@@ -9,12 +9,12 @@ use Rattle.httparse.specs.Spans.{IsSectionAt, IsSectionWithin, SectionExceeds, h
 use Rattle.httparse.specs.declared.Error.{Error}
 use Rattle.httparse.specs.declared.spans.HeaderSpan.{HeaderSpan}
 use Rattle.outside_api.specs.Pipes.{Talk}
-use Rattle.response_rules.specs.Chunks.{BeginsWithTrailer, BreaksTrailer, bad, cut, long}
+use Rattle.response_rules.specs.Chunks.{BeginsWithTrailer, BreaksTrailer, bad, cut, long, past_framing}
 use Rattle.response_rules.specs.Lines.{Part, ends, filled_lines, passed, trailer_part, unfinished, whole_lines}
 use Rattle.http_heads.specs.Searches.{HasFollowed, part_told, searched_part}
 use Rattle.http_heads.specs.declared.line_search.LineSearch.{LineSearch}
 use Rattle.http_heads.specs.declared.line_search.SearchAnswer.{SearchAnswer}
-use Rattle.http_response.specs.ChunksRead.{ReadsTrailerBy}
+use Rattle.http_response.specs.ChunksRead.{LeavesRoom, ReadsTrailerBy}
 use Rattle.http_response.specs.Hearing.{Hears}
 use Rattle.http_response.specs.Stocks.{FindsEndBy, IsFilled, MissesEnd, left, place}
 use Rattle.http_response.specs.declared.response.ResponseEnd.{ResponseEnd}
@@ -41,21 +41,22 @@ told_trailer answer leading bytes now exact behind is =
 pub trailer_open : (bytes : List ℕ) → trailer_part bytes ≡ unfinished → length bytes ≤ 65536
 trailer_open bytes going = open_within most_head_bytes most_header_lines 0 (filled_lines (whole_lines bytes)) bytes going
 
-trailer_misses : (at : ℕ) (bytes : List ℕ) (ended : Bool) (cause : WireEnd) → MissesEnd (trailer_part bytes) ended cause → BreaksTrailer at bytes ended cause
-trailer_misses at bytes ended WireEnd.Ended m = cut at bytes ended m.0 m.1
-trailer_misses at bytes ended WireEnd.TooLarge m = long at bytes ended m
-trailer_misses at bytes ended (WireEnd.Malformed k) m = absurd m
-trailer_misses at bytes ended WireEnd.Encoded m = absurd m
-trailer_misses at bytes ended WireEnd.Fault m = absurd m
-trailer_misses at bytes ended WireEnd.BadBody m = absurd m
+trailer_misses : (at framed : ℕ) (bytes : List ℕ) (ended : Bool) (cause : WireEnd) → MissesEnd (trailer_part bytes) ended cause → BreaksTrailer at framed bytes ended cause
+trailer_misses at framed bytes ended WireEnd.Ended m = cut at framed bytes ended m.0 m.1
+trailer_misses at framed bytes ended WireEnd.TooLarge m = long at framed bytes ended m
+trailer_misses at framed bytes ended (WireEnd.Malformed k) m = absurd m
+trailer_misses at framed bytes ended WireEnd.Encoded m = absurd m
+trailer_misses at framed bytes ended WireEnd.Fault m = absurd m
+trailer_misses at framed bytes ended WireEnd.BadBody m = absurd m
 
-pub trailer_lost : (old new : Stock) (a b : Option Talk) (f g : ℕ) (end : ResponseEnd) → f ≤ g → Hears a b (FindsEndBy trailer_part old new f g (Err end))
-    → Hears a b (ReadsTrailerBy old new f g (Err end))
-trailer_lost old new a b f g end le h =
-    not_found trailer_part old new a b f g end (λ (n : List ℕ) (e : Bool) (done : Unit {0}). BeginsWithTrailer (left old ++ n) × (new.ended ≡ (old.ended || e)))
-    (λ (n : List ℕ) (e : Bool) (cause : WireEnd). place old < 2 ^ 64 → BreaksTrailer (place old) (left old ++ n) (old.ended || e) cause) le h
+pub trailer_lost : (room : ℕ) (old new : Stock) (a b : Option Talk) (f g : ℕ) (end : ResponseEnd) → f ≤ g → Hears a b (FindsEndBy trailer_part old new f g (Err end))
+    → Hears a b (ReadsTrailerBy room old new f g (Err end))
+trailer_lost room old new a b f g end le h =
+    not_found trailer_part old new a b f g end
+    (λ (n : List ℕ) (e : Bool) (done : Unit {0}). ((framed : ℕ) → LeavesRoom framed room → BeginsWithTrailer framed (left old ++ n)) × (new.ended ≡ (old.ended || e)))
+    (λ (n : List ℕ) (e : Bool) (cause : WireEnd). (framed : ℕ) → LeavesRoom framed room → place old < 2 ^ 64 → BreaksTrailer (place old) framed (left old ++ n) (old.ended || e) cause) le h
     (λ (n : List ℕ) (e : Bool) (cause : WireEnd) (m : MissesEnd (trailer_part (left old ++ n)) (old.ended || e) cause).
-    λ (small : place old < 2 ^ 64). trailer_misses (place old) (left old ++ n) (old.ended || e) cause m)
+    λ (framed : ℕ) (leaves : LeavesRoom framed room) (small : place old < 2 ^ 64). trailer_misses (place old) framed (left old ++ n) (old.ended || e) cause m)
 
 -- ---- the lines that were found
 
@@ -65,6 +66,16 @@ module _ (old mid : Stock) (a b : Option Talk) (f g end : ℕ) (found : Hears a 
 
   ending : EndsWithin most_head_bytes most_header_lines (filled_lines (whole_lines tail)) end tail
   ending = ends_within most_head_bytes most_header_lines 0 (filled_lines (whole_lines tail)) tail end found.comes.1
+
+  -- they are past the room that is left
+  pub trailer_over : (room : ℕ) → room < end → Hears a b (ReadsTrailerBy room old mid f g (Err (ResponseEnd.Wire WireEnd.TooLarge)))
+  trailer_over room over = record {
+    more = found.more;
+    found_end = found.found_end;
+    heard = found.heard;
+    comes = λ (framed : ℕ) (leaves : LeavesRoom framed room) (small : place old < 2 ^ 64).
+        past_framing (place old) framed end tail (old.ended || found.found_end) found.comes.1 (omega (arith, leaves, over));
+  }
 
   pub trailer_end_fits : (bytes : List ℕ) → bytes ≡ left mid → end ≤ length bytes
   trailer_end_fits bytes is = subst (λ (l : List ℕ). end ≤ length l) (sym (is ∙ found.comes.0.left_is)) ending.within
@@ -94,13 +105,13 @@ module _ (old mid : Stock) (a b : Option Talk) (f g end : ℕ) (found : Hears a 
           let fit = inside.count_fits in
           omega (arith, many, short, fit, room)
 
-      pub trailer_read : (new : Stock) → new.ended ≡ mid.ended → Hears a b (ReadsTrailerBy old new f g (Ok tt))
-      trailer_read new ended_is = record {
+      pub trailer_read : (space : ℕ) → end ≤ space → (new : Stock) → new.ended ≡ mid.ended → Hears a b (ReadsTrailerBy space old new f g (Ok tt))
+      trailer_read space fits new ended_is = record {
         more = found.more;
         found_end = found.found_end;
         heard = found.heard;
         comes = (
-          record {
+          λ (framed : ℕ) (leaves : LeavesRoom framed space). record {
             fields = fields;
             last = last;
             rest = drop len bytes ++ drop end tail;
@@ -116,22 +127,27 @@ module _ (old mid : Stock) (a b : Option Talk) (f g end : ℕ) (found : Hears a 
                 let s = as_long in
                 let w = ending.small in
                 omega (arith, l, i, s, w);
+            framed_within =
+                let l = at.len_is in
+                let i = inside.len_fits in
+                let s = as_long in
+                omega (arith, l, i, s, fits, leaves);
           },
           ended_is ∙ found.comes.0.ended_is,
         );
       }
 
-    pub trailer_wrong : (at : ℕ) → (place mid < 2 ^ 64 → at ≡ place mid) → HasNoSection bytes → (last : Stock)
-        → Hears a b (ReadsTrailerBy old last f g (Err (ResponseEnd.Wire (WireEnd.Malformed at))))
-    trailer_wrong at there none last = record {
+    pub trailer_wrong : (room : ℕ) → end ≤ room → (at : ℕ) → (place mid < 2 ^ 64 → at ≡ place mid) → HasNoSection bytes → (last : Stock)
+        → Hears a b (ReadsTrailerBy room old last f g (Err (ResponseEnd.Wire (WireEnd.Malformed at))))
+    trailer_wrong room fits at there none last = record {
       more = found.more;
       found_end = found.found_end;
       heard = found.heard;
-      comes = λ (small : place old < 2 ^ 64).
+      comes = λ (framed : ℕ) (leaves : LeavesRoom framed room) (small : place old < 2 ^ 64).
           let same : place mid ≡ place old = found.comes.0.place_is small in
           let is_at : at ≡ place old = there (subst (λ (p : ℕ). p < 2 ^ 64) (sym same) small) ∙ same in
-          subst (λ (p : ℕ). BreaksTrailer (place old) tail (old.ended || found.found_end) (WireEnd.Malformed p)) (sym is_at)
-          (bad (place old) end tail (old.ended || found.found_end) found.comes.1 (subst HasNoSection bytes_are none));
+          subst (λ (p : ℕ). BreaksTrailer (place old) framed tail (old.ended || found.found_end) (WireEnd.Malformed p)) (sym is_at)
+          (bad (place old) framed end tail (old.ended || found.found_end) found.comes.1 (omega (arith, leaves, fits)) (subst HasNoSection bytes_are none));
     }
 
     -- more lines than there is room for never come

@@ -58,8 +58,8 @@ given_by Rest.Nothing framing encoded at bytes given behind read ended status so
 given_by (Rest.Sized more) framing encoded at bytes given behind read ended status sound g whole =
     let w = sized_within (length given + more) framing encoded g.0 sound in omega (arith, w)
 given_by (Rest.ToEnd room) framing encoded at bytes given behind read ended status sound g whole = let w = g.2 in omega (arith, w)
-given_by (Rest.Chunks room) framing encoded at bytes given behind read ended status sound g whole = let w = g.1 in omega (arith, w)
-given_by (Rest.Chunk more place room) framing encoded at bytes given behind read ended status sound g whole =
+given_by (Rest.Chunks room lines) framing encoded at bytes given behind read ended status sound g whole = let w = g.1 in omega (arith, w)
+given_by (Rest.Chunk more place room lines) framing encoded at bytes given behind read ended status sound g whole =
     let e = ap length g.1.given_is in
     let l = length-append (body_of g.1.chunks) g.1.part in
     let s = g.1.size in

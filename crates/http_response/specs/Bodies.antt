@@ -1,10 +1,10 @@
 -- How far a response whose body is read in pieces was read (RFC 9112, sections 6 and 7).
 use Rattle.std.specs.Prelude.{◌≡◌, ℕ, ◌+◌, ◌<◌, ◌||◌, ◌==◌, if◌then◌else◌, Bool, true, false, List, [], ◌++◌, length, Option, Some, None, Result, Ok, Err, IsFalse}
-use Rattle.tree_base.specs.Limits.{most_body_bytes}
+use Rattle.tree_base.specs.Limits.{most_body_bytes, most_framing_bytes}
 use Rattle.httparse.specs.Grammar.{ChunkLine, ResponseHead, chunk_size, print_chunk_line, print_response, status_code}
 use Rattle.outside_api.specs.Pipes.{Talk}
 use Rattle.response_rules.specs.Heads.{Framing, chunked, framing_of, has_no_body, head_fault, is_interim, sized, to_end}
-use Rattle.response_rules.specs.Chunks.{AreChunks, BeginsWithLine, Chunk, body_of, print_chunks}
+use Rattle.response_rules.specs.Chunks.{AreChunks, BeginsWithLine, Chunk, body_of, framing_bytes, print_chunks}
 use Rattle.response_rules.specs.Responses.{BeginsWithHead, Breaks, IsResponse, print_heads}
 use Rattle.http_response.specs.Hearing.{ComesTo, Heard}
 use Rattle.http_response.specs.Reading.{EndsBy}
@@ -15,7 +15,7 @@ use Rattle.http_fields.specs.declared.fields.Framing.{Framing as ReadFraming}
 use Rattle.http_response.specs.declared.response.ResponseEnd.{ResponseEnd}
 
 -- whole chunks, and then the line of one more with a part of its bytes
-pub record IsInChunk (at : ℕ) (rest given behind : List ℕ) (more place room : ℕ) : Type 0 where
+pub record IsInChunk (at : ℕ) (rest given behind : List ℕ) (more place room lines : ℕ) : Type 0 where
   pub chunks : List Chunk
   pub line : ChunkLine
   pub part : List ℕ
@@ -26,6 +26,7 @@ pub record IsInChunk (at : ℕ) (rest given behind : List ℕ) (more place room 
   pub size : chunk_size line ≡ length part + more
   pub some : 0 < chunk_size line
   pub room_is : length (body_of chunks) + chunk_size line + room ≡ most_body_bytes
+  pub lines_are : framing_bytes chunks + (length (print_chunk_line line) + 2) + lines ≡ most_framing_bytes
   pub place_is : place ≡ at + length (print_chunks chunks)
 
 -- of a body whose bytes begin at a place, these were given, these stand behind them, and so much is
@@ -36,17 +37,18 @@ IsGiven (Rest.Sized more) framing at rest given behind =
     (framing ≡ Some (sized (length given + more))) × (rest ≡ given ++ behind)
 IsGiven (Rest.ToEnd room) framing at rest given behind =
     (framing ≡ Some to_end) × (rest ≡ given ++ behind) × (length given + room ≡ most_body_bytes)
-IsGiven (Rest.Chunks room) framing at rest given behind =
+IsGiven (Rest.Chunks room lines) framing at rest given behind =
     (framing ≡ Some chunked) × (length given + room ≡ most_body_bytes)
-    × ((chunks : List Chunk) × AreChunks chunks × (rest ≡ print_chunks chunks ++ behind) × (given ≡ body_of chunks))
-IsGiven (Rest.Chunk more place room) framing at rest given behind =
-    (framing ≡ Some chunked) × IsInChunk at rest given behind more place room
+    × ((chunks : List Chunk) × AreChunks chunks × (rest ≡ print_chunks chunks ++ behind) × (given ≡ body_of chunks)
+    × (framing_bytes chunks + lines ≡ most_framing_bytes))
+IsGiven (Rest.Chunk more place room lines) framing at rest given behind =
+    (framing ≡ Some chunked) × IsInChunk at rest given behind more place room lines
 
 -- what is to come of a body behind a head of this framing
 abbrev pub opening_framed : ReadFraming → Rest
 opening_framed ReadFraming.ToEnd = Rest.ToEnd most_body_bytes
 opening_framed (ReadFraming.Sized n) = Rest.Sized n
-opening_framed ReadFraming.Chunked = Rest.Chunks most_body_bytes
+opening_framed ReadFraming.Chunked = Rest.Chunks most_body_bytes most_framing_bytes
 
 -- the same where the status may say by itself that there is none (RFC 9112, section 6.3)
 abbrev pub opening : ℕ → ReadFraming → Rest

@@ -1,4 +1,5 @@
 -- What is read of chunk lines, of what stands behind a chunk, and of the lines behind the last (RFC 9112, section 7.1).
+use Rattle.tree_base.specs.Limits.{most_framing_bytes}
 use Rattle.std.specs.Prelude.{◌≡◌, ◌≢◌, ℕ, ◌+◌, ◌<◌, ◌≤◌, ◌^◌, ◌||◌, Bool, List, ◌++◌, length, take, Result, IsTrue}
 use Rattle.engine_types.specs.declared.WireEnd.{WireEnd}
 use Rattle.httparse.specs.Ascii.{crlf_bytes}
@@ -6,24 +7,27 @@ use Rattle.httparse.specs.Grammar.{ChunkLine, chunk_size, print_chunk_line}
 use Rattle.response_rules.specs.Chunks.{BeginsWithLine, BeginsWithTrailer, BreaksChunk, BreaksTrailer}
 use Rattle.http_response.specs.Hearing.{ComesTo}
 use Rattle.http_response.specs.Stocks.{left, place}
+use Rattle.http_response.specs.declared.chunks.LineRead.{LineRead}
 use Rattle.http_response.specs.declared.response.ResponseEnd.{ResponseEnd}
 use Rattle.http_response.specs.declared.stock.Stock.{Stock}
 
--- these bytes begin with a chunk line of this size, and what stands behind it is left
-pub record IsPastLine (old new : Stock) (read : List ℕ) (ended : Bool) (size : ℕ) : Type 0 where
+-- these bytes begin with a chunk line of this size and this length, and what stands behind it is left
+pub record IsPastLine (old new : Stock) (read : List ℕ) (ended : Bool) (found : LineRead) : Type 0 where
   pub line : ChunkLine
   pub begins : BeginsWithLine read line (left new)
-  pub size_is : size ≡ chunk_size line
+  pub size_is : found.size ≡ chunk_size line
+  pub length_is : found.length ≡ length (print_chunk_line line)
   pub ended_is : new.ended ≡ ended
   pub place_is : place old < 2 ^ 64 → place new ≡ place old + length (print_chunk_line line)
 
 -- the line of the next chunk is read; what it is not breaks the chunk, behind however many bytes of
--- the body
-abbrev pub ReadsSizeBy : Stock → Stock → ℕ → ℕ → Result ℕ ResponseEnd → List ℕ → Bool → Type 0
+-- the body and of its framing
+abbrev pub ReadsSizeBy : Stock → Stock → ℕ → ℕ → Result LineRead ResponseEnd → List ℕ → Bool → Type 0
 ReadsSizeBy old new f g answer more found_end =
     ComesTo (IsPastLine old new (left old ++ more) (old.ended || found_end))
-    (λ cause. (before : ℕ) → place old < 2 ^ 64
-    → BreaksChunk (place old) before (left old ++ more) (old.ended || found_end) cause) f g answer
+    (λ cause. (before framed : ℕ) → place old < 2 ^ 64
+    → BreaksChunk (place old) before framed (left old ++ more) (old.ended || found_end) cause)
+    f g answer
 
 -- these bytes begin with a CRLF, and what stands behind it is left
 pub record IsPastEnd (old new : Stock) (read : List ℕ) (ended : Bool) : Type 0 where
@@ -44,11 +48,17 @@ ReadsEndBy at old new f g answer more found_end =
     ComesTo (λ (done : Unit {0}). IsPastEnd old new (left old ++ more) (old.ended || found_end))
     (BreaksEnd at (left old ++ more) (old.ended || found_end)) f g answer
 
--- the lines behind the last chunk are read
-abbrev pub ReadsTrailerBy : Stock → Stock → ℕ → ℕ → Result Unit ResponseEnd → List ℕ → Bool → Type 0
-ReadsTrailerBy old new f g answer more found_end =
+-- behind so many bytes of framing, there is this room for more of it
+abbrev pub LeavesRoom : ℕ → ℕ → Type 0
+LeavesRoom framed room = framed + room ≡ most_framing_bytes
+
+-- the lines behind the last chunk are read, where there is this room for them
+abbrev pub ReadsTrailerBy : ℕ → Stock → Stock → ℕ → ℕ → Result Unit ResponseEnd → List ℕ → Bool → Type 0
+ReadsTrailerBy room old new f g answer more found_end =
     ComesTo
-    (λ (done : Unit {0}). BeginsWithTrailer (left old ++ more)
+    (λ (done : Unit {0}). ((framed : ℕ) → LeavesRoom framed room
+    → BeginsWithTrailer framed (left old ++ more))
     × (new.ended ≡ (old.ended || found_end)))
-    (λ cause. place old < 2 ^ 64
-    → BreaksTrailer (place old) (left old ++ more) (old.ended || found_end) cause) f g answer
+    (λ cause. (framed : ℕ) → LeavesRoom framed room → place old < 2 ^ 64
+    → BreaksTrailer (place old) framed (left old ++ more) (old.ended || found_end) cause)
+    f g answer

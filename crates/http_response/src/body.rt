@@ -13,7 +13,7 @@ use http_fields::Framing;
 use outside_api::Pipe;
 use std::alloc::Global;
 use tree_base::List;
-use tree_base::limits::MOST_BODY_BYTES;
+use tree_base::limits::{MOST_BODY_BYTES, MOST_FRAMING_BYTES};
 
 /// What is still to come of a body.
 #[derive(Clone, Copy)]
@@ -23,11 +23,19 @@ enum Rest {
     Sized(u64),
     /// All up to the connection's end, of which so many bytes may come.
     ToEnd(u64),
-    /// Chunks, of which so many bytes may come.
-    Chunks(u64),
+    /// Chunks, of which so many bytes may come, and so many of their framing.
+    Chunks {
+        room: u64,
+        lines: u64,
+    },
     /// So many bytes of a chunk whose line begins at a place, the CRLF behind it, and then chunks, of which so many bytes
-    /// may come.
-    Chunk { left: u64, at: u64, more: u64 },
+    /// may come, and so many of their framing.
+    Chunk {
+        left: u64,
+        at: u64,
+        more: u64,
+        lines: u64,
+    },
 }
 
 /// A response whose head is read, and whose body is read in pieces.
@@ -63,7 +71,10 @@ fn rest_of(head: Head) -> Rest
     match head.framing {
         Framing::Sized(length) => Rest::Sized(length),
         Framing::ToEnd => Rest::ToEnd(MOST_BODY_BYTES),
-        Framing::Chunked => Rest::Chunks(MOST_BODY_BYTES),
+        Framing::Chunked => Rest::Chunks {
+            room: MOST_BODY_BYTES,
+            lines: MOST_FRAMING_BYTES,
+        },
     }
 }
 
@@ -79,10 +90,10 @@ impl OpenBody {
     /// the body of a whole response (RFC 9112, section 6.3). The pipe is the one that the response was opened on, and nothing else
     /// was read of it since.
     ///
-    /// `Wire(Ended)` where the connection ended before the body, `Wire(TooLarge)` where a body of more than 16,777,216 bytes, a
-    /// chunk line of more than 65,536 or more than 100 lines behind the last chunk come, `Wire(Malformed)` where chunks aren't
-    /// of the grammar, with the byte at which they aren't, and `Wire(Fault)` where the connection failed. After a refusal nothing
-    /// is put.
+    /// `Wire(Ended)` where the connection ended before the body, `Wire(TooLarge)` where a body of more than 16,777,216 bytes, as
+    /// many of its framing in chunks, a chunk line of more than 65,536 or more than 100 lines behind the last chunk come,
+    /// `Wire(Malformed)` where chunks aren't of the grammar, with the byte at which they aren't, and `Wire(Fault)` where the
+    /// connection failed. After a refusal nothing is put.
     pub fn more<P: Pipe>(
         &mut self,
         alloc: Global,
@@ -99,8 +110,13 @@ impl OpenBody {
             Rest::Nothing => Ok(false),
             Rest::Sized(left) => self.more_sized(alloc, pipe, to, left),
             Rest::ToEnd(room) => self.more_to_end(alloc, pipe, to, room),
-            Rest::Chunks(room) => self.next_chunk(alloc, pipe, to, room),
-            Rest::Chunk { left, at, more } => self.more_of_chunk(alloc, pipe, to, left, at, more),
+            Rest::Chunks { room, lines } => self.next_chunk(alloc, pipe, to, room, lines),
+            Rest::Chunk {
+                left,
+                at,
+                more,
+                lines,
+            } => self.more_of_chunk(alloc, pipe, to, left, at, more, lines),
         }
     }
 
@@ -160,24 +176,30 @@ impl OpenBody {
         pipe: &mut P,
         to: &mut List<u8>,
         room: u64,
+        lines: u64,
     ) -> Result<bool, ResponseEnd>
         ensures counted { P.faults pipe.old ≤ P.faults pipe.new }
         ensures continues { (read : List ℕ) (ended : Bool) (given : List ℕ)
-            → IsOpen (record self.old { rest = Rest.Chunks room }) read ended given
+            → IsOpen (record self.old { rest = Rest.Chunks room lines }) read ended given
             → Continues self.new read ended given to.old to.new (P.talk pipe.old)
             (P.talk pipe.new) (P.faults pipe.old) (P.faults pipe.new) result }
     {
         let at = self.stock.place();
-        let size = read_size(alloc, pipe, &mut self.stock)?;
+        let line = read_size(alloc, pipe, &mut self.stock)?;
+        let framing = line.length.saturating_add(2); // with the line end behind
+        if framing > lines {
+            return Err(ResponseEnd::Wire(WireEnd::TooLarge));
+        }
+        let size = line.size;
         if size > room {
             return Err(ResponseEnd::Wire(WireEnd::TooLarge));
         }
         if size == 0 {
-            read_trailer(alloc, pipe, &mut self.stock)?;
+            read_trailer(alloc, pipe, &mut self.stock, lines - line.length)?;
             self.rest = Rest::Nothing;
             return Ok(false);
         }
-        self.bytes_of_chunk(alloc, pipe, to, size, at, room - size)
+        self.bytes_of_chunk(alloc, pipe, to, size, at, room - size, lines - framing)
     }
 
     fn more_of_chunk<P: Pipe>(
@@ -188,18 +210,19 @@ impl OpenBody {
         left: u64,
         at: u64,
         more: u64,
+        lines: u64,
     ) -> Result<bool, ResponseEnd>
         ensures counted { P.faults pipe.old ≤ P.faults pipe.new }
         ensures continues { (read : List ℕ) (ended : Bool) (given : List ℕ)
-            → IsOpen (record self.old { rest = Rest.Chunk left at more }) read ended given
+            → IsOpen (record self.old { rest = Rest.Chunk left at more lines }) read ended given
             → Continues self.new read ended given to.old to.new (P.talk pipe.old)
             (P.talk pipe.new) (P.faults pipe.old) (P.faults pipe.new) result }
     {
         if left == 0 {
             read_chunk_end(alloc, pipe, &mut self.stock, at)?;
-            return self.next_chunk(alloc, pipe, to, more);
+            return self.next_chunk(alloc, pipe, to, more, lines);
         }
-        self.bytes_of_chunk(alloc, pipe, to, left, at, more)
+        self.bytes_of_chunk(alloc, pipe, to, left, at, more, lines)
     }
 
     fn bytes_of_chunk<P: Pipe>(
@@ -210,11 +233,12 @@ impl OpenBody {
         left: u64,
         at: u64,
         more: u64,
+        lines: u64,
     ) -> Result<bool, ResponseEnd>
         requires some { 0 < left }
         ensures counted { P.faults pipe.old ≤ P.faults pipe.new }
         ensures continues { (read : List ℕ) (ended : Bool) (given : List ℕ)
-            → IsOpen (record self.old { rest = Rest.Chunk left at more }) read ended given
+            → IsOpen (record self.old { rest = Rest.Chunk left at more lines }) read ended given
             → Continues self.new read ended given to.old to.new (P.talk pipe.old)
             (P.talk pipe.new) (P.faults pipe.old) (P.faults pipe.new) result }
     {
@@ -227,6 +251,7 @@ impl OpenBody {
             left: left - count,
             at,
             more,
+            lines,
         };
         Ok(true)
     }

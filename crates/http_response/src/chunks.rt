@@ -14,12 +14,19 @@ use outside_api::Pipe;
 use std::alloc::Global;
 use tree_base::limits::{MOST_HEAD_BYTES, MOST_HEADER_LINES};
 
-/// Reads the line of the next chunk, and how many bytes the chunk has (RFC 9112, section 7.1).
+/// The line of a chunk that was read: how many bytes the chunk has, and how many the line.
+#[derive(Clone, Copy)]
+pub(crate) struct LineRead {
+    pub(crate) size: u64,
+    pub(crate) length: u64,
+}
+
+/// Reads the line of the next chunk (RFC 9112, section 7.1).
 pub(crate) fn read_size<P: Pipe>(
     alloc: Global,
     pipe: &mut P,
     stock: &mut Stock,
-) -> Result<u64, ResponseEnd>
+) -> Result<LineRead, ResponseEnd>
     ensures counted { P.faults pipe.old ≤ P.faults pipe.new }
     ensures reads { Hears (P.talk pipe.old) (P.talk pipe.new)
         (ReadsSizeBy stock.old stock.new (P.faults pipe.old) (P.faults pipe.new) result) }
@@ -29,7 +36,10 @@ pub(crate) fn read_size<P: Pipe>(
     match parse_chunk_size(stock.left().split_at(end).0) {
         Ok(Status::Complete((length, size))) => {
             stock.use_up(length);
-            Ok(size)
+            Ok(LineRead {
+                size,
+                length: length as u64,
+            })
         }
         Ok(Status::Partial) => Err(ResponseEnd::Wire(WireEnd::Malformed { at })),
         Err(_) => Err(ResponseEnd::Wire(WireEnd::Malformed { at })),
@@ -74,17 +84,22 @@ pub(crate) fn read_chunk_end<P: Pipe>(
     Ok(())
 }
 
-/// Reads the lines behind the last chunk, which are header lines, and drops them (RFC 9112, section 7.1.2).
+/// Reads the lines behind the last chunk, which are header lines of so many bytes at most, and drops them (RFC 9112, section
+/// 7.1.2).
 pub(crate) fn read_trailer<P: Pipe>(
     alloc: Global,
     pipe: &mut P,
     stock: &mut Stock,
+    room: u64,
 ) -> Result<(), ResponseEnd>
     ensures counted { P.faults pipe.old ≤ P.faults pipe.new }
     ensures reads { Hears (P.talk pipe.old) (P.talk pipe.new)
-        (ReadsTrailerBy stock.old stock.new (P.faults pipe.old) (P.faults pipe.new) result) }
+        (ReadsTrailerBy room stock.old stock.new (P.faults pipe.old) (P.faults pipe.new) result) }
 {
     let end = trailer_end(alloc, pipe, stock)?;
+    if end as u64 > room {
+        return Err(ResponseEnd::Wire(WireEnd::TooLarge));
+    }
     let at = stock.place();
     let mut headers = [EMPTY_HEADER_SPAN; MOST_HEADER_LINES];
     match parse_headers(stock.left().split_at(end).0, &mut headers) {

@@ -1,11 +1,11 @@
 -- More bytes stand behind what was read of a response, and change nothing of it.
-use Rattle.std.proofs.Common.{◌≡◌, ℕ, Bool, true, false, List, ◌++◌, Option, Some, None, refl, sym, ap, ◌∙◌, inl, inr, arith, append_assoc, true≢false}
+use Rattle.std.proofs.Common.{◌≡◌, ℕ, ◌+◌, Bool, true, false, List, ◌++◌, length, Option, Some, None, refl, sym, ap, ◌∙◌, inl, inr, arith, append_assoc, true≢false}
 use Rattle.std.proofs.lemmas.List.{length-append, take-append-le}
 use Rattle.std.specs.Prelude.{IsSomeAnd}
 use Rattle.engine_types.specs.declared.WireEnd.{WireEnd}
 use Rattle.httparse.specs.Grammar.{ResponseHead, print_chunk_line, print_response, print_section}
 use Rattle.response_laws.proofs.Excluding.{responses_are_one, whole_is_not_broken}
-use Rattle.response_rules.specs.Chunks.{BeginsWithTrailer, IsChunked, print_chunks}
+use Rattle.response_rules.specs.Chunks.{BeginsWithTrailer, IsChunked, framing_bytes, print_chunks}
 use Rattle.response_rules.specs.Heads.{Framing, chunked, framing_of, sized, to_end}
 use Rattle.response_rules.specs.Responses.{BeginsWithHead, Breaks, HasBody, HasBodyOf, IsResponse, print_heads}
 
@@ -23,14 +23,15 @@ head_stays read rest more skipped head b = record {
   within = b.within;
 }
 
-trailer_stays : (bytes more : List ℕ) → BeginsWithTrailer bytes → BeginsWithTrailer (bytes ++ more)
-trailer_stays bytes more t = record {
+trailer_stays : (framed : ℕ) (bytes more : List ℕ) → BeginsWithTrailer framed bytes → BeginsWithTrailer framed (bytes ++ more)
+trailer_stays framed bytes more t = record {
   fields = t.fields;
   last = t.last;
   rest = t.rest ++ more;
   reads = (t.reads.0, ap (λ (l : List ℕ). l ++ more) t.reads.1 ∙ append_assoc (print_section t.fields t.last) t.rest more);
   few = t.few;
   within = t.within;
+  framed_within = t.framed_within;
 }
 
 chunks_stay : (bytes more body : List ℕ) → IsChunked bytes body → IsChunked (bytes ++ more) body
@@ -46,7 +47,8 @@ chunks_stay bytes more body c = record {
     within = c.ends.within;
   };
   no_bytes = c.no_bytes;
-  trailer = trailer_stays c.rest more c.trailer;
+  line_framed = c.line_framed;
+  trailer = trailer_stays (framing_bytes c.chunks + length (print_chunk_line c.line)) c.rest more c.trailer;
   made_of = c.made_of;
 }
 

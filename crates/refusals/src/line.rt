@@ -1,5 +1,6 @@
 ghost use Rattle.std.specs.Prelude.{◌≡◌, ◌++◌, IfOk};
 ghost use Rattle.run_model.specs.Lines.{request_words, cause_words, kind_words, refused_words, lost_words, not_sent_words, outcome_words, seen_words};
+ghost use Rattle.run_model.specs.Shown.{shown};
 ghost use Rattle.engine_types.specs.declared.Outcome.{Outcome};
 ghost use Rattle.engine_types.specs.declared.SeenFault.{SeenFault};
 ghost use Rattle.refusals.specs.declared.refusal.Refusal.{Refusal};
@@ -11,6 +12,7 @@ use crate::refusal::{Part, Refusal, Unbuilt};
 use compose_words::WordsRefusal;
 use engine_types::{Kind, Outcome, Reply, Request, SeenFault, WireEnd};
 use loading_words::{active_words, load_words, project_words};
+use run_lookups::shown;
 use std::alloc::Global;
 use tree_base::{Memory, Text};
 
@@ -71,6 +73,14 @@ pub(crate) fn before_text(alloc: Global, words: &str, text: &Text) -> Result<Tex
     Ok(Text::from_string(all))
 }
 
+/// Words before a text that an Engine sent.
+fn before_shown(alloc: Global, words: &str, text: &Text) -> Result<Text, Memory>
+    ensures { IfOk result (λ all. all ≡ words.now ++ shown text.now) }
+{
+    let text = shown(alloc, text.as_str())?;
+    before_text(alloc, words, &text)
+}
+
 fn fault_words(alloc: Global, part: Part) -> Result<Text, Memory>
     ensures { IfOk result (λ words. words ≡ refusal_words (Refusal.Outside part)) }
 {
@@ -109,6 +119,7 @@ fn pull_words(alloc: Global, image: &Text, message: &Text) -> Result<Text, Memor
     ensures { IfOk result (λ words.
         words ≡ seen_words (SeenFault.PullFailed image.now message.now)) }
 {
+    let message = shown(alloc, message.as_str())?;
     let words = format!(in alloc; "pull {image}: {message}")?;
     Ok(Text::from_string(words))
 }
@@ -117,6 +128,8 @@ fn twice_words(alloc: Global, name: &Text, first: &Text, second: &Text) -> Resul
     ensures { IfOk result (λ words.
         words ≡ seen_words (SeenFault.NetworkTwice name.now first.now second.now)) }
 {
+    let first = shown(alloc, first.as_str())?;
+    let second = shown(alloc, second.as_str())?;
     let words = format!(in alloc; "network {name} is there twice: {first} {second}")?;
     Ok(Text::from_string(words))
 }
@@ -124,6 +137,7 @@ fn twice_words(alloc: Global, name: &Text, first: &Text, second: &Text) -> Resul
 fn foreign_words(alloc: Global, name: &Text, id: &Text) -> Result<Text, Memory>
     ensures { IfOk result (λ words. words ≡ seen_words (SeenFault.ForeignNetwork name.now id.now)) }
 {
+    let id = shown(alloc, id.as_str())?;
     let words = format!(in alloc; "network {name} is foreign: {id}")?;
     Ok(Text::from_string(words))
 }
@@ -207,6 +221,7 @@ fn refused_words(
     ensures { IfOk result (λ words. words ≡ refused_words request.now status message.now) }
 {
     let request = request_words(alloc, request)?;
+    let message = shown(alloc, message)?;
     let words = format!(in alloc; "refused: {request}: {status} {message}")?;
     Ok(Text::from_string(words))
 }
@@ -234,16 +249,16 @@ fn request_words(alloc: Global, request: &Request) -> Result<Text, Memory>
 {
     match request {
         Request::ListContainers { .. } => Text::from_str(alloc, "list containers"),
-        Request::Inspect { id } => before_text(alloc, "inspect container ", id),
-        Request::Logs { id } => before_text(alloc, "logs container ", id),
+        Request::Inspect { id } => before_shown(alloc, "inspect container ", id),
+        Request::Logs { id } => before_shown(alloc, "logs container ", id),
         Request::Create { name, .. } => before_text(alloc, "create container ", name),
-        Request::Start { id } => before_text(alloc, "start container ", id),
-        Request::Stop { id, .. } => before_text(alloc, "stop container ", id),
-        Request::Remove { id } => before_text(alloc, "remove container ", id),
+        Request::Start { id } => before_shown(alloc, "start container ", id),
+        Request::Stop { id, .. } => before_shown(alloc, "stop container ", id),
+        Request::Remove { id } => before_shown(alloc, "remove container ", id),
         Request::ListNetworks => Text::from_str(alloc, "list networks"),
         Request::MakeNetwork { spec } => before_text(alloc, "create network ", &spec.name),
-        Request::Connect { container, .. } => before_text(alloc, "connect container ", container),
-        Request::RemoveNetwork { id } => before_text(alloc, "remove network ", id),
+        Request::Connect { container, .. } => before_shown(alloc, "connect container ", container),
+        Request::RemoveNetwork { id } => before_shown(alloc, "remove network ", id),
         Request::ListVolumes => Text::from_str(alloc, "list volumes"),
         Request::MakeVolume { spec } => before_text(alloc, "create volume ", &spec.name),
         Request::RemoveVolume { name } => before_text(alloc, "remove volume ", name),

@@ -3,9 +3,10 @@ use Rattle.std.proofs.Common.{◌≡◌, ◌⊎◌, ℕ, ◌+◌, ◌<◌, ◌�
 use Rattle.std.proofs.Math.Seq.{drop-append_seam, take-append_seam}
 use Rattle.std.proofs.lemmas.List.{append-nil, length-append}
 use Rattle.std.proofs.lemmas.List.Elements.{All-head, All-tail}
+use Rattle.std.proofs.lemmas.List.Sums.{sum_by-cons}
 use Rattle.std.specs.List.{flat_map}
 use Rattle.std.specs.Prelude.{All, IsFalse, IsSomeAnd, IsTrue}
-use Rattle.tree_base.specs.Limits.{most_body_bytes, most_head_bytes, most_header_lines}
+use Rattle.tree_base.specs.Limits.{most_body_bytes, most_framing_bytes, most_head_bytes, most_header_lines}
 use Rattle.engine_types.specs.declared.Reply.{Reply}
 use Rattle.engine_types.specs.declared.Request.{Request}
 use Rattle.engine_types.specs.declared.WireEnd.{WireEnd}
@@ -14,7 +15,7 @@ use Rattle.httparse.proofs.GrammarLemmas.{response_unique, section_unique}
 use Rattle.httparse.specs.Ascii.{crlf_bytes}
 use Rattle.httparse.specs.Grammar.{ChunkLine, HasNoChunkLine, HasNoResponse, HasNoSection, IsChunkLine, IsResponseHead, ResponseHead, chunk_size, print_chunk_line, print_response, print_section, status_code}
 use Rattle.response_rules.specs.Broken.{HasBadBody, IsBroken, IsReply}
-use Rattle.response_rules.specs.Chunks.{AreChunks, BeginsWithLine, BeginsWithTrailer, BreaksChunk, BreaksChunked, BreaksTrailer, Chunk, IsChunk, IsChunked, bad, body_long, body_of, bytes_cut, cut, end_bad, line_bad, line_cut, line_long, long, print_chunk, print_chunks, trailer}
+use Rattle.response_rules.specs.Chunks.{AreChunks, BeginsWithLine, BeginsWithTrailer, BreaksChunk, BreaksChunked, BreaksTrailer, Chunk, IsChunk, IsChunked, bad, body_long, body_of, bytes_cut, cut, end_bad, framing_bytes, framing_long, line_bad, line_cut, line_long, long, past_framing, print_chunk, print_chunks, trailer}
 use Rattle.response_rules.specs.Heads.{Framing, chunked, fault_by, framing_of, has_no_body, head_fault, is_encoded, is_interim, sized, to_end}
 use Rattle.response_rules.specs.Lines.{Part, chunk_line_part, ends, head_part, passed, trailer_part, unfinished}
 use Rattle.response_rules.specs.Replies.{reply_of}
@@ -157,16 +158,20 @@ interim_has_no_body status e = ap (λ (b : Bool). b || (status == 204 || status 
 
 -- ---- lines after a last chunk
 
-trailer_whole : (at : ℕ) (bytes : List ℕ) (ended : Bool) (cause : WireEnd) → BeginsWithTrailer bytes → BreaksTrailer at bytes ended cause → ⊥
-trailer_whole at bytes ended cause t b = by cause b
+trailer_whole : (at framed : ℕ) (bytes : List ℕ) (ended : Bool) (cause : WireEnd) → BeginsWithTrailer framed bytes → BreaksTrailer at framed bytes ended cause → ⊥
+trailer_whole at framed bytes ended cause t b = by cause b
   where
     part : trailer_part bytes ≡ ends (length (print_section t.fields t.last))
     part = ap trailer_part t.reads.1 ∙ trailer_ends t.fields t.last t.rest t.reads.0 t.few t.within
 
-    by : (why : WireEnd) → BreaksTrailer at bytes ended why → ⊥
-    by _ (cut _ _ _ found_part over) = ends_unfinished (trailer_part bytes) (length (print_section t.fields t.last)) part found_part
-    by _ (long _ _ _ found_part) = ends_passed (trailer_part bytes) (length (print_section t.fields t.last)) part found_part
-    by _ (bad _ n _ _ found_part none) =
+    by : (why : WireEnd) → BreaksTrailer at framed bytes ended why → ⊥
+    by _ (cut _ _ _ _ found_part over) = ends_unfinished (trailer_part bytes) (length (print_section t.fields t.last)) part found_part
+    by _ (long _ _ _ _ found_part) = ends_passed (trailer_part bytes) (length (print_section t.fields t.last)) part found_part
+    by _ (past_framing _ _ n _ _ found_part past) =
+        let one : n ≡ length (print_section t.fields t.last) = ends_once (trailer_part bytes) (length (print_section t.fields t.last)) n part found_part in
+        let w = t.framed_within in
+        omega (arith, one, w, past)
+    by _ (bad _ _ n _ _ found_part fits none) =
         let one : n ≡ length (print_section t.fields t.last) = ends_once (trailer_part bytes) (length (print_section t.fields t.last)) n part found_part in
         let text : take n bytes ≡ print_section t.fields t.last ++ [] =
         ap (take n) t.reads.1 ∙ taken n (print_section t.fields t.last) t.rest one ∙ sym (append-nil (print_section t.fields t.last)) in
@@ -174,30 +179,36 @@ trailer_whole at bytes ended cause t b = by cause b
 
 -- ---- chunks
 
--- what stands behind a chunk line of a whole body, behind other bytes of it: the line's bytes, or it is the last
-abbrev IsBehind : List ℕ → List ℕ → ChunkLine → List ℕ → Type 0
-IsBehind body before line more =
+-- the framing of a chunk, and of those behind it
+framing_cons : (c : Chunk) (cs : List Chunk) → framing_bytes (c ∷ cs) ≡ (length (print_chunk_line c.line) + 2) + framing_bytes cs
+framing_cons c cs = sum_by-cons (λ (chunk : Chunk). length (print_chunk_line chunk.line) + 2) c cs
+
+-- what stands behind a chunk line of a whole body, behind other bytes of it and of its framing: the line's bytes, or it is the last
+abbrev IsBehind : List ℕ → List ℕ → ℕ → ChunkLine → List ℕ → Type 0
+IsBehind body before framed line more =
     ((0 < chunk_size line) × (length before + chunk_size line ≤ most_body_bytes)
     × ((bytes : List ℕ) × (rest : List ℕ) × (length bytes ≡ chunk_size line) × (more ≡ bytes ++ (crlf_bytes ++ rest))))
-    ⊎ ((chunk_size line ≡ 0) × (body ≡ before) × BeginsWithTrailer more)
+    ⊎ ((chunk_size line ≡ 0) × (body ≡ before) × BeginsWithTrailer (framed + length (print_chunk_line line)) more)
 
 -- behind whole chunks, bytes that begin with a whole body go on with one of its chunk lines
-record GoesOn (body : List ℕ) (before : List ℕ) (tail : List ℕ) : Type 0 where
+record GoesOn (body : List ℕ) (before : List ℕ) (framed : ℕ) (tail : List ℕ) : Type 0 where
   line : ChunkLine
   more : List ℕ
   is_line : IsChunkLine line
   within : length (print_chunk_line line) ≤ most_head_bytes
+  line_framed : framed + (length (print_chunk_line line) + 2) ≤ most_framing_bytes
   reads : tail ≡ print_chunk_line line ++ more
-  which : IsBehind body before line more
+  which : IsBehind body before framed line more
 
--- a body in chunks, by its parts, behind other bytes of it
-record Pieces (bytes : List ℕ) (before : List ℕ) (chunks : List Chunk) (line : ChunkLine) (rest : List ℕ) : Type 0 where
+-- a body in chunks, by its parts, behind other bytes of it and of its framing
+record Pieces (bytes : List ℕ) (before : List ℕ) (framed : ℕ) (chunks : List Chunk) (line : ChunkLine) (rest : List ℕ) : Type 0 where
   each : All IsChunk chunks
   within : length before + length (body_of chunks) ≤ most_body_bytes
   is_line : IsChunkLine line
   line_within : length (print_chunk_line line) ≤ most_head_bytes
   no_bytes : chunk_size line ≡ 0
-  trailer_is : BeginsWithTrailer rest
+  line_framed : (framed + framing_bytes chunks) + (length (print_chunk_line line) + 2) ≤ most_framing_bytes
+  trailer_is : BeginsWithTrailer ((framed + framing_bytes chunks) + length (print_chunk_line line)) rest
   reads : bytes ≡ print_chunks chunks ++ (print_chunk_line line ++ rest)
 
 chunk_cons : (c : Chunk) (cs : List Chunk) (rest : List ℕ) → print_chunks (c ∷ cs) ++ rest ≡ print_chunk_line c.line ++ (c.bytes ++ (crlf_bytes ++ (print_chunks cs ++ rest)))
@@ -213,23 +224,30 @@ split_same a b r q l e = (
   sym (drop-append_seam a r) ∙ ap (drop (length a)) e ∙ ap (λ (n : ℕ). drop n (b ++ q)) l ∙ drop-append_seam b q,
 )
 
-walk_chunks : (bytes before : List ℕ) (chunks : List Chunk) (line : ChunkLine) (rest : List ℕ) (others : List Chunk) (tail : List ℕ)
-    → Pieces bytes before chunks line rest → All IsChunk others → bytes ≡ print_chunks others ++ tail → GoesOn (before ++ body_of chunks) (before ++ body_of others) tail
-walk_chunks bytes before [] line rest [] tail p others e = record {
+walk_chunks : (bytes before : List ℕ) (framed : ℕ) (chunks : List Chunk) (line : ChunkLine) (rest : List ℕ) (others : List Chunk) (tail : List ℕ)
+    → Pieces bytes before framed chunks line rest → All IsChunk others → bytes ≡ print_chunks others ++ tail
+    → GoesOn (before ++ body_of chunks) (before ++ body_of others) (framed + framing_bytes others) tail
+walk_chunks bytes before framed [] line rest [] tail p others e = record {
   line = line;
   more = rest;
   is_line = p.is_line;
   within = p.line_within;
+  line_framed = p.line_framed;
   reads = sym e ∙ p.reads;
   which = inr (p.no_bytes, refl, p.trailer_is);
 }
-walk_chunks bytes before (c ∷ chunks) line rest [] tail p others e =
+walk_chunks bytes before framed (c ∷ chunks) line rest [] tail p others e =
     let is = All-head IsChunk c chunks p.each in
     let behind = print_chunks chunks ++ (print_chunk_line line ++ rest) in record {
       line = c.line;
       more = c.bytes ++ (crlf_bytes ++ behind);
       is_line = is.line;
       within = is.within;
+      line_framed =
+          let w = p.line_framed in
+          let l = framing_cons c chunks in
+          let z : framing_bytes [] ≡ 0 = refl in
+          omega (arith, w, l, z);
       reads = sym e ∙ p.reads ∙ chunk_cons c chunks (print_chunk_line line ++ rest);
       which = inl (
         subst (λ (n : ℕ). 0 < n) is.size is.some,
@@ -237,12 +255,12 @@ walk_chunks bytes before (c ∷ chunks) line rest [] tail p others e =
         (c.bytes, behind, is.size, refl),
       );
     }
-walk_chunks bytes before [] line rest (o ∷ others) tail p chunks e =
+walk_chunks bytes before framed [] line rest (o ∷ others) tail p chunks e =
     let is = All-head IsChunk o others chunks in
     let same = chunk_line_unique bytes line o.line rest (o.bytes ++ (crlf_bytes ++ (print_chunks others ++ tail))) (p.is_line, p.reads) (is.line, e ∙ chunk_cons o others tail) in
     let none : chunk_size o.line ≡ 0 = ap chunk_size (sym same.0) ∙ p.no_bytes in
     absurd (let s = is.some in let z = is.size in omega (arith, s, z, none))
-walk_chunks bytes before (c ∷ chunks) line rest (o ∷ others) tail p more e =
+walk_chunks bytes before framed (c ∷ chunks) line rest (o ∷ others) tail p more e =
     let is = All-head IsChunk c chunks p.each in
     let other = All-head IsChunk o others more in
     let behind = print_chunks chunks ++ (print_chunk_line line ++ rest) in
@@ -252,38 +270,50 @@ walk_chunks bytes before (c ∷ chunks) line rest (o ∷ others) tail p more e =
     let as_long : length c.bytes ≡ length o.bytes = is.size ∙ ap chunk_size same.0 ∙ sym other.size in
     let halves = split_same c.bytes o.bytes (crlf_bytes ++ behind) (crlf_bytes ++ beyond) as_long same.1 in
     let ends_same = split_same crlf_bytes crlf_bytes behind beyond refl halves.1 in
-    let inner : Pieces behind (before ++ c.bytes) chunks line rest = record {
+    let past = framed + (length (print_chunk_line c.line) + 2) in
+    let front : framed + framing_bytes (c ∷ chunks) ≡ past + framing_bytes chunks = (let l = framing_cons c chunks in omega (arith, l)) in
+    let other_front : past + framing_bytes others ≡ framed + framing_bytes (o ∷ others) =
+    (let l = framing_cons o others in let k = ap (λ (one : ChunkLine). length (print_chunk_line one)) same.0 in omega (arith, l, k)) in
+    let inner : Pieces behind (before ++ c.bytes) past chunks line rest = record {
       each = All-tail IsChunk c chunks p.each;
       within = let w = p.within in let l = length-append c.bytes (body_of chunks) in let n = length-append before c.bytes in omega (arith, w, l, n);
       is_line = p.is_line;
       line_within = p.line_within;
       no_bytes = p.no_bytes;
-      trailer_is = p.trailer_is;
+      line_framed = let w = p.line_framed in omega (arith, w, front);
+      trailer_is = subst (λ (n : ℕ). BeginsWithTrailer (n + length (print_chunk_line line)) rest) front p.trailer_is;
       reads = refl;
     } in
-    let on : GoesOn ((before ++ c.bytes) ++ body_of chunks) ((before ++ c.bytes) ++ body_of others) tail =
-    walk_chunks behind (before ++ c.bytes) chunks line rest others tail inner (All-tail IsChunk o others more) ends_same.1 in
-    subst (λ (b : List ℕ). GoesOn (before ++ body_of (c ∷ chunks)) b tail)
+    let on : GoesOn ((before ++ c.bytes) ++ body_of chunks) ((before ++ c.bytes) ++ body_of others) (past + framing_bytes others) tail =
+    walk_chunks behind (before ++ c.bytes) past chunks line rest others tail inner (All-tail IsChunk o others more) ends_same.1 in
+    subst (λ (n : ℕ). GoesOn (before ++ body_of (c ∷ chunks)) (before ++ body_of (o ∷ others)) n tail) other_front
+    (subst (λ (b : List ℕ). GoesOn (before ++ body_of (c ∷ chunks)) b (past + framing_bytes others) tail)
     (append_assoc before c.bytes (body_of others) ∙ ap (λ (m : List ℕ). before ++ (m ++ body_of others)) halves.0)
-    (subst (λ (b : List ℕ). GoesOn b ((before ++ c.bytes) ++ body_of others) tail) (append_assoc before c.bytes (body_of chunks)) on)
+    (subst (λ (b : List ℕ). GoesOn b ((before ++ c.bytes) ++ body_of others) (past + framing_bytes others) tail) (append_assoc before c.bytes (body_of chunks)) on))
 
 module _ (bytes body : List ℕ) (w : IsChunked bytes body) where
-  pieces : Pieces bytes [] w.chunks w.line w.rest
+  none_before : framing_bytes w.chunks ≡ 0 + framing_bytes w.chunks
+  none_before = omega arith
+
+  pieces : Pieces bytes [] 0 w.chunks w.line w.rest
   pieces = record {
     each = w.are_chunks.each;
     within = let k = w.are_chunks.within in omega (arith, k);
     is_line = w.ends.reads.0;
     line_within = w.ends.within;
     no_bytes = w.no_bytes;
-    trailer_is = w.trailer;
+    line_framed = let k = w.line_framed in omega (arith, k);
+    trailer_is = subst (λ (n : ℕ). BeginsWithTrailer (n + length (print_chunk_line w.line)) w.rest) none_before w.trailer;
     reads = w.reads ∙ ap (λ (t : List ℕ). print_chunks w.chunks ++ t) w.ends.reads.1;
   }
 
-  goes_on : (others : List Chunk) (tail : List ℕ) → All IsChunk others → bytes ≡ print_chunks others ++ tail → GoesOn (body_of w.chunks) (body_of others) tail
-  goes_on others tail each e = walk_chunks bytes [] w.chunks w.line w.rest others tail pieces each e
+  goes_on : (others : List Chunk) (tail : List ℕ) → All IsChunk others → bytes ≡ print_chunks others ++ tail → GoesOn (body_of w.chunks) (body_of others) (framing_bytes others) tail
+  goes_on others tail each e =
+      let none : 0 + framing_bytes others ≡ framing_bytes others = omega arith in
+      subst (λ (n : ℕ). GoesOn (body_of w.chunks) (body_of others) n tail) none (walk_chunks bytes [] 0 w.chunks w.line w.rest others tail pieces each e)
 
-  chunk_whole : (at : ℕ) (others : List Chunk) (tail : List ℕ) (ended : Bool) (cause : WireEnd) → AreChunks others → GoesOn (body_of w.chunks) (body_of others) tail
-      → BreaksChunk at (length (body_of others)) tail ended cause → ⊥
+  chunk_whole : (at : ℕ) (others : List Chunk) (tail : List ℕ) (ended : Bool) (cause : WireEnd) → AreChunks others → GoesOn (body_of w.chunks) (body_of others) (framing_bytes others) tail
+      → BreaksChunk at (length (body_of others)) (framing_bytes others) tail ended cause → ⊥
   chunk_whole at others tail ended cause are g b = by cause b
     where
       part : chunk_line_part tail ≡ ends (length (print_chunk_line g.line))
@@ -292,22 +322,26 @@ module _ (bytes body : List ℕ) (w : IsChunked bytes body) where
       same : (line : ChunkLine) (rest : List ℕ) → BeginsWithLine tail line rest → (g.line ≡ line) × (g.more ≡ rest)
       same line rest begins = chunk_line_unique tail g.line line g.more rest (g.is_line, g.reads) begins.reads
 
-      by : (why : WireEnd) → BreaksChunk at (length (body_of others)) tail ended why → ⊥
-      by _ (line_cut _ _ _ _ found_part over) = ends_unfinished (chunk_line_part tail) (length (print_chunk_line g.line)) part found_part
-      by _ (line_long _ _ _ _ found_part) = ends_passed (chunk_line_part tail) (length (print_chunk_line g.line)) part found_part
-      by _ (line_bad _ _ n _ _ found_part none) =
+      by : (why : WireEnd) → BreaksChunk at (length (body_of others)) (framing_bytes others) tail ended why → ⊥
+      by _ (line_cut _ _ _ _ _ found_part over) = ends_unfinished (chunk_line_part tail) (length (print_chunk_line g.line)) part found_part
+      by _ (line_long _ _ _ _ _ found_part) = ends_passed (chunk_line_part tail) (length (print_chunk_line g.line)) part found_part
+      by _ (line_bad _ _ _ n _ _ found_part none) =
           let one : n ≡ length (print_chunk_line g.line) = ends_once (chunk_line_part tail) (length (print_chunk_line g.line)) n part found_part in
           let text : take n tail ≡ print_chunk_line g.line ++ [] = ap (take n) g.reads ∙ taken n (print_chunk_line g.line) g.more one ∙ sym (append-nil (print_chunk_line g.line)) in
           none g.line [] (g.is_line, text)
-      by _ (body_long _ _ _ rest _ line begins past) = at_limit g.which
+      by _ (framing_long _ _ _ _ rest _ line begins past) =
+          let l = ap (λ (one : ChunkLine). length (print_chunk_line one)) (same line rest begins).0 in
+          let w = g.line_framed in
+          omega (arith, l, w, past)
+      by _ (body_long _ _ _ _ rest _ line begins past) = at_limit g.which
         where
           size : chunk_size g.line ≡ chunk_size line
           size = ap chunk_size (same line rest begins).0
 
-          at_limit : IsBehind (body_of w.chunks) (body_of others) g.line g.more → ⊥
+          at_limit : IsBehind (body_of w.chunks) (body_of others) (framing_bytes others) g.line g.more → ⊥
           at_limit (inl h) = let f = h.1 in let s = size in omega (arith, f, s, past)
           at_limit (inr h) = let n = h.0 in let s = size in let k = are.within in omega (arith, n, s, k, past)
-      by _ (bytes_cut _ _ _ rest _ line begins some fits short over) = at_end g.which
+      by _ (bytes_cut _ _ _ _ rest _ line begins lines some fits short over) = at_end g.which
         where
           found : (g.line ≡ line) × (g.more ≡ rest)
           found = same line rest begins
@@ -315,12 +349,12 @@ module _ (bytes body : List ℕ) (w : IsChunked bytes body) where
           size : chunk_size g.line ≡ chunk_size line
           size = ap chunk_size found.0
 
-          at_end : IsBehind (body_of w.chunks) (body_of others) g.line g.more → ⊥
+          at_end : IsBehind (body_of w.chunks) (body_of others) (framing_bytes others) g.line g.more → ⊥
           at_end (inl h) =
               let whole : rest ≡ h.2.0 ++ (crlf_bytes ++ h.2.1) = sym found.1 ∙ h.2.3 in
               let l = ap length whole in let m = length-append h.2.0 (crlf_bytes ++ h.2.1) in let k = h.2.2 in let s = size in omega (arith, l, m, k, s, short)
           at_end (inr h) = let n = h.0 in let s = size in omega (arith, n, s, some)
-      by _ (end_bad _ _ _ rest _ line begins some fits whole other) = at_end g.which
+      by _ (end_bad _ _ _ _ rest _ line begins lines some fits whole other) = at_end g.which
         where
           found : (g.line ≡ line) × (g.more ≡ rest)
           found = same line rest begins
@@ -328,7 +362,7 @@ module _ (bytes body : List ℕ) (w : IsChunked bytes body) where
           size : chunk_size g.line ≡ chunk_size line
           size = ap chunk_size found.0
 
-          at_end : IsBehind (body_of w.chunks) (body_of others) g.line g.more → ⊥
+          at_end : IsBehind (body_of w.chunks) (body_of others) (framing_bytes others) g.line g.more → ⊥
           at_end (inl h) =
               let behind : rest ≡ h.2.0 ++ (crlf_bytes ++ h.2.1) = sym found.1 ∙ h.2.3 in
               let n : chunk_size line ≡ length h.2.0 = sym size ∙ sym h.2.2 in
@@ -336,7 +370,7 @@ module _ (bytes body : List ℕ) (w : IsChunked bytes body) where
               ∙ ap (λ (k : ℕ). take 2 (drop k (h.2.0 ++ (crlf_bytes ++ h.2.1)))) n
               ∙ ap (take 2) (drop-append_seam h.2.0 (crlf_bytes ++ h.2.1)))
           at_end (inr h) = let n = h.0 in let s = size in omega (arith, n, s, some)
-      by _ (trailer _ _ _ rest _ line why begins none breaks) = at_end g.which
+      by _ (trailer _ _ _ _ rest _ line why begins lines none breaks) = at_end g.which
         where
           found : (g.line ≡ line) × (g.more ≡ rest)
           found = same line rest begins
@@ -344,9 +378,12 @@ module _ (bytes body : List ℕ) (w : IsChunked bytes body) where
           size : chunk_size g.line ≡ chunk_size line
           size = ap chunk_size found.0
 
-          at_end : IsBehind (body_of w.chunks) (body_of others) g.line g.more → ⊥
+          at_end : IsBehind (body_of w.chunks) (body_of others) (framing_bytes others) g.line g.more → ⊥
           at_end (inl h) = let f = h.0 in let s = size in omega (arith, f, s, none)
-          at_end (inr h) = trailer_whole _ rest ended why (subst BeginsWithTrailer found.1 h.2) breaks
+          at_end (inr h) =
+              trailer_whole _ _ rest ended why
+              (subst (λ (one : ChunkLine). BeginsWithTrailer (framing_bytes others + length (print_chunk_line one)) rest) found.0
+              (subst (λ (t : List ℕ). BeginsWithTrailer (framing_bytes others + length (print_chunk_line g.line)) t) found.1 h.2)) breaks
 
   chunks_whole : (at : ℕ) (ended : Bool) (cause : WireEnd) → BreaksChunked at bytes ended cause → ⊥
   chunks_whole at ended cause b =
@@ -355,13 +392,13 @@ module _ (bytes body : List ℕ) (w : IsChunked bytes body) where
   chunks_one : (more : List ℕ) → IsChunked bytes more → body ≡ more
   chunks_one more v = at g.which
     where
-      g : GoesOn (body_of w.chunks) (body_of v.chunks) v.tail
+      g : GoesOn (body_of w.chunks) (body_of v.chunks) (framing_bytes v.chunks) v.tail
       g = goes_on v.chunks v.tail v.are_chunks.each v.reads
 
       same : (g.line ≡ v.line) × (g.more ≡ v.rest)
       same = chunk_line_unique v.tail g.line v.line g.more v.rest (g.is_line, g.reads) v.ends.reads
 
-      at : IsBehind (body_of w.chunks) (body_of v.chunks) g.line g.more → body ≡ more
+      at : IsBehind (body_of w.chunks) (body_of v.chunks) (framing_bytes v.chunks) g.line g.more → body ≡ more
       at (inl h) = absurd (let f = h.0 in let n = v.no_bytes in let s = ap chunk_size same.0 in omega (arith, f, n, s))
       at (inr h) = w.made_of ∙ h.1 ∙ sym v.made_of
 

@@ -1,6 +1,7 @@
 -- Bodies in chunks: which are whole, and the ways in which one is broken (RFC 9112, section 7.1).
 use Rattle.std.specs.Prelude.{◌≡◌, ◌≢◌, ℕ, ◌+◌, ◌<◌, ◌≤◌, Bool, List, ◌++◌, length, take, drop, flat_map, All, IsTrue}
-use Rattle.tree_base.specs.Limits.{most_body_bytes, most_head_bytes, most_header_lines}
+use Rattle.std.specs.List.{sum_by}
+use Rattle.tree_base.specs.Limits.{most_body_bytes, most_framing_bytes, most_head_bytes, most_header_lines}
 use Rattle.httparse.specs.Ascii.{crlf_bytes}
 use Rattle.httparse.specs.Grammar.{ChunkLine, print_chunk_line, IsChunkLine, chunk_size, ReadsChunkLine, HasNoChunkLine, Field, LineEnd, print_section, ReadsSection, HasNoSection}
 use Rattle.engine_types.specs.declared.WireEnd.{WireEnd}
@@ -23,6 +24,11 @@ print_chunks chunks = flat_map print_chunk chunks
 abbrev pub body_of : List Chunk → List ℕ
 body_of chunks = flat_map (λ chunk. chunk.bytes) chunks
 
+-- how many bytes of chunks frame those of the body: their lines, and the CRLF behind the bytes of
+-- each
+abbrev pub framing_bytes : List Chunk → ℕ
+framing_bytes chunks = sum_by (λ chunk. length (print_chunk_line chunk.line) + 2) chunks
+
 -- a chunk before the last: its line is one of the grammar and within the limit, and says how many
 -- bytes it has
 pub record IsChunk (chunk : Chunk) : Type 0 where
@@ -31,28 +37,30 @@ pub record IsChunk (chunk : Chunk) : Type 0 where
   pub some : 0 < length chunk.bytes
   pub size : length chunk.bytes ≡ chunk_size chunk.line
 
--- chunks before the last, within the limit of a body
+-- chunks before the last, within the limits of a body and of its framing
 pub record AreChunks (chunks : List Chunk) : Type 0 where
   pub each : All IsChunk chunks
   pub within : length (body_of chunks) ≤ most_body_bytes
+  pub framed : framing_bytes chunks ≤ most_framing_bytes
 
 -- the bytes begin with a chunk line of the grammar within the limit, and then come the others
 pub record BeginsWithLine (bytes : List ℕ) (line : ChunkLine) (rest : List ℕ) : Type 0 where
   pub reads : ReadsChunkLine bytes line rest
   pub within : length (print_chunk_line line) ≤ most_head_bytes
 
--- the bytes begin with the lines after a last chunk, which are header lines within the limits, and
--- an empty line
-pub record BeginsWithTrailer (bytes : List ℕ) : Type 0 where
+-- behind so many bytes of framing, the bytes begin with the lines after a last chunk, which are
+-- header lines within the limits, and an empty line
+pub record BeginsWithTrailer (framed : ℕ) (bytes : List ℕ) : Type 0 where
   pub fields : List Field
   pub last : LineEnd
   pub rest : List ℕ
   pub reads : ReadsSection bytes fields last rest
   pub few : length fields ≤ most_header_lines
   pub within : length (print_section fields last) ≤ most_head_bytes
+  pub framed_within : framed + length (print_section fields last) ≤ most_framing_bytes
 
 -- the bytes begin with a whole body in chunks: chunks, a last one of no bytes, and the lines behind
--- it
+-- it. Each chunk line is counted with a line end behind it
 pub record IsChunked (bytes body : List ℕ) : Type 0 where
   pub chunks : List Chunk
   pub line : ChunkLine
@@ -62,58 +70,79 @@ pub record IsChunked (bytes body : List ℕ) : Type 0 where
   pub reads : bytes ≡ print_chunks chunks ++ tail
   pub ends : BeginsWithLine tail line rest
   pub no_bytes : chunk_size line ≡ 0
-  pub trailer : BeginsWithTrailer rest
+  pub line_framed : framing_bytes chunks + (length (print_chunk_line line) + 2) ≤ most_framing_bytes
+  pub trailer : BeginsWithTrailer (framing_bytes chunks + length (print_chunk_line line)) rest
   pub made_of : body ≡ body_of chunks
 
--- the lines after a last chunk are broken in one way, where they begin at a place
-pub data BreaksTrailer : ℕ → List ℕ → Bool → WireEnd → Type 0 where
+-- the lines after a last chunk are broken in one way, where they begin at a place, behind so many
+-- bytes of framing
+pub data BreaksTrailer : ℕ → ℕ → List ℕ → Bool → WireEnd → Type 0 where
   -- the connection ended before the empty line
-  cut : (at : ℕ) (bytes : List ℕ) (ended : Bool) → trailer_part bytes ≡ unfinished
+  cut : (at framed : ℕ) (bytes : List ℕ) (ended : Bool) → trailer_part bytes ≡ unfinished
       → IsTrue ended
-      → BreaksTrailer at bytes ended WireEnd.Ended
+      → BreaksTrailer at framed bytes ended WireEnd.Ended
   -- they pass a limit
-  long : (at : ℕ) (bytes : List ℕ) (ended : Bool) → trailer_part bytes ≡ passed
-      → BreaksTrailer at bytes ended WireEnd.TooLarge
+  long : (at framed : ℕ) (bytes : List ℕ) (ended : Bool) → trailer_part bytes ≡ passed
+      → BreaksTrailer at framed bytes ended WireEnd.TooLarge
+  -- with them, the framing passes its limit
+  past_framing : (at framed n : ℕ) (bytes : List ℕ) (ended : Bool) → trailer_part bytes ≡ ends n
+      → most_framing_bytes < framed + n
+      → BreaksTrailer at framed bytes ended WireEnd.TooLarge
   -- up to the empty line, they aren't header lines
-  bad : (at n : ℕ) (bytes : List ℕ) (ended : Bool) → trailer_part bytes ≡ ends n
+  bad : (at framed n : ℕ) (bytes : List ℕ) (ended : Bool) → trailer_part bytes ≡ ends n
+      → framed + n ≤ most_framing_bytes
       → HasNoSection (take n bytes)
-      → BreaksTrailer at bytes ended (WireEnd.Malformed at)
+      → BreaksTrailer at framed bytes ended (WireEnd.Malformed at)
 
--- the chunk that begins at a place, behind so many bytes of the body, is broken in one way
-pub data BreaksChunk : ℕ → ℕ → List ℕ → Bool → WireEnd → Type 0 where
+-- the chunk that begins at a place, behind so many bytes of the body and of its framing, is broken
+-- in one way
+pub data BreaksChunk : ℕ → ℕ → ℕ → List ℕ → Bool → WireEnd → Type 0 where
   -- the connection ended within the chunk line
-  line_cut : (at before : ℕ) (bytes : List ℕ) (ended : Bool) → chunk_line_part bytes ≡ unfinished
-      → IsTrue ended
-      → BreaksChunk at before bytes ended WireEnd.Ended
+  line_cut : (at before framed : ℕ) (bytes : List ℕ) (ended : Bool)
+      → chunk_line_part bytes ≡ unfinished → IsTrue ended
+      → BreaksChunk at before framed bytes ended WireEnd.Ended
   -- the chunk line passes its limit
-  line_long : (at before : ℕ) (bytes : List ℕ) (ended : Bool) → chunk_line_part bytes ≡ passed
-      → BreaksChunk at before bytes ended WireEnd.TooLarge
+  line_long : (at before framed : ℕ) (bytes : List ℕ) (ended : Bool)
+      → chunk_line_part bytes ≡ passed
+      → BreaksChunk at before framed bytes ended WireEnd.TooLarge
   -- the line isn't a chunk line
-  line_bad : (at before n : ℕ) (bytes : List ℕ) (ended : Bool) → chunk_line_part bytes ≡ ends n
-      → HasNoChunkLine (take n bytes) → BreaksChunk at before bytes ended (WireEnd.Malformed at)
+  line_bad : (at before framed n : ℕ) (bytes : List ℕ) (ended : Bool)
+      → chunk_line_part bytes ≡ ends n → HasNoChunkLine (take n bytes)
+      → BreaksChunk at before framed bytes ended (WireEnd.Malformed at)
+  -- with the line and a line end behind it, the framing passes its limit
+  framing_long : (at before framed : ℕ) (bytes rest : List ℕ) (ended : Bool) (line : ChunkLine)
+      → BeginsWithLine bytes line rest
+      → most_framing_bytes < framed + (length (print_chunk_line line) + 2)
+      → BreaksChunk at before framed bytes ended WireEnd.TooLarge
   -- with the bytes that the line says, the body passes its limit
-  body_long : (at before : ℕ) (bytes rest : List ℕ) (ended : Bool) (line : ChunkLine)
+  body_long : (at before framed : ℕ) (bytes rest : List ℕ) (ended : Bool) (line : ChunkLine)
       → BeginsWithLine bytes line rest
-      → most_body_bytes < before + chunk_size line → BreaksChunk at before bytes ended WireEnd.TooLarge
+      → most_body_bytes < before + chunk_size line
+      → BreaksChunk at before framed bytes ended WireEnd.TooLarge
   -- the connection ended within the bytes of the chunk, or within the CRLF behind them
-  bytes_cut : (at before : ℕ) (bytes rest : List ℕ) (ended : Bool) (line : ChunkLine)
+  bytes_cut : (at before framed : ℕ) (bytes rest : List ℕ) (ended : Bool) (line : ChunkLine)
       → BeginsWithLine bytes line rest
+      → framed + (length (print_chunk_line line) + 2) ≤ most_framing_bytes
       → 0 < chunk_size line → before + chunk_size line ≤ most_body_bytes
       → length rest < chunk_size line + 2 → IsTrue ended
-      → BreaksChunk at before bytes ended WireEnd.Ended
+      → BreaksChunk at before framed bytes ended WireEnd.Ended
   -- the two bytes behind those of the chunk aren't CRLF
-  end_bad : (at before : ℕ) (bytes rest : List ℕ) (ended : Bool) (line : ChunkLine)
+  end_bad : (at before framed : ℕ) (bytes rest : List ℕ) (ended : Bool) (line : ChunkLine)
       → BeginsWithLine bytes line rest
+      → framed + (length (print_chunk_line line) + 2) ≤ most_framing_bytes
       → 0 < chunk_size line → before + chunk_size line ≤ most_body_bytes
       → chunk_size line + 2 ≤ length rest
       → take 2 (drop (chunk_size line) rest) ≢ crlf_bytes
-      → BreaksChunk at before bytes ended (WireEnd.Malformed at)
+      → BreaksChunk at before framed bytes ended (WireEnd.Malformed at)
   -- it is the last one, and the lines behind it are broken
-  trailer : (at before : ℕ) (bytes rest : List ℕ) (ended : Bool) (line : ChunkLine)
+  trailer : (at before framed : ℕ) (bytes rest : List ℕ) (ended : Bool) (line : ChunkLine)
       (cause : WireEnd)
-      → BeginsWithLine bytes line rest → chunk_size line ≡ 0
-      → BreaksTrailer (at + length (print_chunk_line line)) rest ended cause
-      → BreaksChunk at before bytes ended cause
+      → BeginsWithLine bytes line rest
+      → framed + (length (print_chunk_line line) + 2) ≤ most_framing_bytes
+      → chunk_size line ≡ 0
+      → BreaksTrailer (at + length (print_chunk_line line)) (framed + length (print_chunk_line line))
+      rest ended cause
+      → BreaksChunk at before framed bytes ended cause
 
 -- behind whole chunks comes one that is broken in this way, where the body begins at a place
 pub record BreaksChunked (at : ℕ) (bytes : List ℕ) (ended : Bool) (cause : WireEnd) : Type 0 where
@@ -122,4 +151,4 @@ pub record BreaksChunked (at : ℕ) (bytes : List ℕ) (ended : Bool) (cause : W
   pub are_chunks : AreChunks chunks
   pub reads : bytes ≡ print_chunks chunks ++ tail
   pub breaks : BreaksChunk (at + length (print_chunks chunks))
-      (length (body_of chunks)) tail ended cause
+      (length (body_of chunks)) (framing_bytes chunks) tail ended cause

@@ -1,6 +1,7 @@
 //! Questions to what a run sees, each answered here and nowhere else: whose a container is, by its labels; whether it
 //! agrees with what is declared; which container a slot keeps; whether a container is on a
-//! network, and whether it is to go; what a state and a reply mean, and which exit status a fault gives.
+//! network, and whether it is to go; what a state and a reply mean, which exit status a fault gives, and how a text of an
+//! Engine is printed.
 //!
 //! Contracts say that each answer is the defined one, for any labels and anything seen.
 #![tactic(auto)]
@@ -10,6 +11,7 @@ mod kept;
 mod labels;
 mod names;
 mod networks;
+mod printed;
 mod removal;
 mod replies;
 mod states;
@@ -22,6 +24,7 @@ pub use labels::{
 };
 pub use names::network_name;
 pub use networks::has_joined;
+pub use printed::shown;
 pub use removal::goes;
 pub use replies::{is_good, is_well};
 pub use states::is_live;

@@ -11,6 +11,7 @@ pub mod Conditions
 pub mod Legal
 pub mod Ending
 pub mod Logs
+pub mod Shown
 pub mod Lines
 pub mod Worlds
 pub mod Exact

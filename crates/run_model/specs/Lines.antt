@@ -18,6 +18,7 @@ use Rattle.engine_types.specs.declared.WireEnd.{WireEnd}
 use Rattle.run_model.specs.Ending.{slot_name}
 use Rattle.run_model.specs.Journals.{Holding, Setup, Work, ended_as, holding, is_well}
 use Rattle.run_model.specs.Plans.{kind_of, network_name, slot_at}
+use Rattle.run_model.specs.Shown.{shown}
 
 -- the name of a seen container
 abbrev pub container_name : Setup → ℕ → List ℕ
@@ -39,16 +40,16 @@ attached_network setup s k =
     option_map_or (λ slot. option_map_or (network_name setup.declared) (slice_get slot.attach k) [])
     (slot_at setup.declared s) []
 
--- the words of an action that ended well
+-- the words of an action that ended well; the name of a container that was seen came from the Engine
 abbrev pub done_words : Setup → ActionKind → List ℕ
 done_words setup (ActionKind.MakeVolume v) =
     codes "volume " ++ declared_volume setup v ++ codes " created"
 done_words setup (ActionKind.MakeNetwork n) =
     codes "network " ++ declared_network setup n ++ codes " created"
 done_words setup (ActionKind.StopContainer c) =
-    codes "container " ++ container_name setup c ++ codes " stopped"
+    codes "container " ++ shown (container_name setup c) ++ codes " stopped"
 done_words setup (ActionKind.RemoveContainer c) =
-    codes "container " ++ container_name setup c ++ codes " removed"
+    codes "container " ++ shown (container_name setup c) ++ codes " removed"
 done_words setup (ActionKind.CreateSlot s) =
     codes "container " ++ slot_name setup s ++ codes " created"
 done_words setup (ActionKind.ConnectSlot s k) =
@@ -80,19 +81,20 @@ report_text setup (Entry.Ended w outcome ∷ past) =
     report_text setup past ++ ended_line setup outcome (holding past w)
 report_text setup (_ ∷ past) = report_text setup past
 
--- what a request asks, in words
+-- what a request asks, in words; ids came from the Engine
 abbrev pub request_words : Request → List ℕ
 request_words (Request.ListContainers project) = codes "list containers"
-request_words (Request.Inspect id) = codes "inspect container " ++ id
-request_words (Request.Logs id) = codes "logs container " ++ id
+request_words (Request.Inspect id) = codes "inspect container " ++ shown id
+request_words (Request.Logs id) = codes "logs container " ++ shown id
 request_words (Request.Create name spec) = codes "create container " ++ name
-request_words (Request.Start id) = codes "start container " ++ id
-request_words (Request.Stop id seconds) = codes "stop container " ++ id
-request_words (Request.Remove id) = codes "remove container " ++ id
+request_words (Request.Start id) = codes "start container " ++ shown id
+request_words (Request.Stop id seconds) = codes "stop container " ++ shown id
+request_words (Request.Remove id) = codes "remove container " ++ shown id
 request_words Request.ListNetworks = codes "list networks"
 request_words (Request.MakeNetwork spec) = codes "create network " ++ spec.name
-request_words (Request.Connect network container aliases) = codes "connect container " ++ container
-request_words (Request.RemoveNetwork id) = codes "remove network " ++ id
+request_words (Request.Connect network container aliases) =
+    codes "connect container " ++ shown container
+request_words (Request.RemoveNetwork id) = codes "remove network " ++ shown id
 request_words Request.ListVolumes = codes "list volumes"
 request_words (Request.MakeVolume spec) = codes "create volume " ++ spec.name
 request_words (Request.RemoveVolume name) = codes "remove volume " ++ name
@@ -144,7 +146,7 @@ health_words Health.Unhealthy = codes "Unhealthy"
 abbrev pub refused_words : Request → ℕ → List ℕ → List ℕ
 refused_words request status message =
     codes "refused: " ++ request_words request ++ codes ": " ++ decimal status ++ codes " "
-    ++ message
+    ++ shown message
 
 -- a request whose response was lost, with the cause
 abbrev pub lost_words : Request → WireEnd → List ℕ
@@ -167,13 +169,15 @@ outcome_words request Outcome.Memory = codes "memory"
 -- an observation that ended badly
 abbrev pub seen_words : SeenFault → List ℕ
 seen_words (SeenFault.RequestFailed request status message) = refused_words request status message
-seen_words (SeenFault.PullFailed image message) = codes "pull " ++ image ++ codes ": " ++ message
+seen_words (SeenFault.PullFailed image message) =
+    codes "pull " ++ image ++ codes ": " ++ shown message
 seen_words (SeenFault.Lost request cause) = lost_words request cause
 seen_words (SeenFault.NotSent request) = not_sent_words request
 seen_words (SeenFault.NetworkTwice name first second) =
-    codes "network " ++ name ++ codes " is there twice: " ++ first ++ codes " " ++ second
+    codes "network " ++ name ++ codes " is there twice: " ++ shown first ++ codes " "
+    ++ shown second
 seen_words (SeenFault.ForeignNetwork name id) =
-    codes "network " ++ name ++ codes " is foreign: " ++ id
+    codes "network " ++ name ++ codes " is foreign: " ++ shown id
 seen_words (SeenFault.ExternalMissing kind name) =
     codes "external " ++ kind_words kind ++ codes " " ++ name ++ codes " is missing"
 seen_words (SeenFault.NeedsBuild service) = service ++ codes " needs a build"

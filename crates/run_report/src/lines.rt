@@ -3,9 +3,11 @@ ghost use Rattle.engine_types.specs.declared.ActionKind.{ActionKind};
 ghost use Rattle.run_model.specs.Ending.{slot_name};
 ghost use Rattle.run_model.specs.Lines.{attached_network, container_name, declared_network, declared_volume, done_words, line};
 ghost use Rattle.run_model.specs.Plans.{network_name};
+ghost use Rattle.run_model.specs.Shown.{shown};
 ghost use Rattle.run_requests.specs.Setups.{setup_of};
 
 use engine_types::{ActionKind, Attach, Declared};
+use run_lookups::shown;
 use run_requests::Run;
 use std::alloc::Global;
 use tree_base::{Memory, Text};
@@ -42,13 +44,14 @@ fn network_line(alloc: Global, run: &Run<'_>, network: u32, done: &str) -> Resul
     said(alloc, "network ", network_name(run, network), done)
 }
 
-/// The line of a container that was seen.
+/// The line of a container that was seen, under the name that the Engine gave.
 fn seen_line(alloc: Global, run: &Run<'_>, container: u64, done: &str) -> Result<Text, Memory>
     ensures { IfOk result (λ text.
-        text ≡ line (codes "container " ++ container_name
-        (setup_of run.now) container ++ done.now)) }
+        text ≡ line (codes "container " ++ shown (container_name
+        (setup_of run.now) container) ++ done.now)) }
 {
-    said(alloc, "container ", container_name(run, container), done)
+    let name = shown(alloc, container_name(run, container))?;
+    said(alloc, "container ", name.as_str(), done)
 }
 
 /// The line of a slot's container.

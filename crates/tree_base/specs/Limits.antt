@@ -102,6 +102,10 @@ most_header_lines = 100
 abbrev pub most_body_bytes : ℕ
 most_body_bytes = 16777216
 
+-- how many bytes the framing of a body in chunks has: chunk lines, the line ends behind chunks, and the lines behind the last
+abbrev pub most_framing_bytes : ℕ
+most_framing_bytes = 16777216
+
 -- for how many milliseconds a hand pauses before a poll of a container
 abbrev pub before_poll : ℕ
 before_poll = 500

@@ -99,6 +99,9 @@ pub const MOST_HEADER_LINES: usize = 100;
 /// How many bytes a body has.
 pub const MOST_BODY_BYTES: u64 = 16_777_216;
 
+/// How many bytes the framing of a body in chunks has: chunk lines, the line ends behind chunks, and the lines behind the last.
+pub const MOST_FRAMING_BYTES: u64 = 16_777_216;
+
 // Times.
 
 /// How long a hand pauses before a poll of a container, in milliseconds.

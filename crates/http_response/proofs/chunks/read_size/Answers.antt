@@ -1,9 +1,10 @@
 -- The parser's answer to the line that was found is its size, or that it is none.
-use Rattle.std.proofs.Common.{ℕ, sym, ap, ◌∙◌, subst}
+use Rattle.std.proofs.Common.{sym, ap, ◌∙◌, subst}
 use Rattle.std.proofs.lemmas.Result.{err_from_is_err_and}
 use Rattle.std.specs.Prelude.{Err, Result}
 use Rattle.http_response.specs.ChunksRead.{ReadsSizeBy}
 use Rattle.http_response.specs.Hearing.{Hears}
+use Rattle.http_response.specs.declared.chunks.LineRead.{LineRead}
 use Rattle.http_response.specs.declared.response.ResponseEnd.{ResponseEnd}
 use Rattle.http_response.proofs.ChunkLines.{end_fits, line_fits, never_line, size_lost, size_read, size_wrong}
 use Rattle.http_response.proofs.chunks.read_size.Goals as goal
@@ -11,7 +12,7 @@ use Rattle.http_response.proofs.chunks.read_size.Goals as goal
 pub returns-in_err-end-clause-reads : goal.returns-in_err-end-clause-reads
 returns-in_err-end-clause-reads g c =
     let p = err_from_is_err_and c.from_residual.result c.from_residual.ensures.1 in
-    subst (λ (r : Result ℕ ResponseEnd). Hears (g.P.Pipe.talk c.args.pipe.now) (g.P.Pipe.talk c.line_end.new.pipe)
+    subst (λ (r : Result LineRead ResponseEnd). Hears (g.P.Pipe.talk c.args.pipe.now) (g.P.Pipe.talk c.line_end.new.pipe)
     (ReadsSizeBy c.args.stock.now c.line_end.new.stock (g.P.Pipe.faults c.args.pipe.now) (g.P.Pipe.faults c.line_end.new.pipe) r))
     (sym (p.1 ∙ ap Err p.2))
     (size_lost c.args.stock.now c.line_end.new.stock (g.P.Pipe.talk c.args.pipe.now) (g.P.Pipe.talk c.line_end.new.pipe)

@@ -3,4 +3,4 @@ use Rattle.std.proofs.lemmas.List.{append_assoc}
 use Rattle.refusals.proofs.line.foreign_words.Goals as goal
 
 pub returns : goal.returns
-returns c = c.from_string.ensures ∙ c.in_ok-words.ensures.ok ∙ (sym (simp append_assoc))
+returns c = c.from_string.ensures ∙ c.in_ok-words.ensures.ok ∙ rw (c.in_ok-id.ensures.text, c.as_str.ensures.value) (sym (simp append_assoc))

@@ -44,10 +44,11 @@ returns c = λ name. record {
         line = line (codes "0");
         tail = codes "0\r\n\r\n";
         rest = codes "\r\n";
-        are_chunks = record { each = All-cons IsChunk one [] is_one (All-nil IsChunk); within = lit≤ tt };
+        are_chunks = record { each = All-cons IsChunk one [] is_one (All-nil IsChunk); within = lit≤ tt; framed = lit≤ tt };
         reads = refl;
         ends = record { reads = (is_none, refl); within = lit≤ tt };
         no_bytes = refl;
+        line_framed = lit≤ tt;
         trailer = record {
           fields = [];
           last = crlf;
@@ -55,6 +56,7 @@ returns c = λ name. record {
           reads = (All-nil IsField, refl);
           few = lit≤ tt;
           within = lit≤ tt;
+          framed_within = lit≤ tt;
         };
         made_of = refl;
       },

@@ -21,8 +21,8 @@ returns c = λ request. bad_body _ (codes "2\r\nabc\r\n") false [] found (WireEn
     (record {
       chunks = [];
       tail = codes "2\r\nabc\r\n";
-      are_chunks = record { each = All-nil IsChunk; within = lit≤ tt };
+      are_chunks = record { each = All-nil IsChunk; within = lit≤ tt; framed = lit≤ tt };
       reads = refl;
-      breaks = end_bad 47 0 (codes "2\r\nabc\r\n") (codes "abc\r\n") false (line (codes "2"))
-          (record { reads = (is_two, refl); within = lit≤ tt }) (lit< tt) (lit≤ tt) (lit≤ tt) other_end;
+      breaks = end_bad 47 0 0 (codes "2\r\nabc\r\n") (codes "abc\r\n") false (line (codes "2"))
+          (record { reads = (is_two, refl); within = lit≤ tt }) (lit≤ tt) (lit< tt) (lit≤ tt) (lit≤ tt) other_end;
     })

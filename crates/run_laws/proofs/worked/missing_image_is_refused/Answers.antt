@@ -1,5 +1,7 @@
 use Rattle.std.proofs.Common.{List, refl, inl, reverse}
+use Rattle.std.specs.Char.{encode_utf8}
 use Rattle.std.specs.Fmt.{digits}
+use Rattle.std.specs.Str.{chars}
 use Rattle.engine_types.specs.declared.Entry.{Entry}
 use Rattle.run_model.specs.Journals.{Setup}
 use Rattle.run_model.specs.Legal.{IsLegal}
@@ -17,5 +19,5 @@ legal : IsLegal to_up setup past
 legal = (tt, (refl, inl refl, tt))
 
 pub returns : goal.returns
-unfolding digits
+unfolding digits chars encode_utf8
 returns c = record { run = record { legal = legal; over = inl refl }; status = refl; fault = refl }

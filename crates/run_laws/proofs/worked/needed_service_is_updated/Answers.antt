@@ -1,5 +1,7 @@
 use Rattle.std.proofs.Common.{◌≡◌, ℕ, zero, suc, ◌<◌, List, refl, inl, inr, reverse, arith}
+use Rattle.std.specs.Char.{encode_utf8}
 use Rattle.std.specs.Fmt.{digits}
+use Rattle.std.specs.Str.{chars}
 use Rattle.engine_types.specs.declared.Entry.{Entry}
 use Rattle.run_model.specs.Journals.{Nothing, Setup, holding}
 use Rattle.run_model.specs.Legal.{IsLegal}
@@ -29,5 +31,5 @@ unfolding digits
 over = inr (record { none_out = none_out; left = refl; over = inr (refl, refl) })
 
 pub returns : goal.returns
-unfolding digits
+unfolding digits chars encode_utf8
 returns c = record { plan = refl; run = record { legal = legal; over = over }; status = refl; report = refl }

@@ -1,5 +1,7 @@
 use Rattle.std.proofs.Common.{◌≡◌, ℕ, zero, suc, ◌<◌, refl, inl, inr, reverse, arith}
+use Rattle.std.specs.Char.{encode_utf8}
 use Rattle.std.specs.Fmt.{digits}
+use Rattle.std.specs.Str.{chars}
 use Rattle.run_model.specs.Journals.{Nothing, Setup, holding}
 use Rattle.run_laws.specs.OneService.{shop, upping}
 use Rattle.run_laws.specs.OtherRuns.{comes_again, downing, goes_down}
@@ -36,5 +38,5 @@ down = record {
 }
 
 pub returns : goal.returns
-unfolding digits
+unfolding digits chars encode_utf8
 returns c = record { again = again; again_status = refl; again_report = refl; down = down; down_status = refl; down_report = refl }
