@@ -3,3 +3,4 @@ pub mod Laws
 pub mod Overlay
 pub mod Sameness
 pub mod Uniqueness
+pub mod Marks

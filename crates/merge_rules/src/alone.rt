@@ -51,17 +51,33 @@ fn values_stand(values: &[Tree], keys: &[Text], spot: Spot) -> bool
     true
 }
 
-/// Whether each item of a sequence stands, and is put behind those before it.
+/// How many unique entries are compared with one another at most.
+const MOST_COMPARED: usize = 16;
+
+/// Whether each item of a sequence stands, and is put behind those before it. Of many unique entries it isn't asked: they are
+/// laid by their marks, in time that grows with their count.
 #[cycle(alone)]
 fn items_stand(items: &[Tree], joining: Option<Joining>) -> bool
     ensures { IsTrue result → items_joined joining (map laid items.now) [] ≡ Ok items.now }
 {
+    if are_many(items, joining) {
+        return false;
+    }
     for (at, item) in items.iter().enumerate() {
         if !stands(item, Spot::Plain) || !is_new(item, &items[..at], joining) {
             return false;
         }
     }
     true
+}
+
+/// Whether unique entries are more than are compared with one another.
+fn are_many(items: &[Tree], joining: Option<Joining>) -> bool {
+    match joining {
+        Some(Joining::Unique(_)) => items.len() > MOST_COMPARED,
+        Some(Joining::Replaced) => false,
+        None => false,
+    }
 }
 
 /// Whether an item is put behind others, and not laid over one of them.

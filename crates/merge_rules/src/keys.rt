@@ -18,7 +18,7 @@ pub fn place_of(kind: EntryKind, item: &Tree, items: &[Tree]) -> Option<usize>
 }
 
 /// Whether two items are one.
-fn are_one(kind: EntryKind, item: &Tree, other: &Tree) -> bool
+pub(crate) fn are_one(kind: EntryKind, item: &Tree, other: &Tree) -> bool
     ensures { result ≡ are_one kind item.now other.now }
 {
     match item {
@@ -125,7 +125,7 @@ fn protocol_at(entries: &Map) -> Option<&Tree>
 }
 
 /// The text of a field that is a scalar.
-fn text_at<'a>(entries: &'a Map, name: &str) -> Option<&'a Text>
+pub(crate) fn text_at<'a>(entries: &'a Map, name: &str) -> Option<&'a Text>
     ensures { option_copied result ≡ text_at entries.now name.now }
 {
     match entries.find(name) {
@@ -185,7 +185,7 @@ fn is_in(path: &str, folder: &str, name: &str) -> bool
 }
 
 /// Where the file of an entry is seen: a name in the folder, or the path as it is.
-fn seen_at(joins: bool, entries: &Map) -> Option<(bool, &Text)>
+pub(crate) fn seen_at(joins: bool, entries: &Map) -> Option<(bool, &Text)>
     ensures { (folder : List ℕ) → seen folder joins entries.now ≡
         option_map (λ found. placed folder found.0 found.1.now) result }
 {

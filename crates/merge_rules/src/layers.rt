@@ -5,11 +5,12 @@ ghost use Rattle.tree_base.specs.declared.Tree.{Tree, out-Tree};
 ghost use Rattle.tree_base.specs.declared.Step.TheVariants.{Key, Index};
 ghost use Rattle.merge_tables.specs.Answers.{Gives, UpGives, outer, place, under};
 ghost use Rattle.merge_rules.specs.Overlay.{entries_below, entries_laid, entries_over, entry_over, entry_placed, entry_taken, item_joined, items_below, items_joined, items_kept, items_laid, kept_below, laid, layers, one_of, over_files, overlaid, scalar_over, service_over, with_value};
+ghost use Rattle.merge_rules.specs.Marks.{AreNoted, AreNotedBy};
 ghost use Rattle.merge_tables.specs.Spots.{rules_of};
 ghost use Rattle.merge_tables.specs.Parts.{or_null};
 
 use crate::alone::stands;
-use crate::keys::place_of;
+use crate::places::{firsts_of, note, note_last, place_noted};
 use merge_tables::{
     EntryKind, Joining, MergeRefusal, Spot, Standing, from_root, joining_at, place, spot_below,
     with_step, within,
@@ -340,9 +341,10 @@ fn lay_items(
 ) -> Result<List<Tree>, MergeRefusal>
     ensures { UpGives result (items_joined joining (map laid items.now) base) }
 {
+    let mut firsts = firsts_of(alloc, joining, base.as_slice())?;
     let mut all = base;
     for item in items {
-        all = lay_item(item, all, joining, alloc)?;
+        all = lay_item(item, all, &mut firsts, joining, alloc)?;
     }
     Ok(all)
 }
@@ -352,14 +354,17 @@ fn lay_items(
 fn lay_item(
     item: &Tree,
     items: List<Tree>,
+    firsts: &mut TextMap<usize>,
     joining: Option<Joining>,
     alloc: Global,
 ) -> Result<List<Tree>, MergeRefusal>
-    ensures { UpGives result (item_joined joining items (laid item.now)) }
+    requires { AreNotedBy joining firsts.old items }
+    ensures joins { UpGives result (item_joined joining items (laid item.now)) }
+    ensures noted { IfOk result (λ all. AreNotedBy joining firsts.new all) }
 {
     let entry = lay(item, Tree::Null, Standing::Item, Spot::Plain, alloc)?;
     match joining {
-        Some(Joining::Unique(kind)) => take_in(item, entry, items, kind, alloc),
+        Some(Joining::Unique(kind)) => take_in(item, entry, items, firsts, kind, alloc),
         Some(Joining::Replaced) => Ok(with_one(items, entry)?),
         None => Ok(with_one(items, entry)?),
     }
@@ -390,16 +395,19 @@ fn take_in(
     item: &Tree,
     entry: Option<Tree>,
     items: List<Tree>,
+    firsts: &mut TextMap<usize>,
     kind: EntryKind,
     alloc: Global,
 ) -> Result<List<Tree>, MergeRefusal>
-    ensures { UpGives result (entry_taken kind items (laid item.now) entry) }
+    requires { AreNoted kind firsts.old items }
+    ensures joins { UpGives result (entry_taken kind items (laid item.now) entry) }
+    ensures noted { IfOk result (λ all. AreNoted kind firsts.new all) }
 {
     match entry {
         None => Ok(items),
-        Some(entry) => match place_of(kind, &entry, items.as_slice()) {
-            None => Ok(with_last(items, entry)?),
-            Some(at) => merge_at(item, entry, items, at, alloc),
+        Some(entry) => match place_noted(alloc, firsts, kind, &entry, items.as_slice())? {
+            Some(at) => merge_at(item, entry, items, firsts, kind, at, alloc),
+            None => Ok(note_last(alloc, firsts, kind, items, entry)?),
         },
     }
 }
@@ -410,17 +418,23 @@ fn merge_at(
     item: &Tree,
     entry: Tree,
     items: List<Tree>,
+    firsts: &mut TextMap<usize>,
+    kind: EntryKind,
     at: usize,
     alloc: Global,
 ) -> Result<List<Tree>, MergeRefusal>
-    requires { at < length items }
-    ensures { UpGives result (entry_placed items (laid item.now) entry (Some at)) }
+    requires within { at < length items }
+    requires noted { AreNoted kind firsts.old items }
+    ensures joins { UpGives result (entry_placed items (laid item.now) entry (Some at)) }
+    ensures noted { IfOk result (λ all. AreNoted kind firsts.new all) }
 {
     let mut all = items;
     let old = all.replace(at, Tree::Null);
     match lay_at(item, old, at, alloc) {
         Ok(merged) => {
-            drop(all.replace(at, merged.unwrap_or(entry)));
+            let merged = merged.unwrap_or(entry);
+            note(alloc, firsts, kind, &merged, at)?;
+            drop(all.replace(at, merged));
             Ok(all)
         }
         Err(refusal) => Err(refusal),

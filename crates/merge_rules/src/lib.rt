@@ -8,6 +8,8 @@ mod alone;
 mod keys;
 mod laws;
 mod layers;
+mod marks;
+mod places;
 
 pub use laws::{files_stand, no_mark_is_left, null_leaves, trees_stand};
 pub use layers::{overlay, overlay_onto, service_onto};

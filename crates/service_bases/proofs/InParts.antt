@@ -24,6 +24,14 @@ pub from_given : {B : Type 0} (r : Result Entries LoadRefusal) (f : Entries → 
 from_given {B} (Ok all) f base h = let same : all ≡ base = cc in ap f same
 from_given (Err e) f base h = absurd cc
 
+-- one service more over a chain that is laid
+pub laid_last : (layers : List Layer) (layer : Layer) (base all : Entries) → laid_up layers ≡ Ok base → (layers ≡ [] → ⊥) → layer_over base layer ≡ Ok all → laid_up (layers ++ layer ∷ []) ≡ Ok all
+laid_last [] layer base all e some o = absurd (some refl)
+laid_last (l ∷ layers) layer base all e some o =
+    in_parts layers (layer ∷ []) l.service
+    ∙ ap (λ (r : Result Entries LoadRefusal). r >>= λ below. layers_over below (layer ∷ [])) e
+    ∙ ap (λ (r : Result Entries LoadRefusal). r >>= λ below. Ok below) o
+
 pub over_empty : (last top : Layer) → last.service ≡ [] → StandsAlone top.at.service top.service → laid_up (last ∷ top ∷ []) ≡ Ok top.service
 over_empty last top e alone =
     ap (λ (base : Entries). layers_over base (top ∷ [])) e

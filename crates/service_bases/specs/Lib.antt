@@ -1,4 +1,5 @@
 pub mod Bases
 pub mod Chains
 pub mod Extending
+pub mod Known
 pub mod Laws

@@ -84,7 +84,7 @@ fn step_in(
 }
 
 /// A chain with a service behind the others, without what it extends.
-fn with_layer(
+pub(crate) fn with_layer(
     alloc: Global,
     layers: List<Layer>,
     file: &Text,
@@ -100,7 +100,12 @@ fn with_layer(
 }
 
 /// A service of a chain, without what it extends.
-fn layer_for(alloc: Global, file: &Text, name: &Text, service: Map) -> Result<Layer, Memory>
+pub(crate) fn layer_for(
+    alloc: Global,
+    file: &Text,
+    name: &Text,
+    service: Map,
+) -> Result<Layer, Memory>
     ensures { IfOk result (λ layer. layer ≡ layer_for file.now name.now service) }
 {
     let mut service = service;

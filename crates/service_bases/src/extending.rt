@@ -3,17 +3,19 @@ ghost use Rattle.loaded_files.specs.Reads.{Gives, WentAs};
 ghost use Rattle.loaded_files.specs.declared.refusal.LoadRefusal.{LoadRefusal};
 ghost use Rattle.outside_files.specs.Counts.{Rose};
 ghost use Rattle.service_bases.specs.Extending.{all_extended, chain_over, extended, goes_on, services_extended};
+ghost use Rattle.service_bases.specs.Known.{AreWhole};
 ghost use Rattle.tree_base.specs.Entries.{with_entry};
 ghost use Rattle.tree_base.specs.declared.Tree.{Tree};
 
 use crate::base::extend_nothing;
 use crate::chain::{Chain, Layer, chain_in};
+use crate::known::{Whole, extended_here};
 use crate::laid::laid_up;
 use crate::source::{Source, base_file};
 use loaded_files::{LoadRefusal, ServiceAt, names_of};
 use outside_files::Files;
 use std::alloc::Global;
-use tree_base::{Env, List, Map, Memory, Text, Tree, TryCopy};
+use tree_base::{Env, List, Map, Memory, Text, TextMap, Tree, TryCopy};
 
 /// The services of a model over all that they extend, and how many files may still be read. Where none extends
 /// anything, they are shared as they are. Their own paths are taken
@@ -93,8 +95,9 @@ fn all_extended<F: Files>(
 {
     let mut services = services;
     let mut left = left;
+    let mut known = TextMap::new(alloc);
     for name in names {
-        let (service, rest) = extended(alloc, files, env, source, name, left)?;
+        let (service, rest) = extended_once(alloc, files, env, source, &mut known, name, left)?;
         put_service(alloc, &mut services, name, service)?;
         left = rest;
     }
@@ -108,6 +111,32 @@ fn put_service(alloc: Global, services: &mut Map, name: &Text, service: Map) -> 
     let service = Tree::mapping(alloc, service)?;
     drop(services.put(name.copy(alloc)?, service)?);
     Ok(())
+}
+
+/// A service over all that it extends, and how many files may still be read. What is known of its chain isn't made again.
+fn extended_once<F: Files>(
+    alloc: Global,
+    files: &mut F,
+    env: &Env,
+    source: &Source,
+    known: &mut TextMap<Whole>,
+    name: &Text,
+    left: u32,
+) -> Result<(Map, u32), LoadRefusal>
+    requires { AreWhole env.now source.now known.old }
+    ensures known { OnOk result (AreWhole env.now source.now known.new) }
+    ensures given { Gives (F.told files.old) result
+        (extended env.now source.now name.now left) }
+    ensures fault { (at : List ℕ) → result ≡ Err (LoadRefusal.ReadFault at)
+        → Rose (F.faults files.old) (F.faults files.new) }
+    ensures reads { WentAs (F.reads files.old) (F.reads files.new) result }
+    ensures counted { F.faults files.old ≤ F.faults files.new }
+    ensures kept { F.told files.new ≡ F.told files.old }
+{
+    match extended_here(alloc, env, source, known, name)? {
+        Some(service) => Ok((service, left)),
+        None => extended(alloc, files, env, source, name, left),
+    }
 }
 
 /// A service over all that it extends, and how many files may still be read.

@@ -36,7 +36,7 @@ fn layers_over(alloc: Global, base: Map, layers: List<Layer>) -> Result<Map, Loa
 }
 
 /// A service laid over what its bases gave, which is moved.
-fn layer_over(alloc: Global, base: Map, layer: &Layer) -> Result<Map, LoadRefusal>
+pub(crate) fn layer_over(alloc: Global, base: Map, layer: &Layer) -> Result<Map, LoadRefusal>
     ensures given { IsGiven result (layer_over base layer.now) }
     ensures fault { (at : List ℕ) → result ≡ Err (LoadRefusal.ReadFault at) → ⊥ }
 {

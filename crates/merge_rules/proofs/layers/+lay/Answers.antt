@@ -1,4 +1,4 @@
-use Rattle.std.proofs.Common.{◌≡◌, ◌∙◌, ◌+◌, ap, sym, Ok, List, ℕ, [], length, map, drop, slice_get, slice_set, Some, Option, unwrap_or, refl, arith, rules}
+use Rattle.std.proofs.Common.{◌≡◌, ◌∙◌, ◌+◌, ap, sym, subst, Ok, List, ℕ, [], length, map, drop, slice_get, slice_set, Some, Option, unwrap_or, refl, arith, rules}
 use Rattle.std.specs.List.{zip}
 use Rattle.std.proofs.lemmas.Result.{err_from_is_err_and}
 use Rattle.std.proofs.lemmas.Option.{slice_get_read}
@@ -12,6 +12,8 @@ use Rattle.merge_tables.specs.Spots.{rules_of}
 use Rattle.merge_tables.specs.Parts.{or_null}
 use Rattle.merge_tables.proofs.Answering.{fails_on, goes_on, same_fails}
 use Rattle.attribute_paths.proofs.Walks.{entry_next, item_next, no_entry, set_twice}
+use Rattle.merge_rules.specs.Marks.{AreNoted}
+use Rattle.merge_rules.proofs.EntryPlaces.{set_noted}
 use Rattle.merge_rules.proofs.Laying.{entry_goes, item_fails, map_goes, map_lays}
 use Rattle.merge_rules.proofs.layers.+lay.Goals as goal
 
@@ -95,10 +97,10 @@ lay_items-returns-in_err-all t c =
     let item = c.item-item.result in
     let at : slice_get items l.item-index ≡ Some item = slice_get_read items (length items) l.item-index item refl (omega arith) c.item-item.is in
     let next = item_next laid items l.item-index item at in
-    let p = err_from_is_err_and c.from_residual.result c.from_residual.ensures.1 in
+    let p = err_from_is_err_and c.from_residual-in_err-all.result c.from_residual-in_err-all.ensures.1 in
     let e = turned c.in_err-all.field-0.0 in
-    rw (p.1, p.2) (same_fails e _ _ (sym (ap (λ (ls : List Lay). items_joined joining ls l.all) next) ∙ l.invariant)
-    (fails_on e (item_joined joining l.all (laid item)) (items_joined joining (drop (l.item-index + 1) (map laid items))) c.in_err-all.ensures))
+    rw (p.1, p.2) (same_fails e _ _ (sym (ap (λ (ls : List Lay). items_joined joining ls l.all) next) ∙ l.invariant.0)
+    (fails_on e (item_joined joining l.all (laid item)) (items_joined joining (drop (l.item-index + 1) (map laid items))) c.in_err-all.ensures.joins))
 
 pub lay_items-loop-item-preserved : goal.lay_items-loop-item-preserved
 lay_items-loop-item-preserved t c =
@@ -108,18 +110,20 @@ lay_items-loop-item-preserved t c =
     let item = c.item-item.result in
     let at : slice_get items l.item-index ≡ Some item = slice_get_read items (length items) l.item-index item refl (omega arith) c.item-item.is in
     let next = item_next laid items l.item-index item at in
-    let rest = drop (l.item-index + 1) (map laid items) in
-    sym (goes_on (item_joined joining l.all (laid item)) (items_joined joining rest) c.in_ok-all.all c.in_ok-all.ensures)
-    ∙ sym (ap (λ (ls : List Lay). items_joined joining ls l.all) next) ∙ l.invariant
+    let rest = drop (l.item-index + 1) (map laid items) in (
+      sym (goes_on (item_joined joining l.all (laid item)) (items_joined joining rest) c.in_ok-all.all c.in_ok-all.ensures.joins)
+          ∙ sym (ap (λ (ls : List Lay). items_joined joining ls l.all) next) ∙ l.invariant.0,
+      c.in_ok-all.ensures.noted,
+    )
 
-pub lay_item-returns-in_err-entry : goal.lay_item-returns-in_err-entry
-lay_item-returns-in_err-entry t c =
+pub lay_item-returns-in_err-entry-clause-joins : goal.lay_item-returns-in_err-entry-clause-joins
+lay_item-returns-in_err-entry-clause-joins t c =
     let p = err_from_is_err_and c.from_residual.result c.from_residual.ensures.1 in
     let e = turned c.in_err-entry.field-0.0 in
     rw (p.1, p.2) (item_fails c.args.joining c.args.items (laid c.args.item.now) e c.in_err-entry.ensures)
 
-pub merge_at-returns-in-Ok : goal.merge_at-returns-in-Ok
-merge_at-returns-in-Ok t c =
+pub merge_at-returns-in_ok-note-in-Ok-clause-joins : goal.merge_at-returns-in_ok-note-in-Ok-clause-joins
+merge_at-returns-in_ok-note-in-Ok-clause-joins t c =
     let items = c.args.items in
     let at = c.args.at in
     let lay = laid c.args.item.now in
@@ -127,10 +131,19 @@ merge_at-returns-in-Ok t c =
     let got : under (Index (place at)) (lay Item [] (or_null (slice_get items at))) ≡ Ok c.in-Ok.merged =
     ap (λ (o : Tree). under (Index (place at)) (lay Item [] o)) old ∙ c.in-Ok.ensures in
     goes_on _ (λ (merged : Option Tree). Ok (slice_set items at (unwrap_or merged c.args.entry))) c.in-Ok.merged got
-    ∙ ap Ok (sym (c.replace.ensures.new ∙ (λ i. slice_set (c.replace-old.ensures.new i) at (c.unwrap_or.ensures i)) ∙ set_twice items at Null (unwrap_or c.in-Ok.merged c.args.entry)))
+    ∙ ap Ok (sym (c.replace.ensures.new ∙ (λ i. slice_set (c.replace-old.ensures.new i) at (c.unwrap_or-merged.ensures i)) ∙ set_twice items at Null (unwrap_or c.in-Ok.merged c.args.entry)))
 
-pub merge_at-returns-in-Err : goal.merge_at-returns-in-Err
-merge_at-returns-in-Err t c =
+pub merge_at-returns-in_ok-note-in-Ok-clause-noted : goal.merge_at-returns-in_ok-note-in-Ok-clause-noted
+merge_at-returns-in_ok-note-in-Ok-clause-noted t c =
+    let items = c.args.items in
+    let at = c.args.at in
+    let merged = c.unwrap_or-merged.result in
+    subst (AreNoted c.args.kind c.note.new.firsts)
+    (sym (c.replace.ensures.new ∙ ap (λ (l : List Tree). slice_set l at merged) c.replace-old.ensures.new ∙ set_twice items at Null merged))
+    (set_noted c.args.kind c.args.firsts.now c.note.new.firsts c.note.ensures.stays items at merged c.requires.noted c.in_ok-note-in-Ok.ensures.noted)
+
+pub merge_at-returns-in-Err-clause-joins : goal.merge_at-returns-in-Err-clause-joins
+merge_at-returns-in-Err-clause-joins t c =
     let items = c.args.items in
     let at = c.args.at in
     let lay = laid c.args.item.now in

@@ -24,6 +24,15 @@ returns-in_err-service-clause-given g c =
     rw (p.1, p.2) (λ n. l.invariant.ran (Err e) (subst (λ (ns : List (List ℕ)). Ran told (all_extended a.env.now a.source.now ns l.services l.left) (Err e)) (sym next)
     (service_out told a.env.now a.source.now name (drop (l.name-index + 1) names) l.services l.left e (given (λ q. n q)))))
 
+pub loop-name-init : goal.loop-name-init
+loop-name-init g c = record {
+  ran = λ r k. k;
+  counted = omega arith;
+  kept = refl;
+  whole = rw c.new-known.ensures (λ name whole at. absurd cc);
+  reads = λ well. well;
+}
+
 pub loop-name-preserved : goal.loop-name-preserved
 loop-name-preserved g c =
     let a = c.args in
@@ -41,6 +50,7 @@ loop-name-preserved g c =
           (service_on told a.env.now a.source.now name (drop (l.name-index + 1) names) l.services l.left service c.put_service.new.services rest r given c.in_ok-put_service.ensures k));
       counted = omega (arith, l.invariant.counted, c.in_ok-service.ensures.counted);
       kept = c.in_ok-service.ensures.kept ∙ l.invariant.kept;
+      whole = c.in_ok-service.ensures.known;
       reads = λ well. c.in_ok-service.ensures.reads (l.invariant.reads well);
     }
 

@@ -4,6 +4,7 @@ use Rattle.loaded_files.specs.Reads.{Ran}
 use Rattle.outside_files.specs.Reads.{Well, went}
 use Rattle.loaded_files.specs.declared.refusal.LoadRefusal.{LoadRefusal}
 use Rattle.service_bases.specs.Extending.{all_extended}
+use Rattle.service_bases.specs.Known.{AreWhole}
 use Rattle.service_bases.proofs.extending.all_extended.Given as goal
 
 abbrev pub invariant-loop-name : goal.invariant-loop-name
@@ -12,5 +13,6 @@ invariant-loop-name g l = record {
       → Ran (g.F.Files.told l.fn.files) (all_extended l.env l.source l.names l.fn.services l.fn.left) r;
   counted : g.F.Files.faults l.fn.files ≤ g.F.Files.faults l.files;
   kept : g.F.Files.told l.files ≡ g.F.Files.told l.fn.files;
+  whole : AreWhole l.env l.source l.known;
   reads : went (g.F.Files.reads l.fn.files) ≡ Well → went (g.F.Files.reads l.files) ≡ Well;
 }

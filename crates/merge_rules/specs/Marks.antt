@@ -1,0 +1,50 @@
+-- Marks of entries: texts by which those that may be one are found.
+use Rattle.std.specs.Prelude.{◌≡◌, ℕ, ◌+◌, ◌<◌, ◌≤◌, false, List, [], ◌∷◌, ◌++◌, Option, Some, None, unwrap_or, flat_map, slice_get, codes}
+use Rattle.std.specs.Option.{option_map}
+use Rattle.tree_base.specs.Entries.{value_at}
+use Rattle.tree_base.specs.declared.Tree.{Tree, out-Tree}
+use Rattle.merge_tables.specs.declared.rules.EntryKind.{EntryKind}
+use Rattle.merge_tables.specs.declared.rules.Joining.{Joining}
+use Rattle.merge_tables.specs.declared.rules.Joining.TheVariants.{Unique}
+use Rattle.merge_tables.specs.Parts.{text_in}
+use Rattle.merge_rules.specs.Uniqueness.{are_one, key_in}
+
+-- the line of a part of a key: its text, and for a part without one the text that a protocol has where none is given
+abbrev pub line_text : Tree → List ℕ
+line_text part = unwrap_or (text_in (out-Tree part)) (codes "tcp") ++ 10 ∷ []
+
+-- the lines of a key
+abbrev pub mark_text : List Tree → List ℕ
+mark_text key = flat_map line_text key
+
+-- the mark of an item: the lines of what it is known by. Items that are one have the same mark
+abbrev pub mark_of : EntryKind → Tree → Option (List ℕ)
+mark_of kind item = option_map mark_text (key_in kind (out-Tree item))
+
+-- a mark is noted with a place that isn't behind this one
+abbrev pub IsNoted : List (List ℕ × ℕ) → List ℕ → ℕ → Type 0
+IsNoted firsts mark at = unwrap_or (value_at firsts mark) (at + 1) ≤ at
+
+-- the mark of each item is noted with the place of the item, or with one before it
+abbrev pub AreNoted : EntryKind → List (List ℕ × ℕ) → List Tree → Type 0
+AreNoted kind firsts items =
+    (at : ℕ) (item : Tree) (mark : List ℕ) → slice_get items at ≡ Some item → mark_of kind item ≡ Some mark
+    → IsNoted firsts mark at
+
+-- the same of items that are joined in this way, where they are unique
+abbrev pub AreNotedBy : Option Joining → List (List ℕ × ℕ) → List Tree → Type 0
+AreNotedBy (Some (Unique kind)) firsts items = AreNoted kind firsts items
+AreNotedBy joining firsts items = Unit {0}
+
+-- what was noted stays noted
+abbrev pub StaysNoted : List (List ℕ × ℕ) → List (List ℕ × ℕ) → Type 0
+StaysNoted old new = (mark : List ℕ) (at : ℕ) → IsNoted old mark at → IsNoted new mark at
+
+-- the mark of an item, if it has one, is noted with a place that isn't behind this one
+abbrev pub ItemIsNoted : EntryKind → List (List ℕ × ℕ) → Tree → ℕ → Type 0
+ItemIsNoted kind firsts item at = (mark : List ℕ) → mark_of kind item ≡ Some mark → IsNoted firsts mark at
+
+-- none of the items before a place is one with an item
+abbrev pub NoneBefore : EntryKind → Tree → List Tree → ℕ → Type 0
+NoneBefore kind item items n =
+    (at : ℕ) (other : Tree) → at < n → slice_get items at ≡ Some other → are_one kind item other ≡ false
