@@ -21,7 +21,7 @@ use tree_base::{List, Memory, Text};
 
 /// The plug of the program. It tells no Engine, keeps the dials that it was asked for, and counts the hands that it made. No dial
 /// fails: the hand of a socket connects at its exchanges, and all hands in memory share one Engine, which is fresh for the first
-/// of them.
+/// of them and settles.
 #[derive(Drop)]
 pub struct MainPlug<'r, R> {
     host: &'r HostRuntime,
@@ -175,12 +175,13 @@ impl<'r, R: Wait + Sync> Plug for MainPlug<'r, R> {
     }
 }
 
-/// A fresh Engine in memory, with a clock at 0.
+/// A fresh Engine in memory that settles, with a clock at 0.
 fn fresh_engine(alloc: Global) -> Result<SharedEngine, Memory>
     ensures engine { IfOk result (λ shared. IsFresh shared.engine) }
     ensures clock { IfOk result (λ shared. shared.clock ≡ 0) }
+    ensures looked { IfOk result (λ shared. shared.looked ≡ Some []) }
 {
-    Ok(SharedEngine::new(MemoryEngine::fresh(alloc)?))
+    Ok(SharedEngine::settling(alloc, MemoryEngine::fresh(alloc)?))
 }
 
 /// A new hand over the socket at a path, which doesn't connect yet.

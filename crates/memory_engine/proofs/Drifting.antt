@@ -1,4 +1,4 @@
--- A tick of the script is an own change of the Engine, or none.
+-- A tick of the script, and a change of one container, is an own change of the Engine, or none.
 use Rattle.std.proofs.Common.{◌≡◌, ℕ, Bool, true, false, List, [], ◌∷◌, Option, Some, None, map, refl, sym, ap, subst, ◌∙◌, inl, inr}
 use Rattle.std.specs.Prelude.{find, is_some}
 use Rattle.std.specs.List.{list_all, IsDistinct}
@@ -13,7 +13,7 @@ use Rattle.memory_engine.specs.declared.script.Change.{Change}
 use Rattle.memory_engine.specs.declared.script.Tick.{Tick}
 use Rattle.memory_engine.specs.Keeping.{IsKept}
 use Rattle.memory_engine.specs.Serving.{with_container, with_first}
-use Rattle.memory_engine.specs.Ticking.{changed_report, changed_row, is_running, ticked, ticked_by}
+use Rattle.memory_engine.specs.Ticking.{changed_report, changed_row, is_running, ticked}
 use Rattle.memory_engine.proofs.Texts.{by_cases, bytes_eq_itself}
 use Rattle.memory_engine.proofs.AnyAll.{all-with_first, among-find}
 use Rattle.memory_engine.proofs.Distinct.{find-among}
@@ -67,25 +67,23 @@ turns_into (Change.Exit code) report runs =
     inl (rw state refl, refl, λ same. let clash : ContainerState.Running ≡ ContainerState.Exited = sym state ∙ same in cc)
 turns_into (Change.Health now) report runs = inr (running report.state runs, refl)
 
-drifts_by : (engine : Engine) (tick : Tick) → IsKept engine → (found : Option ContainerRow)
-    → find (λ row. bytes_eq tick.container row.name) engine.containers ≡ found → Drifts engine (ticked_by engine tick)
-drifts_by engine tick kept None missed = (
+-- the first container that passes a test changes
+drifts_at : (engine : Engine) (p : ContainerRow → Bool) (change : Change) → IsKept engine → (found : Option ContainerRow)
+    → find p engine.containers ≡ found → Drifts engine (record engine { containers = with_first p (changed_row change) engine.containers })
+drifts_at engine p change kept None missed = (
   0,
-  ap (λ (rows : List ContainerRow). record engine { containers = rows })
-      (with_first-missed (λ (row : ContainerRow). bytes_eq tick.container row.name) (changed_row tick.change) engine.containers missed),
+  ap (λ (rows : List ContainerRow). record engine { containers = rows }) (with_first-missed p (changed_row change) engine.containers missed),
 )
-drifts_by engine tick kept (Some row) found =
-    let named = λ (r : ContainerRow). bytes_eq tick.container r.name in
-    let change = changed_row tick.change in
-    let report = changed_report tick.change row.report in
+drifts_at engine p change kept (Some row) found =
+    let report = changed_report change row.report in
     let with_rows = λ (rows : List ContainerRow). record engine { containers = rows } in
-    let same_id = same_by (λ r. r.id) tick.change (λ _ _. refl) in
+    let same_id = same_by (λ r. r.id) change (λ _ _. refl) in
     by_cases (is_running row.report.state)
     (λ runs.
-    let among = (among-find named engine.containers row found).0 in
+    let among = (among-find p engine.containers row found).0 in
     let was = find-among id_of engine.containers row kept.sound.container_ids among in
-    let changed : changed_row tick.change row ≡ record row { report = report } = rw runs in
-    let one = ap with_rows (sym (by_id named change engine.containers row kept.sound.container_ids found)) in (
+    let changed : changed_row change row ≡ record row { report = report } = rw runs in
+    let one = ap with_rows (sym (by_id p (changed_row change) engine.containers row kept.sound.container_ids found)) in (
       1,
       (
         engine,
@@ -95,34 +93,53 @@ drifts_by engine tick kept (Some row) found =
           row = row;
           report = report;
           was = was;
-          turns = turns_into tick.change row.report runs;
+          turns = turns_into change row.report runs;
           changes = subst (λ (new : Engine). ChangesContainer engine new row.id (Some (record row { report = report }))) one
-              (subst (λ (now : ContainerRow). ChangesContainer engine (with_container engine row.id change) row.id (Some now)) changed
-              (changes_container engine row.id change same_id row was));
+              (subst (λ (now : ContainerRow). ChangesContainer engine (with_container engine row.id (changed_row change)) row.id (Some now)) changed
+              (changes_container engine row.id (changed_row change) same_id row was));
         },
       ),
     ))
     (λ rests.
-    let same : changed_row tick.change row ≡ row = rw rests in
-    (0, ap with_rows (with_first-same named change row engine.containers found same)))
+    let same : changed_row change row ≡ row = rw rests in
+    (0, ap with_rows (with_first-same p (changed_row change) row engine.containers found same)))
 
 pub ticked_drifts : (engine : Engine) (script : List Tick) → IsKept engine → Drifts engine (ticked engine script)
 ticked_drifts engine [] kept = (0, refl)
-ticked_drifts engine (tick ∷ script) kept = drifts_by engine tick kept (find (λ row. bytes_eq tick.container row.name) engine.containers) refl
+ticked_drifts engine (tick ∷ script) kept = drifts_at engine (λ row. bytes_eq tick.container row.name) tick.change kept (find (λ row. bytes_eq tick.container row.name) engine.containers) refl
+
+-- a change leaves the Engine sound, and the names that containers were given
+changed_keeps : (engine : Engine) (p : ContainerRow → Bool) (change : Change) → IsKept engine
+    → IsKept (record engine { containers = with_first p (changed_row change) engine.containers })
+changed_keeps engine p change kept =
+    keeps_changed engine p (changed_row change)
+    (same_by (λ row. row.id) change (λ _ _. refl))
+    (same_by (λ row. row.name) change (λ _ _. refl))
+    (λ row there. ap (λ networks. list_all (λ i. is_some (network_at engine i)) networks) (same_by (λ r. r.networks) change (λ _ _. refl) row) ∙ there)
+    kept
+
+changed_given : (given : List ℕ → Bool) (p : ContainerRow → Bool) (change : Change) (rows : List ContainerRow) → list_all (λ row. given row.name) rows ≡ true
+    → list_all (λ row. given row.name) (with_first p (changed_row change) rows) ≡ true
+changed_given given p change rows all =
+    all-with_first (λ row. given row.name) p (changed_row change) (λ row was. ap given (same_by (λ r. r.name) change (λ _ _. refl) row) ∙ was) rows all
 
 pub ticked_keeps : (engine : Engine) (script : List Tick) → IsKept engine → IsKept (ticked engine script)
 ticked_keeps engine [] kept = kept
-ticked_keeps engine (tick ∷ script) kept =
-    keeps_changed engine (λ row. bytes_eq tick.container row.name) (changed_row tick.change)
-    (same_by (λ row. row.id) tick.change (λ _ _. refl))
-    (same_by (λ row. row.name) tick.change (λ _ _. refl))
-    (λ row there. ap (λ networks. list_all (λ i. is_some (network_at engine i)) networks) (same_by (λ r. r.networks) tick.change (λ _ _. refl) row) ∙ there)
-    kept
+ticked_keeps engine (tick ∷ script) kept = changed_keeps engine (λ row. bytes_eq tick.container row.name) tick.change kept
 
 -- a container that changes keeps its name
 pub ticked_given : (given : List ℕ → Bool) (engine : Engine) (script : List Tick) → list_all (λ row. given row.name) engine.containers ≡ true
     → list_all (λ row. given row.name) (ticked engine script).containers ≡ true
 ticked_given given engine [] all = all
-ticked_given given engine (tick ∷ script) all =
-    all-with_first (λ row. given row.name) (λ row. bytes_eq tick.container row.name) (changed_row tick.change)
-    (λ row was. ap given (same_by (λ r. r.name) tick.change (λ _ _. refl) row) ∙ was) engine.containers all
+ticked_given given engine (tick ∷ script) all = changed_given given (λ row. bytes_eq tick.container row.name) tick.change engine.containers all
+
+-- the container with an id changes by itself
+pub own_drifts : (engine : Engine) (id : List ℕ) (change : Change) → IsKept engine → Drifts engine (with_container engine id (changed_row change))
+own_drifts engine id change kept = drifts_at engine (λ row. bytes_eq row.id id) change kept (find (λ row. bytes_eq row.id id) engine.containers) refl
+
+pub own_keeps : (engine : Engine) (id : List ℕ) (change : Change) → IsKept engine → IsKept (with_container engine id (changed_row change))
+own_keeps engine id change kept = changed_keeps engine (λ row. bytes_eq row.id id) change kept
+
+pub own_given : (given : List ℕ → Bool) (engine : Engine) (id : List ℕ) (change : Change) → list_all (λ row. given row.name) engine.containers ≡ true
+    → list_all (λ row. given row.name) (with_container engine id (changed_row change)).containers ≡ true
+own_given given engine id change all = changed_given given (λ row. bytes_eq row.id id) change engine.containers all

@@ -1,7 +1,7 @@
 -- Look-ups in rows by a key, after a row is changed, taken out or added.
-use Rattle.std.proofs.Common.{◌≡◌, ℕ, zero, suc, length, position, slice_get, subst, inl, inr, arith, true, false, not, if◌then◌else◌, List, [], ◌∷◌, ◌++◌, Option, Some, None, map, refl}
+use Rattle.std.proofs.Common.{◌≡◌, ℕ, zero, suc, length, position, slice_get, subst, sym, ◌∙◌, ◌<◌, ◌≤◌, ◌+◌, ap, inl, inr, arith, true, false, not, if◌then◌else◌, List, [], ◌∷◌, ◌++◌, Option, Some, None, map, refl}
 use Rattle.std.specs.Prelude.{filter, find}
-use Rattle.std.specs.List.{position_or_len, IsDistinct}
+use Rattle.std.specs.List.{position_or_len, remove, AllByRecursion, IsDistinct}
 use Rattle.std.specs.Option.{option_map, option_map_or}
 use Rattle.std.specs.Str.{bytes_eq}
 use Rattle.std.proofs.lemmas.Bool.{lt-ltb}
@@ -10,7 +10,8 @@ use Rattle.std.proofs.lemmas.Option.{slice_get_within}
 use Rattle.run_model.specs.EngineRules.{Among}
 use Rattle.memory_engine.specs.Serving.{with_first}
 use Rattle.memory_engine.proofs.Distinct.{AllByRecursion-among}
-use Rattle.memory_engine.proofs.Texts.{by_cases, same_text, bytes_eq_alike, bytes_eq_apart}
+use Rattle.memory_engine.proofs.Places.{first_place, no_place, one_more}
+use Rattle.memory_engine.proofs.Texts.{by_cases, same_text, bytes_eq_alike, bytes_eq_apart, bytes_eq_flips}
 
 module _ {X : Type 0} (key : X → List ℕ) where
   -- the row with a key is changed, and keeps its key
@@ -91,3 +92,36 @@ module _ {X : Type 0} (key : X → List ℕ) where
   pub position-with_key : (id : List ℕ) (xs : List X) (n : ℕ) → IsDistinct bytes_eq (map key xs) → option_map_or (λ x. bytes_eq (key x) id) (slice_get xs n) false ≡ true
       → position (λ y. bytes_eq (key y) id) xs ≡ Some n
   position-with_key id xs n distinct here = position_with_key id xs n (slice_get xs n) distinct refl here
+
+  -- rows of which none has a key are those without it
+  lacking : (id : List ℕ) (xs : List X) → AllByRecursion (λ k. bytes_eq id k ≡ false) (map key xs) → filter (λ x. not (bytes_eq (key x) id)) xs ≡ xs
+  lacking id [] all = refl
+  lacking id (x ∷ xs) all = let apart : bytes_eq (key x) id ≡ false = bytes_eq_flips (key x) id ∙ all.0 in rw (apart, lacking id xs all.1) refl
+
+  removed_first : (id : List ℕ) (xs : List X) → IsDistinct bytes_eq (map key xs) → position_or_len (λ x. bytes_eq (key x) id) xs < length xs
+      → filter (λ x. not (bytes_eq (key x) id)) xs ≡ remove xs (position_or_len (λ x. bytes_eq (key x) id) xs)
+  removed_first id [] distinct within = absurd (omega arith)
+  removed_first id (x ∷ xs) distinct within = by_cases (bytes_eq (key x) id)
+      (λ here. let others = subst (λ (i : List ℕ). AllByRecursion (λ k. bytes_eq i k ≡ false) (map key xs)) (same_text (key x) id here) (IsDistinct-head bytes_eq (key x) (map key xs) distinct) in
+      rw here (lacking id xs others))
+      (λ apart. let bound : 1 + position_or_len (λ y. bytes_eq (key y) id) xs < suc (length xs) = rw apart at within in
+      rw (apart, one_more) (ap (λ ys. x ∷ ys) (removed_first id xs (IsDistinct-tail bytes_eq (key x) (map key xs) distinct) (omega arith))))
+
+  -- where keys differ, the rows without a key are all but the first that has it
+  pub filter-removed : (id : List ℕ) (xs : List X) (n : ℕ) → IsDistinct bytes_eq (map key xs) → position (λ x. bytes_eq (key x) id) xs ≡ Some n
+      → filter (λ x. not (bytes_eq (key x) id)) xs ≡ remove xs n
+  filter-removed id xs n distinct is =
+      let place = first_place (λ (x : X). bytes_eq (key x) id) xs n is in
+      let within : position_or_len (λ x. bytes_eq (key x) id) xs < length xs = subst (λ (m : ℕ). m < length xs) place.0 place.1 in
+      removed_first id xs distinct within ∙ ap (λ (m : ℕ). remove xs m) (sym place.0)
+
+  -- and where none has it, they are all
+  pub filter-missed : (id : List ℕ) (xs : List X) → position (λ x. bytes_eq (key x) id) xs ≡ None → filter (λ x. not (bytes_eq (key x) id)) xs ≡ xs
+  filter-missed id xs is = past xs (no_place (λ (x : X). bytes_eq (key x) id) xs is)
+    where
+      past : (ys : List X) → length ys ≤ position_or_len (λ x. bytes_eq (key x) id) ys → filter (λ x. not (bytes_eq (key x) id)) ys ≡ ys
+      past [] bound = refl
+      past (y ∷ ys) bound = by_cases (bytes_eq (key y) id)
+          (λ here. let none : suc (length ys) ≤ 0 = rw here at bound in absurd (omega arith))
+          (λ apart. let more : suc (length ys) ≤ 1 + position_or_len (λ x. bytes_eq (key x) id) ys = rw apart at bound in
+          rw apart (ap (λ zs. y ∷ zs) (past ys (omega arith))))

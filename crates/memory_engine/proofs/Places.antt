@@ -10,7 +10,7 @@ use Rattle.engine_types.specs.declared.ImageRow.{ImageRow}
 use Rattle.memory_engine.specs.Serving.{with_first, with_image}
 use Rattle.memory_engine.proofs.Texts.{by_cases}
 
-one_more : (n : ℕ) → 1 + n ≡ suc n
+pub one_more : (n : ℕ) → 1 + n ≡ suc n
 one_more n = omega arith
 
 -- what is there already is put there

@@ -85,7 +85,7 @@ pub fn remove(alloc: Global, engine: &mut Engine, id: &Text) -> Result<Reply, Me
     if is_live(row.report.state) {
         return refusals::conflict(alloc);
     }
-    rows::take_out(alloc, &mut engine.containers, id);
+    rows::take_out(&mut engine.containers, id);
     Ok(Reply::Done)
 }
 

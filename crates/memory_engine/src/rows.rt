@@ -83,10 +83,11 @@ fn set_networks_at(alloc: Global, rows: &mut List<ContainerRow>, at: usize, netw
 }
 
 /// Takes out the container with an id. No memory.
-pub fn take_out(alloc: Global, rows: &mut List<ContainerRow>, id: &Text)
+pub fn take_out(rows: &mut List<ContainerRow>, id: &Text)
+    requires { HasOwnIds rows.old }
     ensures { rows.new ≡ filter (λ row. not (bytes_eq row.id id.now)) rows.old }
 {
-    let mut items = mem::replace(rows, List::new(alloc)).into_vec();
-    items.retain(|row| !(row.id == *id));
-    *rows = List::from_vec(items);
+    if let Some(at) = place_of_id(rows.as_slice(), id) {
+        drop(rows.remove(at));
+    }
 }

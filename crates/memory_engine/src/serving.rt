@@ -1,15 +1,16 @@
 ghost use Rattle.std.specs.Prelude.{◌≡◌, IfOk, IfSome, OnErr, true, false};
-ghost use Rattle.run_model.specs.EngineRules.{Answers, IsSound, has_container_named};
+ghost use Rattle.std.specs.Option.{option_copied};
+ghost use Rattle.run_model.specs.EngineRules.{Answers, IsSound, container_at, has_container_named};
 ghost use Rattle.memory_engine.specs.Keeping.{HasOwnIds};
 ghost use Rattle.memory_engine.specs.Naming.{name_given};
 ghost use Rattle.memory_engine.specs.Serving.{served};
 
 use crate::catalogue::Catalogue;
 use crate::state::MemoryEngine;
-use crate::{containers, creation, images, listing, networks, volumes};
-use engine_types::{Engine, Reply, Request};
+use crate::{containers, creation, images, listing, look_ups, networks, volumes};
+use engine_types::{ContainerRow, Engine, Reply, Request};
 use std::alloc::Global;
-use tree_base::Memory;
+use tree_base::{Memory, Text};
 
 impl MemoryEngine {
     /// Answers a request, as version 1.43 of the Docker Engine API does. `Memory` where there is none, or
@@ -30,6 +31,13 @@ impl MemoryEngine {
         let _next = self.engine.next;
         let is_new = self.names.note(alloc, request)?;
         answer(alloc, &self.catalogue, &mut self.engine, request, is_new)
+    }
+
+    /// The container with an id. No memory.
+    pub fn container(&self, id: &Text) -> Option<&ContainerRow>
+        ensures { option_copied result ≡ container_at self.now.engine id.now }
+    {
+        look_ups::container(&self.engine, id)
     }
 }
 

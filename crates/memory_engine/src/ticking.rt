@@ -2,6 +2,8 @@ ghost use Rattle.std.specs.Prelude.{◌≡◌, ◌<◌, [], ◌∷◌, Some, Mat
 ghost use Rattle.std.specs.Prelude.{slice_get, slice_set};
 ghost use Rattle.engine_types.specs.declared.ContainerRow.{ContainerRow};
 ghost use Rattle.run_model.specs.EngineRules.{Drifts, IsSound};
+ghost use Rattle.memory_engine.specs.Keeping.{HasOwnIds};
+ghost use Rattle.memory_engine.specs.Serving.{with_container};
 ghost use Rattle.memory_engine.specs.Ticking.{changed_report, changed_row, later, ticked, ticked_by};
 ghost use Rattle.memory_engine.specs.Ticking.{is_running as is_running_state};
 
@@ -10,7 +12,7 @@ use crate::script::{Change, Tick};
 use crate::state::MemoryEngine;
 use engine_types::{ContainerRow, ContainerState, Engine, Report};
 use std::alloc::Global;
-use tree_base::List;
+use tree_base::{List, Text};
 
 impl MemoryEngine {
     /// Applies the first tick of the script, if there is one, and uses it up. A tick for a container that
@@ -27,6 +29,30 @@ impl MemoryEngine {
         if let Some(tick) = take_first(&mut self.script) {
             apply(&mut self.engine, tick);
         }
+    }
+
+    /// Lets the container with an id change by itself, where there is one and it runs. No memory.
+    pub fn change(&mut self, alloc: Global, id: &Text, change: Change)
+        ensures engine { self.new.engine
+            ≡ with_container self.old.engine id.now (changed_row change) }
+        ensures drifts { Drifts self.old.engine self.new.engine }
+        ensures sound { IsSound self.new.engine }
+        ensures script { self.new.script ≡ self.old.script }
+        ensures faults { self.new.faults ≡ self.old.faults }
+        ensures made { self.new.made ≡ self.old.made }
+        ensures catalogue { self.new.catalogue ≡ self.old.catalogue }
+    {
+        change_of(alloc, &mut self.engine, id, change);
+    }
+}
+
+/// Changes the container with an id, where it runs.
+fn change_of(alloc: Global, engine: &mut Engine, id: &Text, change: Change)
+    requires { HasOwnIds engine.old.containers }
+    ensures { engine.new ≡ with_container engine.old id.now (changed_row change) }
+{
+    if let Some(at) = rows::place_of_id(engine.containers.as_slice(), id) {
+        change_at(alloc, &mut engine.containers, at, change);
     }
 }
 

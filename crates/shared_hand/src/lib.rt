@@ -1,7 +1,8 @@
 //! Hands that share an Engine in memory, each for a worker in a thread of its own.
 //!
 //! `SharedEngine` is what lies under their lock: the Engine, and the clock of its hands. Its contract says exactly what an
-//! exchange, a pause and a look make of both.
+//! exchange, a pause and a look make of both. One that settles changes by itself where a container is looked at, so that what is
+//! waited for comes: health, and the end of what runs once.
 //!
 //! A `SharedHand` makes each of these under the lock, and meets the contract of `Hand`: its log grows by exactly the exchange. The
 //! reply is one that an Engine in memory gives to that request, or memory was wanted: nothing is lost or left unsent, and no fault
@@ -11,6 +12,7 @@
 //! A `SharedPlug` makes such hands for one Engine, which it gives back where none of them is left.
 #![tactic(auto)]
 
+mod settling;
 mod shared_engine;
 mod shared_hand;
 mod shared_plug;
