@@ -22,5 +22,5 @@ pub use compose_config::{ConfigEnd, config_run};
 pub use ended::Ended;
 pub use page::print_page;
 pub use reaching::{Place, place_asked};
-pub use run::{refused, write_report};
+pub use run::{refusal_after, refused, write_report, write_text};
 pub use top::serial_main;

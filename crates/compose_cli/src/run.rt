@@ -167,7 +167,7 @@ pub fn write_report<O: Sink>(fault: Option<RunFault>, report: &Text, out: &mut O
 }
 
 /// Writes a text; false where the output failed, after a prefix of it. No memory.
-fn write_text<O: Sink>(text: &Text, out: &mut O) -> bool
+pub fn write_text<O: Sink>(text: &Text, out: &mut O) -> bool
     ensures { Wrote result text.now (O.written out.old) (O.written out.new)
         (O.faults out.old) (O.faults out.new) }
 {
@@ -175,7 +175,7 @@ fn write_text<O: Sink>(text: &Text, out: &mut O) -> bool
 }
 
 /// What a call is refused with whose run has this fault, if any, and whose report was written whole, or wasn't. No memory.
-fn refusal_after(fault: Option<RunFault>, whole: bool) -> Option<Refusal>
+pub fn refusal_after(fault: Option<RunFault>, whole: bool) -> Option<Refusal>
     ensures { result ≡ refusal_after fault whole }
 {
     match fault {

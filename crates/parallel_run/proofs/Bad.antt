@@ -1,7 +1,7 @@
 -- What a run leaves that ended with its observation.
 use Rattle.std.proofs.Common.{◌≡◌, ◌⊎◌, ℕ, ◌+◌, ◌<◌, Bool, true, false, List, [], ◌∷◌, ◌++◌, Option, None, Some, if◌then◌else◌, length, reverse, refl, sym, ap, ◌∙◌, subst, inl, inr, arith}
 use Rattle.std.proofs.lemmas.Bool.{ne_eqb}
-use Rattle.std.specs.Prelude.{◌==◌, option_map, slice_get}
+use Rattle.std.specs.Prelude.{◌==◌, slice_get}
 use Rattle.engine_types.specs.declared.Aim.{Aim}
 use Rattle.engine_types.specs.declared.Declared.{Declared}
 use Rattle.engine_types.specs.declared.Entry.{Entry}
@@ -15,7 +15,7 @@ use Rattle.ledger_run.specs.Timing.{late_by, readings_for}
 use Rattle.observe_project.specs.Exchanges.{HasCauseOfEnd}
 use Rattle.outside_api.specs.Accounts.{Account, AreCaused}
 use Rattle.outside_api.specs.Clock.{Clock, new_clock}
-use Rattle.parallel_run.specs.Together.{HasRun, limits_by}
+use Rattle.parallel_run.specs.Together.{HasRun}
 use Rattle.parallel_run.proofs.Joined.{readings_else}
 use Rattle.project_run.proofs.Timed.{reads_first, run_timed, still_timed}
 use Rattle.project_run.specs.Opening.{HasEndedBadly, Opens}
@@ -23,9 +23,8 @@ use Rattle.project_run.specs.Options.{clock_begun}
 use Rattle.project_run.specs.Timing.{IsTimed, run_readings}
 use Rattle.project_run.specs.Whole.{IsCaused, task_of}
 use Rattle.project_run.specs.declared.opening.Opening.{Opening}
-use Rattle.engine_types.specs.declared.RunOptions.{RunOptions}
 use Rattle.run_model.specs.Ending.{is_seen_bad}
-use Rattle.run_model.specs.Logs.{GrowsBy, deadline_after}
+use Rattle.run_model.specs.Logs.{GrowsBy}
 use Rattle.run_model.specs.Runs.{IsLeftByAll, IsRun, Task}
 use Rattle.worker_pool.specs.Crew.{EachPair}
 
@@ -40,12 +39,9 @@ never_late : (deadline : Option ℕ) (last : ℕ) → None ≡ late_by deadline 
 never_late None last = refl
 never_late (Some d) last = refl
 
-module _ (declared : Declared) (aim : Aim) (options : RunOptions) (workers : ℕ) (observed : Observed) (clock : Clock) (before now : Telling)
-    (unused : before.clock ≡ new_clock) (read : clock ≡ clock_begun options.wait_seconds (length before.log) clock.first)
+module _ (declared : Declared) (aim : Aim) (bounds : RunLimits) (observed : Observed) (clock : Clock) (before now : Telling)
+    (unused : before.clock ≡ new_clock) (read : clock ≡ clock_begun bounds.deadline (length before.log) clock.first)
     (opens : Opens declared aim (Opening.Ended observed) (record before { clock = clock }) now) where
-  abbrev bounds : RunLimits
-  bounds = limits_by workers options now.clock.first
-
   bad : HasEndedBadly observed
   bad = opens.follows
 
@@ -69,10 +65,9 @@ module _ (declared : Declared) (aim : Aim) (options : RunOptions) (workers : ℕ
       observed = λ zero other e. let same : Some (Entry.Seen observed) ≡ Some (Entry.Seen other) = e in
           let one : observed ≡ other = cc same in subst (λ (o : Observed). HasCauseOfEnd now.heard before.faults now.faults o.end) one opens.cause;
     };
-    timed = run_timed (task_of declared aim bounds) (Entry.Seen observed ∷ []) options.wait_seconds (length before.log) before.clock clock now.clock unused read refl
-        (subst (λ (c : Clock). of_worker.IsTimed (option_map (deadline_after clock.first) options.wait_seconds) (Entry.Seen observed ∷ []) clock c) (sym opens.timed)
-        (still_timed (option_map (deadline_after clock.first) options.wait_seconds) observed clock));
-    read_first = λ zero. reads_first options.wait_seconds (length before.log) clock now.clock read (λ place e. ap (λ (c : Clock). c.place) opens.timed ∙ e);
+    timed = run_timed (task_of declared aim bounds) (Entry.Seen observed ∷ []) (length before.log) before.clock clock now.clock unused read
+        (subst (λ (c : Clock). of_worker.IsTimed bounds.deadline (Entry.Seen observed ∷ []) clock c) (sym opens.timed) (still_timed bounds.deadline observed clock));
+    read_first = λ zero. reads_first bounds.deadline (length before.log) clock now.clock read (λ place e. ap (λ (c : Clock). c.place) opens.timed ∙ e);
   }
 
   bad_other : (w : ℕ) (s : Telling) → (w == 0) ≡ false → HasRun (task_of declared aim bounds) (Entry.Seen observed ∷ []) w s s

@@ -1,8 +1,10 @@
 -- What is said of each hand of a run.
-use Rattle.std.proofs.Common.{◌≡◌, ℕ, ◌+◌, List, [], ◌∷◌, length}
+use Rattle.std.proofs.Common.{◌≡◌, ℕ, ◌+◌, ◌<◌, List, [], ◌∷◌, length, ap, arith}
+use Rattle.std.specs.Prelude.{All}
 use Rattle.engine_types.specs.declared.Entry.{Entry}
 use Rattle.ledger_run.specs.Tellings.{Telling, account_in}
-use Rattle.parallel_run.specs.Together.{HasRun}
+use Rattle.outside_api.specs.Clock.{Clock, new_clock}
+use Rattle.parallel_run.specs.Together.{HasRun, first_reading}
 use Rattle.project_run.specs.Timing.{IsTimed, ReadsFirst}
 use Rattle.project_run.specs.Whole.{IsCaused}
 use Rattle.run_model.specs.Logs.{GrowsBy}
@@ -37,3 +39,8 @@ module _ {H : Type 0} (tell : H → Telling) (task : Task) (journal : List Entry
   pub firsts : EachPair (λ w x y. w ≡ 0 → ReadsFirst task.limits.deadline (length (tell x).log) (tell y).clock) 0 xs ys
   firsts = each_of (λ (w : ℕ) (x y : H). HasRun task journal w (tell x) (tell y)) (λ (w : ℕ) (x y : H). w ≡ 0 → ReadsFirst task.limits.deadline (length (tell x).log) (tell y).clock)
       (λ w x y ran. ran.read_first) 0 xs ys each
+
+-- hand 0's clock was never read where no hand's was
+pub never_read : {H : Type 0} (clock : H → Clock) (hands : List H) → 0 < length hands → All (λ h. clock h ≡ new_clock) hands → first_reading clock hands ≡ 0
+never_read clock [] some unused = absurd (omega (arith, some))
+never_read clock (hand ∷ others) some unused = ap (λ (c : Clock). c.first) (unused 0 hand (omega arith))

@@ -1,7 +1,7 @@
 -- What a run leaves that its workers left.
 use Rattle.std.proofs.Common.{◌≡◌, ◌⊎◌, ℕ, ◌+◌, ◌<◌, ◌≤◌, Bool, true, false, List, [], ◌∷◌, ◌++◌, Option, None, Some, if◌then◌else◌, length, reverse, refl, sym, ap, ◌∙◌, subst, inl, inr, arith}
 use Rattle.std.proofs.lemmas.Bool.{ne_eqb}
-use Rattle.std.specs.Prelude.{◌==◌, option_map, slice_get}
+use Rattle.std.specs.Prelude.{◌==◌, slice_get}
 use Rattle.engine_types.specs.declared.Aim.{Aim}
 use Rattle.engine_types.specs.declared.Declared.{Declared}
 use Rattle.engine_types.specs.declared.Entry.{Entry}
@@ -23,20 +23,19 @@ use Rattle.observe_project.specs.Exchanges.{HasCauseOfEnd}
 use Rattle.outside_api.proofs.Accounts.{caused-append}
 use Rattle.outside_api.specs.Accounts.{Account, AreCaused}
 use Rattle.outside_api.specs.Clock.{Clock, new_clock}
-use Rattle.parallel_run.specs.Together.{HasRun, limits_by}
+use Rattle.parallel_run.specs.Together.{HasRun}
 use Rattle.project_run.proofs.Joining.{seen_after}
-use Rattle.project_run.proofs.Timed.{reads_first, run_timed, same_deadline}
+use Rattle.project_run.proofs.Timed.{reads_first, run_timed}
 use Rattle.project_run.specs.Opening.{Opens}
 use Rattle.project_run.specs.Options.{bounded, clock_begun}
 use Rattle.project_run.specs.Timing.{IsTimed, run_readings}
 use Rattle.project_run.specs.Whole.{IsCaused, task_of}
 use Rattle.project_run.specs.declared.opening.Opening.{Opening}
-use Rattle.engine_types.specs.declared.RunOptions.{RunOptions}
 use Rattle.run_ends.proofs.Leaving.{left_ends}
 use Rattle.run_model.specs.Ending.{EveryWorkerLeft, IsRunOver}
 use Rattle.run_model.specs.Journals.{Setup, seen_in}
 use Rattle.run_model.specs.Legal.{IsLegal, Saw}
-use Rattle.run_model.specs.Logs.{GrowsBy, asks_unstopped, deadline_after, exchanges_of}
+use Rattle.run_model.specs.Logs.{GrowsBy, asks_unstopped, exchanges_of}
 use Rattle.run_model.specs.Plans.{basis_of}
 use Rattle.run_model.specs.Rolling.{run_actions}
 use Rattle.run_model.specs.Runs.{IsLeftByAll, IsRun, Task, run_exchanges, run_seen, run_setup}
@@ -60,8 +59,8 @@ first_timed deadline past old new t = record {
   late = t.late;
 }
 
-module _ (declared : Declared) (aim : Aim) (options : RunOptions) (workers : ℕ) (limits : RunLimits) (observed : Observed) (plan : Plan) (journal : List Entry) (clock : Clock) (before mid now : Telling)
-    (unused : before.clock ≡ new_clock) (read : clock ≡ clock_begun options.wait_seconds (length before.log) clock.first) (bound : limits ≡ bounded aim (limits_by workers options clock.first))
+module _ (declared : Declared) (aim : Aim) (bounds limits : RunLimits) (observed : Observed) (plan : Plan) (journal : List Entry) (clock : Clock) (before mid now : Telling)
+    (unused : before.clock ≡ new_clock) (read : clock ≡ clock_begun bounds.deadline (length before.log) clock.first) (bound : limits ≡ bounded aim bounds)
     (may : MayBegin declared observed plan limits)
     (opens : Opens declared aim (Opening.Planned observed plan) (record before { clock = clock }) mid)
     (seen : Seen) (good : observed.end ≡ SeenEnd.Good seen) (actions : plan.actions ≡ run_actions (basis_of declared seen aim))
@@ -76,22 +75,18 @@ module _ (declared : Declared) (aim : Aim) (options : RunOptions) (workers : ℕ
   new = run_of declared plan limits journal
 
   abbrev task : Task
-  task = task_of declared aim (limits_by workers options now.clock.first)
+  task = task_of declared aim bounds
 
   -- its clock, and so its limits
-  deadline : limits.deadline ≡ option_map (deadline_after clock.first) options.wait_seconds
+  deadline : limits.deadline ≡ bounds.deadline
   deadline = ap (λ (l : RunLimits). l.deadline) bound
 
-  timed : of_worker.IsTimed (option_map (deadline_after clock.first) options.wait_seconds) (reverse journal) clock now.clock
-  timed = subst (λ (c : Clock). of_worker.IsTimed (option_map (deadline_after clock.first) options.wait_seconds) (reverse journal) c now.clock) opens.timed
+  timed : of_worker.IsTimed bounds.deadline (reverse journal) clock now.clock
+  timed = subst (λ (c : Clock). of_worker.IsTimed bounds.deadline (reverse journal) c now.clock) opens.timed
       (subst (λ (d : Option ℕ). of_worker.IsTimed d (reverse journal) mid.clock now.clock) deadline (first_timed limits.deadline (reverse journal) mid.clock now.clock done.timed))
 
-  same_bounds : limits_by workers options now.clock.first ≡ limits_by workers options clock.first
-  same_bounds = ap (λ (d : Option ℕ). record { workers = workers; deadline = d; wait = options.wait; stop_seconds = options.stop_seconds })
-      (same_deadline options.wait_seconds (length before.log) clock now.clock read timed.first)
-
-  pub limits_are : bounded aim (limits_by workers options now.clock.first) ≡ limits
-  limits_are = ap (bounded aim) same_bounds ∙ sym bound
+  pub limits_are : bounded aim bounds ≡ limits
+  limits_are = sym bound
 
   -- what it is of
   saw : Saw observed.end (first_seen (Entry.Seen observed ∷ []))
@@ -160,8 +155,8 @@ module _ (declared : Declared) (aim : Aim) (options : RunOptions) (workers : ℕ
     log = subst (λ (l : List Exchange). GrowsBy l before.log now.log) (sym are_first)
         (grows-append observed.exchanges done.made before.log mid.log now.log opens.log done.log);
     caused = caused_first;
-    timed = run_timed task journal options.wait_seconds (length before.log) before.clock clock now.clock unused read refl timed;
-    read_first = λ zero. reads_first options.wait_seconds (length before.log) clock now.clock read timed.place;
+    timed = run_timed task journal (length before.log) before.clock clock now.clock unused read timed;
+    read_first = λ zero. reads_first bounds.deadline (length before.log) clock now.clock read timed.place;
   }
 
   -- what another worker's hand did

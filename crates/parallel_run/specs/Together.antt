@@ -14,7 +14,7 @@ use Rattle.ledger_run.specs.Works.{GoesOn}
 use Rattle.outside_api.specs.Clock.{Clock}
 use Rattle.project_run.specs.Carrying.{come_to, cut_short}
 use Rattle.project_run.specs.Opening.{Opens}
-use Rattle.project_run.specs.Options.{bounded, clock_begun}
+use Rattle.project_run.specs.Options.{clock_begun}
 use Rattle.project_run.specs.Timing.{IsTimed, ReadsFirst}
 use Rattle.project_run.specs.Whole.{IsCaused}
 use Rattle.project_run.specs.declared.opening.Opening.{Opening}
@@ -33,18 +33,16 @@ first_reading clock (hand ∷ others) = (clock hand).first
 abbrev pub limits_by : ℕ → RunOptions → ℕ → RunLimits
 limits_by workers options first = limits_of workers options first
 
--- the run opened with hand 0, whose clock was read first where there is to be a deadline; the other hands are as they were
+-- the run opened with hand 0, whose clock was read first where there is a deadline; the other hands are as they were
 pub record OpensWith {H : Type 0} (tell : H → Telling) (declared : Declared) (aim : Aim)
-    (options : RunOptions) (limits : RunLimits) (opening : Opening)
-    (before after : List H) : Type 0 where
+    (bounds : RunLimits) (opening : Opening) (before after : List H) : Type 0 where
   pub first : H
   pub opened : H
   pub others : List H
   pub were : before ≡ first ∷ others
   pub are : after ≡ opened ∷ others
   pub clock : Clock
-  pub read : clock ≡ clock_begun options.wait_seconds (length (tell first).log) clock.first
-  pub bound : limits ≡ bounded aim (limits_by (length before) options clock.first)
+  pub read : clock ≡ clock_begun bounds.deadline (length (tell first).log) clock.first
   pub opens : Opens declared aim opening (record (tell first) { clock = clock }) (tell opened)
 
 -- the workers left a run that goes on from this one, and the hand of each did what the journal says since

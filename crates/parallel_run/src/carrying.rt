@@ -1,4 +1,4 @@
-ghost use Rattle.std.specs.Prelude.{◌≡◌, ◌∷◌, ◌≤◌, ◌<◌, ◌⊎◌, [], All, Some, length, reverse};
+ghost use Rattle.std.specs.Prelude.{◌≡◌, ◌∷◌, ◌≤◌, ◌<◌, ◌⊎◌, [], All, None, Some, IfSome, length, reverse};
 ghost use Rattle.engine_types.specs.declared.Entry.{Entry as Entered};
 ghost use Rattle.engine_types.specs.declared.RunFault.{RunFault as Fault};
 ghost use Rattle.journal_laws.specs.Courses.{setup_of};
@@ -13,7 +13,7 @@ ghost use Rattle.project_run.specs.Whole.{IsFault, IsReport};
 ghost use Rattle.run_model.specs.Ending.{first_fault};
 ghost use Rattle.run_model.specs.Lines.{report_text};
 
-use crate::ran_together::RanTogether;
+use crate::ran_together::CarriedTogether;
 use engine_types::{
     Declared, Entry, Exchange, Observed, Plan, RunFault, RunLimits, SeenEnd, SeenFault,
 };
@@ -29,7 +29,7 @@ use worker_pool::{Together, work_together};
 
 /// Carries a plan out that was made from an observation, with a worker for each hand, and tells what came of it. Where there is no
 /// memory to begin, the observation has ended for want of it, and stands in the journal that was given, which is empty and has room
-/// for it.
+/// for it. The declared set is handed back where there was memory to begin.
 pub(crate) fn carry_out<R: Threads + Wait + Sync, H: Hand + Send>(
     alloc: Global,
     rt: &R,
@@ -39,7 +39,7 @@ pub(crate) fn carry_out<R: Threads + Wait + Sync, H: Hand + Send>(
     plan: Plan,
     limits: RunLimits,
     journal: ReservedList<Entry>,
-) -> RanTogether<H>
+) -> CarriedTogether<H>
     requires may { MayBegin declared observed plan limits }
     requires some { 0 < length hands }
     requires workers { limits.workers ≡ length hands }
@@ -48,6 +48,8 @@ pub(crate) fn carry_out<R: Threads + Wait + Sync, H: Hand + Send>(
     requires room { 1 ≤ journal.spare }
     ensures carried { AreCarriedOut (λ h. telling (H.log h) (H.heard h) (H.faults h) (H.clock h)
         (H.engine h)) declared observed plan limits result.ran.journal hands result.hands }
+    ensures back { IfSome result.declared (λ same. same ≡ declared) }
+    ensures lost { result.declared ≡ None → result.ran.fault ≡ Some Fault.Memory }
     ensures fault { IsFault (first_fault
         (setup_of (run_of declared plan limits result.ran.journal)) (reverse result.ran.journal))
         result.ran.fault }
@@ -57,9 +59,10 @@ pub(crate) fn carry_out<R: Threads + Wait + Sync, H: Hand + Send>(
 {
     match begin(alloc, declared, observed, plan, limits) {
         Ok(ledger) => work_through(alloc, rt, hands, ledger, limits, journal),
-        Err(observed) => RanTogether {
+        Err(observed) => CarriedTogether {
             ran: unbegun(alloc, observed.exchanges, journal),
             hands,
+            declared: None,
         },
     }
 }
@@ -72,7 +75,7 @@ fn work_through<R: Threads + Wait + Sync, H: Hand + Send>(
     ledger: Ledger,
     limits: RunLimits,
     journal: ReservedList<Entry>,
-) -> RanTogether<H>
+) -> CarriedTogether<H>
     requires begun { HasOnlySeen ledger.journal }
     requires open_run { IsOpen ledger }
     requires limits { ledger.limits ≡ limits }
@@ -85,6 +88,8 @@ fn work_through<R: Threads + Wait + Sync, H: Hand + Send>(
         → IsWorkedOn (λ h. telling (H.log h) (H.heard h) (H.faults h) (H.clock h) (H.engine h))
         ledger result.ran.journal hands result.hands
         ⊎ IsUnbegun observed result.ran.journal hands result.hands }
+    ensures back { IfSome result.declared (λ same. same ≡ ledger.declared) }
+    ensures lost { result.declared ≡ None → result.ran.fault ≡ Some Fault.Memory }
     ensures fault { IsFault (first_fault
         (setup_of (run_of ledger.declared ledger.plan limits result.ran.journal))
         (reverse result.ran.journal)) result.ran.fault }
@@ -97,12 +102,20 @@ fn work_through<R: Threads + Wait + Sync, H: Hand + Send>(
             let Together { ledger, hands } = done;
             let (declared, plan, journal) = ledger.finish();
             let ran = end(alloc, &declared, &plan, limits, journal);
-            RanTogether { ran, hands }
+            CarriedTogether {
+                ran,
+                hands,
+                declared: Some(declared),
+            }
         }
         Err(kept) => {
             let Together { ledger, hands } = kept;
             let ran = unbegun(alloc, exchanges_of(ledger), journal);
-            RanTogether { ran, hands }
+            CarriedTogether {
+                ran,
+                hands,
+                declared: None,
+            }
         }
     }
 }

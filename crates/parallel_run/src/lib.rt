@@ -13,5 +13,5 @@ mod opening;
 mod ran_together;
 mod whole_run;
 
-pub use ran_together::RanTogether;
-pub use whole_run::run_parallel;
+pub use ran_together::{HandedTogether, RanTogether};
+pub use whole_run::{run_parallel, run_parallel_given};

@@ -1,10 +1,11 @@
-ghost use Rattle.std.specs.Prelude.{◌≡◌, ◌<◌, ◌≤◌, [], All, Some, None, false, true, IfOk, length};
+ghost use Rattle.std.specs.Prelude.{◌≡◌, ◌<◌, ◌≤◌, [], All, Some, None, false, true, IfOk, IfSome, length};
 ghost use Rattle.engine_types.specs.declared.RunFault.{RunFault as Fault};
 ghost use Rattle.ledger_run.specs.Tellings.{telling};
 ghost use Rattle.outside_api.specs.Accounts.{account};
 ghost use Rattle.outside_api.specs.Clock.{new_clock};
 ghost use Rattle.parallel_run.specs.Together.{LeavesTogether, first_reading, limits_by};
 ghost use Rattle.plan_core.specs.Order.{HasNoCycle};
+ghost use Rattle.project_run.specs.Options.{AreFor, limits_in};
 ghost use Rattle.project_run.specs.Timing.{IsTimed, ReadsFirst};
 ghost use Rattle.project_run.specs.Whole.{IfBegun, IsCaused, IsFault, IsReport, SparesKept, task_of};
 ghost use Rattle.project_run.specs.Worlds.{EndsExact, EndsGone, MakesOnce, RollsFew, SparesAgreeing};
@@ -19,10 +20,10 @@ ghost use Rattle.world_laws.specs.OwnSpecs.{HasOwnSpecs};
 
 use crate::carrying::carry_out;
 use crate::opening::{Begun, open_with};
-use crate::ran_together::RanTogether;
-use engine_types::{Aim, Declared, Entry, RunFault, RunOptions};
+use crate::ran_together::{CarriedTogether, HandedTogether, RanTogether};
+use engine_types::{Aim, Declared, Entry, RunFault, RunLimits, RunOptions};
 use outside_api::Hand;
-use project_run::{Opening, Ran, ended};
+use project_run::{Opening, Ran, bounded, ended, unread_limits};
 use std::alloc::Global;
 use std::sync::Wait;
 use std::thread::Threads;
@@ -116,12 +117,89 @@ pub fn run_parallel<R: Threads + Wait + Sync, H: Hand + Send>(
         result.ran.journal }
 {
     match first_journal(alloc) {
-        Ok(journal) => run(alloc, rt, hands, declared, aim, options, journal),
+        Ok(journal) => {
+            let HandedTogether {
+                ran,
+                hands,
+                declared: back,
+                limits: _,
+            } = run(alloc, rt, hands, declared, aim, options, None, journal);
+            drop(back);
+            RanTogether { ran, hands }
+        }
         Err(Memory) => RanTogether {
             ran: unopened(alloc, declared),
             hands,
         },
     }
+}
+
+/// The same within limits that an earlier run of the same had, the deadline among them, where they are given; else with those that
+/// options set. The limits are handed back, and so is the declared set, but where memory was wanted.
+pub fn run_parallel_given<R: Threads + Wait + Sync, H: Hand + Send>(
+    alloc: Global,
+    rt: &R,
+    hands: List<H>,
+    declared: Declared,
+    aim: Aim,
+    options: RunOptions,
+    given: Option<RunLimits>,
+) -> HandedTogether<H>
+    requires some { 0 < length hands }
+    requires few { length hands ≤ most_workers }
+    requires whole { IsWhole declared }
+    requires small { HasSmallNumbers declared }
+    requires acyclic { HasNoCycle declared }
+    requires needs { NeedsDependencies declared }
+    requires unused { All (λ h. H.clock h ≡ new_clock) hands }
+    requires given { AreFor (length hands) given }
+    ensures empty { result.ran.journal ≡ [] → (result.ran.fault ≡ Some Fault.Memory)
+        × (result.hands ≡ hands) }
+    ensures limits { result.limits ≡ limits_in (length hands) options given
+        (first_reading (λ h. H.clock h) result.hands) }
+    ensures leaves { IfBegun result.ran.journal (LeavesTogether
+        (λ h. telling (H.log h) (H.heard h) (H.faults h) (H.clock h) (H.engine h))
+        (task_of declared aim (limits_in (length hands) options given
+        (first_reading (λ h. H.clock h) result.hands))) result.ran.journal hands result.hands) }
+    ensures fault { IfBegun result.ran.journal (IsFault (run_fault (task_of declared aim
+        (limits_in (length hands) options given
+        (first_reading (λ h. H.clock h) result.hands))) result.ran.journal) result.ran.fault) }
+    ensures report { IsReport (run_report (task_of declared aim
+        (limits_in (length hands) options given
+        (first_reading (λ h. H.clock h) result.hands))) result.ran.journal)
+        result.ran.fault result.ran.report }
+    ensures back { IfSome result.declared (λ same. same ≡ declared) }
+    ensures lost { result.declared ≡ None → result.ran.fault ≡ Some Fault.Memory }
+{
+    match first_journal(alloc) {
+        Ok(journal) => run(alloc, rt, hands, declared, aim, options, given, journal),
+        Err(Memory) => {
+            let (hands, limits) = unread(hands, options, given);
+            HandedTogether {
+                ran: unopened(alloc, declared),
+                hands,
+                declared: None,
+                limits,
+            }
+        }
+    }
+}
+
+/// The limits of a run of as many workers as there are new hands, none of which ever read its clock. No memory.
+fn unread<H: Hand>(
+    hands: List<H>,
+    options: RunOptions,
+    given: Option<RunLimits>,
+) -> (List<H>, RunLimits)
+    requires some { 0 < length hands }
+    requires few { length hands ≤ most_workers }
+    requires unused { All (λ h. H.clock h ≡ new_clock) hands }
+    ensures hands { result.0 ≡ hands }
+    ensures limits { result.1 ≡ limits_in (length hands) options given
+        (first_reading (λ h. H.clock h) result.0) }
+{
+    let workers = hands.len() as u32;
+    (hands, unread_limits(workers, options, given))
 }
 
 /// An empty journal with room for an observation.
@@ -156,8 +234,9 @@ fn run<R: Threads + Wait + Sync, H: Hand + Send>(
     declared: Declared,
     aim: Aim,
     options: RunOptions,
+    given: Option<RunLimits>,
     journal: ReservedList<Entry>,
-) -> RanTogether<H>
+) -> HandedTogether<H>
     requires some { 0 < length hands }
     requires few { length hands ≤ most_workers }
     requires whole { IsWhole declared }
@@ -165,31 +244,52 @@ fn run<R: Threads + Wait + Sync, H: Hand + Send>(
     requires acyclic { HasNoCycle declared }
     requires needs { NeedsDependencies declared }
     requires unused { All (λ h. H.clock h ≡ new_clock) hands }
+    requires given { AreFor (length hands) given }
     requires empty { journal.items ≡ [] }
     requires room { 1 ≤ journal.spare }
+    ensures limits { result.limits ≡ limits_in (length hands) options given
+        (first_reading (λ h. H.clock h) result.hands) }
     ensures leaves { LeavesTogether (λ h. telling (H.log h) (H.heard h) (H.faults h) (H.clock h)
-        (H.engine h)) (task_of declared aim
-        (limits_by (length hands) options (first_reading (λ h. H.clock h) result.hands)))
-        result.ran.journal hands result.hands }
+        (H.engine h)) (task_of declared aim (limits_in (length hands) options given
+        (first_reading (λ h. H.clock h) result.hands))) result.ran.journal hands result.hands }
     ensures fault { IsFault (run_fault (task_of declared aim
-        (limits_by (length hands) options (first_reading (λ h. H.clock h) result.hands)))
-        result.ran.journal) result.ran.fault }
+        (limits_in (length hands) options given
+        (first_reading (λ h. H.clock h) result.hands))) result.ran.journal) result.ran.fault }
     ensures report { IsReport (run_report (task_of declared aim
-        (limits_by (length hands) options (first_reading (λ h. H.clock h) result.hands)))
-        result.ran.journal) result.ran.fault result.ran.report }
+        (limits_in (length hands) options given
+        (first_reading (λ h. H.clock h) result.hands))) result.ran.journal)
+        result.ran.fault result.ran.report }
+    ensures back { IfSome result.declared (λ same. same ≡ declared) }
+    ensures lost { result.declared ≡ None → result.ran.fault ≡ Some Fault.Memory }
 {
     let Begun {
         hands,
-        limits,
+        bounds,
         opening,
-    } = open_with(alloc, hands, &declared, aim, options);
+    } = open_with(alloc, hands, &declared, aim, options, given);
+    let limits = bounded(aim, bounds);
     match opening {
-        Opening::Planned { observed, plan } => carry_out(
-            alloc, rt, hands, declared, observed, plan, limits, journal,
-        ),
-        Opening::Ended(observed) => RanTogether {
-            ran: ended(alloc, &declared, observed, journal),
-            hands,
-        },
+        Opening::Planned { observed, plan } => {
+            let CarriedTogether {
+                ran,
+                hands,
+                declared: back,
+            } = carry_out(alloc, rt, hands, declared, observed, plan, limits, journal);
+            HandedTogether {
+                ran,
+                hands,
+                declared: back,
+                limits: bounds,
+            }
+        }
+        Opening::Ended(observed) => {
+            let ran = ended(alloc, &declared, observed, journal);
+            HandedTogether {
+                ran,
+                hands,
+                declared: Some(declared),
+                limits: bounds,
+            }
+        }
     }
 }

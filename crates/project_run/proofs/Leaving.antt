@@ -1,6 +1,6 @@
 -- What a run leaves, from how it opened and how its plan was carried out.
 use Rattle.std.proofs.Common.{◌≡◌, ◌⊎◌, ℕ, ◌<◌, Bool, true, false, List, [], ◌∷◌, ◌++◌, Option, None, Some, reverse, refl, sym, ap, ◌∙◌, subst, inl, inr, arith}
-use Rattle.std.specs.Prelude.{drop, length, option_map, slice_get}
+use Rattle.std.specs.Prelude.{drop, length, slice_get}
 use Rattle.engine_types.specs.declared.Action.{Action}
 use Rattle.engine_types.specs.declared.Aim.{Aim}
 use Rattle.engine_types.specs.declared.Declared.{Declared}
@@ -10,7 +10,6 @@ use Rattle.engine_types.specs.declared.Observed.{Observed}
 use Rattle.engine_types.specs.declared.Plan.{Plan}
 use Rattle.engine_types.specs.declared.RunFault.{RunFault}
 use Rattle.engine_types.specs.declared.RunLimits.{RunLimits}
-use Rattle.engine_types.specs.declared.RunOptions.{RunOptions}
 use Rattle.engine_types.specs.declared.Seen.{Seen}
 use Rattle.engine_types.specs.declared.SeenEnd.{SeenEnd}
 use Rattle.engine_types.specs.declared.SeenFault.{SeenFault}
@@ -28,10 +27,10 @@ use Rattle.outside_api.specs.Clock.{Clock, new_clock}
 use Rattle.plan_core.specs.Order.{HasNoCycle}
 use Rattle.project_run.proofs.Beginning.{may_begin}
 use Rattle.project_run.proofs.Joining.{seen_after}
-use Rattle.project_run.proofs.Timed.{reads_first, run_timed, same_limits, still_timed}
+use Rattle.project_run.proofs.Timed.{reads_first, run_timed, still_timed}
 use Rattle.project_run.specs.Carrying.{IsCarriedOut, IsUnbegun, IsWorked, come_to, cut_short}
 use Rattle.project_run.specs.Opening.{HasEndedBadly, Opens}
-use Rattle.project_run.specs.Options.{bounded, clock_begun, limits_by}
+use Rattle.project_run.specs.Options.{bounded, clock_begun}
 use Rattle.project_run.specs.Timing.{IsTimed}
 use Rattle.project_run.specs.Whole.{IsCaused, Leaves, run_steps, task_of}
 use Rattle.project_run.specs.declared.opening.Opening.{Opening}
@@ -42,7 +41,7 @@ use Rattle.run_model.specs.EngineRules.{Step, TellsSteps, exchanges_in, unpaused
 use Rattle.run_model.specs.Journals.{Setup, has_left, seen_in}
 use Rattle.run_model.specs.Legal.{IsLegal, IsObserved, Saw, seen_end, whole_end}
 use Rattle.run_model.specs.Lines.{report_text}
-use Rattle.run_model.specs.Logs.{GrowsBy, deadline_after, exchanges_of}
+use Rattle.run_model.specs.Logs.{GrowsBy, exchanges_of}
 use Rattle.run_model.specs.Observation.{Asks, Ends, Onward, Strays, is_asked, observed as observed_by}
 use Rattle.run_model.specs.Plans.{HasSmallNumbers, IsWhole, basis_of}
 use Rattle.run_model.specs.Rolling.{run_actions}
@@ -50,12 +49,9 @@ use Rattle.run_model.specs.Runs.{IsLeftByAll, IsRun, Task, run_exchanges, run_fa
 use Rattle.world_laws.proofs.ToldRuns.{unpaused_are}
 
 -- a run that ended with its observation
-module _ (declared : Declared) (aim : Aim) (options : RunOptions) (observed : Observed) (clock : Clock) (before now : Telling)
-    (unused : before.clock ≡ new_clock) (read : clock ≡ clock_begun options.wait_seconds (length before.log) clock.first)
+module _ (declared : Declared) (aim : Aim) (bounds : RunLimits) (observed : Observed) (clock : Clock) (before now : Telling)
+    (unused : before.clock ≡ new_clock) (read : clock ≡ clock_begun bounds.deadline (length before.log) clock.first)
     (opens : Opens declared aim (Opening.Ended observed) (record before { clock = clock }) now) where
-  abbrev bounds : RunLimits
-  bounds = limits_by options now.clock
-
   bad : HasEndedBadly observed
   bad = opens.follows
 
@@ -76,9 +72,8 @@ module _ (declared : Declared) (aim : Aim) (options : RunOptions) (observed : Ob
   }
 
   bad_timed : IsTimed (task_of declared aim bounds) (Entry.Seen observed ∷ []) 0 before.clock now.clock
-  bad_timed = run_timed (task_of declared aim bounds) (Entry.Seen observed ∷ []) options.wait_seconds (length before.log) before.clock clock now.clock unused read refl
-      (subst (λ (c : Clock). of_worker.IsTimed (option_map (deadline_after clock.first) options.wait_seconds) (Entry.Seen observed ∷ []) clock c) (sym opens.timed)
-      (still_timed (option_map (deadline_after clock.first) options.wait_seconds) observed clock))
+  bad_timed = run_timed (task_of declared aim bounds) (Entry.Seen observed ∷ []) (length before.log) before.clock clock now.clock unused read
+      (subst (λ (c : Clock). of_worker.IsTimed bounds.deadline (Entry.Seen observed ∷ []) clock c) (sym opens.timed) (still_timed bounds.deadline observed clock))
 
   pub leaves_badly : Leaves (task_of declared aim bounds) (Entry.Seen observed ∷ []) before now
   leaves_badly = record {
@@ -89,7 +84,7 @@ module _ (declared : Declared) (aim : Aim) (options : RunOptions) (observed : Ob
     told = opens.told;
     caused = bad_caused;
     timed = bad_timed;
-    read_first = reads_first options.wait_seconds (length before.log) clock now.clock read (λ place e. ap (λ (c : Clock). c.place) opens.timed ∙ e);
+    read_first = reads_first bounds.deadline (length before.log) clock now.clock read (λ place e. ap (λ (c : Clock). c.place) opens.timed ∙ e);
   }
 
 -- exchanges of which an observation was made may also have ended for want of memory
@@ -122,8 +117,8 @@ opens_short declared aim observed plan before now opens = record {
 }
 
 -- a run whose worker left
-module _ (declared : Declared) (aim : Aim) (options : RunOptions) (limits : RunLimits) (observed : Observed) (plan : Plan) (journal : List Entry) (clock : Clock) (before mid now : Telling)
-    (unused : before.clock ≡ new_clock) (read : clock ≡ clock_begun options.wait_seconds (length before.log) clock.first) (bound : limits ≡ bounded aim (limits_by options clock))
+module _ (declared : Declared) (aim : Aim) (bounds limits : RunLimits) (observed : Observed) (plan : Plan) (journal : List Entry) (clock : Clock) (before mid now : Telling)
+    (unused : before.clock ≡ new_clock) (read : clock ≡ clock_begun bounds.deadline (length before.log) clock.first) (bound : limits ≡ bounded aim bounds) (alone : bounds.workers ≡ 1)
     (may : MayBegin declared observed plan limits)
     (opens : Opens declared aim (Opening.Planned observed plan) (record before { clock = clock }) mid)
     (seen : Seen) (good : observed.end ≡ SeenEnd.Good seen) (actions : plan.actions ≡ run_actions (basis_of declared seen aim))
@@ -135,17 +130,20 @@ module _ (declared : Declared) (aim : Aim) (options : RunOptions) (limits : RunL
   new = run_of declared plan limits journal
 
   abbrev task : Task
-  task = task_of declared aim (limits_by options now.clock)
+  task = task_of declared aim bounds
 
-  -- its clock, and so its limits
-  at_limits : of_worker.IsTimed (option_map (deadline_after clock.first) options.wait_seconds) (reverse journal) mid.clock now.clock
+  -- its clock
+  at_limits : of_worker.IsTimed bounds.deadline (reverse journal) mid.clock now.clock
   at_limits = subst (λ (deadline : Option ℕ). of_worker.IsTimed deadline (reverse journal) mid.clock now.clock) (ap (λ (l : RunLimits). l.deadline) bound) worked.timed
 
-  timed : of_worker.IsTimed (option_map (deadline_after clock.first) options.wait_seconds) (reverse journal) clock now.clock
-  timed = subst (λ (c : Clock). of_worker.IsTimed (option_map (deadline_after clock.first) options.wait_seconds) (reverse journal) c now.clock) opens.timed at_limits
+  timed : of_worker.IsTimed bounds.deadline (reverse journal) clock now.clock
+  timed = subst (λ (c : Clock). of_worker.IsTimed bounds.deadline (reverse journal) c now.clock) opens.timed at_limits
 
-  limits_are : bounded aim (limits_by options now.clock) ≡ limits
-  limits_are = ap (bounded aim) (same_limits options (length before.log) clock now.clock read timed.first) ∙ sym bound
+  pub first_stays : 0 < clock.readings → now.clock.first ≡ clock.first
+  first_stays = timed.first
+
+  limits_are : bounded aim bounds ≡ limits
+  limits_are = sym bound
 
   -- what it is of
   saw : Saw observed.end (first_seen (Entry.Seen observed ∷ []))
@@ -177,7 +175,7 @@ module _ (declared : Declared) (aim : Aim) (options : RunOptions) (limits : RunL
 
   -- its end
   one : limits.workers ≡ 1
-  one = ap (λ (l : RunLimits). l.workers) bound
+  one = ap (λ (l : RunLimits). l.workers) bound ∙ alone
 
   gone : (w : ℕ) → w < 1 → has_left (reverse journal) w ≡ true
   gone w below = let first : w ≡ 0 = omega (arith, below) in rw first worked.left
@@ -195,7 +193,7 @@ module _ (declared : Declared) (aim : Aim) (options : RunOptions) (limits : RunL
   }
 
   left : IsLeftByAll task journal
-  left well w below = gone w below
+  left well w below = let few : w < bounds.workers = below in gone w (omega (arith, few, alone))
 
   -- what its hand did
   steps_joined : steps_of (setup_of new) (reverse journal) 0 ≡ unpaused observed.exchanges ++ steps_since old new
@@ -237,35 +235,40 @@ module _ (declared : Declared) (aim : Aim) (options : RunOptions) (limits : RunL
     told = subst (λ (l : List Step). TellsSteps l before.engine now.engine) (sym are_steps)
         (told-append (unpaused observed.exchanges) (steps_since old new) before.engine mid.engine now.engine opens.told worked.told);
     caused = caused;
-    timed = run_timed task journal options.wait_seconds (length before.log) before.clock clock now.clock unused read refl timed;
-    read_first = reads_first options.wait_seconds (length before.log) clock now.clock read timed.place;
+    timed = run_timed task journal (length before.log) before.clock clock now.clock unused read timed;
+    read_first = reads_first bounds.deadline (length before.log) clock now.clock read timed.place;
   }
 
 -- a run whose plan was carried out, or wasn't begun
-module _ (declared : Declared) (aim : Aim) (options : RunOptions) (limits : RunLimits) (observed : Observed) (plan : Plan) (journal : List Entry) (clock : Clock) (before mid now : Telling)
-    (unused : before.clock ≡ new_clock) (read : clock ≡ clock_begun options.wait_seconds (length before.log) clock.first) (bound : limits ≡ bounded aim (limits_by options clock))
+module _ (declared : Declared) (aim : Aim) (bounds limits : RunLimits) (observed : Observed) (plan : Plan) (journal : List Entry) (clock : Clock) (before mid now : Telling)
+    (unused : before.clock ≡ new_clock) (read : clock ≡ clock_begun bounds.deadline (length before.log) clock.first) (bound : limits ≡ bounded aim bounds) (alone : bounds.workers ≡ 1)
     (whole : IsWhole declared) (small : HasSmallNumbers declared) (acyclic : HasNoCycle declared) (needs : NeedsDependencies declared)
     (opens : Opens declared aim (Opening.Planned observed plan) (record before { clock = clock }) mid) where
   pub may : MayBegin declared observed plan limits
-  may = may_begin declared aim observed plan (limits_by options clock) limits (record before { clock = clock }) mid whole small acyclic needs opens refl bound
+  may = may_begin declared aim observed plan bounds limits (record before { clock = clock }) mid whole small acyclic needs opens alone bound
 
-  leaves_short : IsUnbegun observed journal mid now → Leaves (task_of declared aim (limits_by options now.clock)) journal before now
-  leaves_short unbegun = subst (λ (js : List Entry). Leaves (task_of declared aim (limits_by options now.clock)) js before now) (sym unbegun.only)
-      (subst (λ (t : Telling). Leaves (task_of declared aim (limits_by options t.clock)) (Entry.Seen (cut_short observed.exchanges) ∷ []) before t) (sym unbegun.alone)
-      (leaves_badly declared aim options (cut_short observed.exchanges) clock before mid unused read (opens_short declared aim observed plan (record before { clock = clock }) mid opens)))
+  leaves_short : IsUnbegun observed journal mid now → Leaves (task_of declared aim bounds) journal before now
+  leaves_short unbegun = subst (λ (js : List Entry). Leaves (task_of declared aim bounds) js before now) (sym unbegun.only)
+      (subst (λ (t : Telling). Leaves (task_of declared aim bounds) (Entry.Seen (cut_short observed.exchanges) ∷ []) before t) (sym unbegun.alone)
+      (leaves_badly declared aim bounds (cut_short observed.exchanges) clock before mid unused read (opens_short declared aim observed plan (record before { clock = clock }) mid opens)))
 
-  pub leaves : IsCarriedOut declared observed plan limits journal mid now → Leaves (task_of declared aim (limits_by options now.clock)) journal before now
-  leaves (inl worked) = leaves_well declared aim options limits observed plan journal clock before mid now unused read bound may opens opens.follows.0 opens.follows.1 opens.follows.2 worked
+  pub leaves : IsCarriedOut declared observed plan limits journal mid now → Leaves (task_of declared aim bounds) journal before now
+  leaves (inl worked) = leaves_well declared aim bounds limits observed plan journal clock before mid now unused read bound alone may opens opens.follows.0 opens.follows.1 opens.follows.2 worked
   leaves (inr unbegun) = leaves_short unbegun
+
+  -- the clock's first reading stays
+  pub keeps_first : IsCarriedOut declared observed plan limits journal mid now → 0 < clock.readings → now.clock.first ≡ clock.first
+  keeps_first (inl worked) some = first_stays declared aim bounds limits observed plan journal clock before mid now unused read bound alone may opens opens.follows.0 opens.follows.1 opens.follows.2 worked some
+  keeps_first (inr unbegun) some = ap (λ (t : Telling). t.clock.first) unbegun.alone ∙ ap (λ (c : Clock). c.first) opens.timed
 
   -- what is told of it is said of the task
   pub of_task : {X : Type 0} (tell : Setup → List Entry → X) → ((setup other : Setup) → tell setup (Entry.Seen (cut_short observed.exchanges) ∷ []) ≡ tell other (Entry.Seen (cut_short observed.exchanges) ∷ []))
       → IsCarriedOut declared observed plan limits journal mid now
-      → tell (setup_of (run_of declared plan limits journal)) (reverse journal) ≡ tell (run_setup (task_of declared aim (limits_by options now.clock)) journal) (reverse journal)
+      → tell (setup_of (run_of declared plan limits journal)) (reverse journal) ≡ tell (run_setup (task_of declared aim bounds) journal) (reverse journal)
   of_task tell any (inl worked) = ap (λ (setup : Setup). tell setup (reverse journal))
-      (same_setup declared aim options limits observed plan journal clock before mid now unused read bound may opens opens.follows.0 opens.follows.1 opens.follows.2 worked)
+      (same_setup declared aim bounds limits observed plan journal clock before mid now unused read bound alone may opens opens.follows.0 opens.follows.1 opens.follows.2 worked)
   of_task tell any (inr unbegun) = rw unbegun.only (any (setup_of (run_of declared plan limits (Entry.Seen (cut_short observed.exchanges) ∷ [])))
-      (run_setup (task_of declared aim (limits_by options now.clock)) (Entry.Seen (cut_short observed.exchanges) ∷ [])))
+      (run_setup (task_of declared aim bounds) (Entry.Seen (cut_short observed.exchanges) ∷ [])))
 
 -- a run that had no room for its journal made no exchange
 pub nothing_caused : (task : Task) (journal : List Entry) (w : ℕ) (a : Account) → journal ≡ [] → IsCaused task journal w a a

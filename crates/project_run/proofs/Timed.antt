@@ -8,7 +8,7 @@ use Rattle.engine_types.specs.declared.RunOptions.{RunOptions}
 use Rattle.ledger_run.specs.Timing.{HasRoom, late_by, readings_for}
 use Rattle.ledger_run.specs.Timing as of_worker
 use Rattle.outside_api.specs.Clock.{Clock, new_clock}
-use Rattle.project_run.specs.Options.{clock_begun, limits_by}
+use Rattle.project_run.specs.Options.{AreFor, clock_begun, limits_in}
 use Rattle.project_run.specs.Timing.{IsTimed, ReadsFirst, run_readings}
 use Rattle.run_model.specs.Logs.{asks, asks_unstopped, deadline_after, late_reading, pauses, was_stopped}
 use Rattle.run_model.specs.Runs.{Task}
@@ -26,16 +26,35 @@ same_deadline (Some s) made clock new is kept =
     let one : clock.readings ≡ 1 = ap (λ (c : Clock). c.readings) is in
     ap (λ (first : ℕ). Some (deadline_after first s)) (kept (omega (arith, one)))
 
-pub same_limits : (options : RunOptions) (made : ℕ) (clock new : Clock) → clock ≡ clock_begun options.wait_seconds made clock.first → (0 < clock.readings → new.first ≡ clock.first)
-    → limits_by options new ≡ limits_by options clock
-same_limits options made clock new is kept = ap (λ (deadline : Option ℕ). record { workers = 1; deadline = deadline; wait = options.wait; stop_seconds = options.stop_seconds })
-    (same_deadline options.wait_seconds made clock new is kept)
+-- a clock has begun for a deadline as for the seconds that set it
+begun_by : (seconds : Option ℕ) (made first : ℕ) (f : ℕ → ℕ) → clock_begun (option_map f seconds) made first ≡ clock_begun seconds made first
+begun_by None made first f = refl
+begun_by (Some s) made first f = refl
 
--- and so does where it stands
-pub reads_first : (seconds : Option ℕ) (made : ℕ) (clock new : Clock) → clock ≡ clock_begun seconds made clock.first → ((place : ℕ) → clock.place ≡ Some place → new.place ≡ Some place)
-    → ReadsFirst (option_map (deadline_after new.first) seconds) made new
+-- limits that were set by the first reading are those that it sets in the end
+same_limits : (options : RunOptions) (workers : ℕ) (given : Option RunLimits) (made : ℕ) (clock new : Clock) → clock ≡ clock_begun (limits_in workers options given clock.first).deadline made clock.first
+    → (0 < clock.readings → new.first ≡ clock.first) → limits_in workers options given clock.first ≡ limits_in workers options given new.first
+same_limits options workers (Some limits) made clock new is kept = refl
+same_limits options workers None made clock new is kept =
+    let begun : clock ≡ clock_begun options.wait_seconds made clock.first = is ∙ begun_by options.wait_seconds made clock.first (deadline_after clock.first) in
+    sym (ap (λ (deadline : Option ℕ). record { workers = workers; deadline = deadline; wait = options.wait; stop_seconds = options.stop_seconds })
+    (same_deadline options.wait_seconds made clock new begun kept))
+
+pub limits_stay : (options : RunOptions) (workers : ℕ) (given : Option RunLimits) (made : ℕ) (clock new : Clock) (limits : RunLimits) → limits ≡ limits_in workers options given clock.first
+    → clock ≡ clock_begun limits.deadline made clock.first → (0 < clock.readings → new.first ≡ clock.first) → limits ≡ limits_in workers options given new.first
+limits_stay options workers given made clock new limits is begun kept =
+    is ∙ same_limits options workers given made clock new (subst (λ (l : RunLimits). clock ≡ clock_begun l.deadline made clock.first) is begun) kept
+
+-- limits that are given for so many workers, or set for them, are for as many
+pub given_for : (options : RunOptions) (workers : ℕ) (given : Option RunLimits) (first : ℕ) (limits : RunLimits) → AreFor workers given → limits ≡ limits_in workers options given first → limits.workers ≡ workers
+given_for options workers None first limits are is = ap (λ (l : RunLimits). l.workers) is
+given_for options workers (Some given) first limits are is = ap (λ (l : RunLimits). l.workers) is ∙ are
+
+-- where the first reading stands stays
+pub reads_first : (deadline : Option ℕ) (made : ℕ) (clock new : Clock) → clock ≡ clock_begun deadline made clock.first → ((place : ℕ) → clock.place ≡ Some place → new.place ≡ Some place)
+    → ReadsFirst deadline made new
 reads_first None made clock new is kept = tt
-reads_first (Some s) made clock new is kept = kept made (ap (λ (c : Clock). c.place) is)
+reads_first (Some d) made clock new is kept = kept made (ap (λ (c : Clock). c.place) is)
 
 -- nothing was done yet by a journal that has only its observation
 pub still_timed : (deadline : Option ℕ) (observed : Observed) (clock : Clock) → of_worker.IsTimed deadline (Entry.Seen observed ∷ []) clock clock
@@ -58,11 +77,9 @@ still_timed deadline observed clock = record {
     never (Some d) = refl
 
 -- what the worker's loop says of its hand's clock, with the run's first reading before it
-pub run_timed : (task : Task) (journal : List Entry) (seconds : Option ℕ) (made : ℕ) (old clock new : Clock) → old ≡ new_clock → clock ≡ clock_begun seconds made clock.first
-    → task.limits.deadline ≡ option_map (deadline_after new.first) seconds
-    → of_worker.IsTimed (option_map (deadline_after clock.first) seconds) (reverse journal) clock new
-    → IsTimed task journal 0 old new
-run_timed task journal None made old clock new unused is limit timed =
+timed_by : (deadline : Option ℕ) (task : Task) (journal : List Entry) (made : ℕ) (old clock new : Clock) → task.limits.deadline ≡ deadline → old ≡ new_clock → clock ≡ clock_begun deadline made clock.first
+    → of_worker.IsTimed deadline (reverse journal) clock new → IsTimed task journal 0 old new
+timed_by None task journal made old clock new limit unused is timed =
     let begun : of_worker.IsTimed None (reverse journal) new_clock new = rw is at timed in
     rw unused (record {
       looks = begun.looks;
@@ -71,10 +88,8 @@ run_timed task journal None made old clock new unused is limit timed =
       readings = rw limit begun.readings;
       late = rw limit begun.late;
     })
-run_timed task journal (Some s) made old clock new unused is limit timed =
+timed_by (Some d) task journal made old clock new limit unused is timed =
     let one : clock.readings ≡ 1 = ap (λ (c : Clock). c.readings) is in
-    let first : new.first ≡ clock.first = timed.first (omega (arith, one)) in
-    let at : task.limits.deadline ≡ Some (deadline_after clock.first s) = limit ∙ ap (λ (n : ℕ). Some (deadline_after n s)) first in
     let looks : clock.looks ≡ 0 = ap (λ (c : Clock). c.looks) is in
     let yeses : clock.yeses ≡ 0 = ap (λ (c : Clock). c.yeses) is in
     let paused : clock.paused ≡ 0 = ap (λ (c : Clock). c.paused) is in
@@ -82,6 +97,10 @@ run_timed task journal (Some s) made old clock new unused is limit timed =
       looks = rw looks at timed.looks;
       stops = rw yeses at timed.stops;
       paused = rw paused at timed.paused;
-      readings = rw at (let r = timed.readings in omega (arith, r, one));
-      late = rw at timed.late;
+      readings = rw limit (let r = timed.readings in omega (arith, r, one));
+      late = rw limit timed.late;
     })
+
+pub run_timed : (task : Task) (journal : List Entry) (made : ℕ) (old clock new : Clock) → old ≡ new_clock → clock ≡ clock_begun task.limits.deadline made clock.first
+    → of_worker.IsTimed task.limits.deadline (reverse journal) clock new → IsTimed task journal 0 old new
+run_timed task journal made old clock new unused is timed = timed_by task.limits.deadline task journal made old clock new refl unused is timed

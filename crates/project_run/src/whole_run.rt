@@ -1,10 +1,10 @@
-ghost use Rattle.std.specs.Prelude.{◌≡◌, ◌≤◌, [], Some, None, false, true, IfOk, length};
+ghost use Rattle.std.specs.Prelude.{◌≡◌, ◌≤◌, ◌<◌, [], Some, None, false, true, IfOk, IfSome, length};
 ghost use Rattle.engine_types.specs.declared.RunFault.{RunFault};
 ghost use Rattle.ledger_run.specs.Tellings.{telling};
 ghost use Rattle.outside_api.specs.Accounts.{account};
 ghost use Rattle.outside_api.specs.Clock.{new_clock};
 ghost use Rattle.plan_core.specs.Order.{HasNoCycle};
-ghost use Rattle.project_run.specs.Options.{limits_by};
+ghost use Rattle.project_run.specs.Options.{AreFor, clock_begun, limits_by, limits_in};
 ghost use Rattle.project_run.specs.Timing.{IsTimed, ReadsFirst};
 ghost use Rattle.project_run.specs.Whole.{IfBegun, IsCaused, IsFault, IsReport, Leaves, SparesKept, run_steps, task_of};
 ghost use Rattle.project_run.specs.Worlds.{EndsExact, EndsGone, GoesThrough, MakesOnce, RollsFew, SparesAgreeing};
@@ -19,9 +19,9 @@ ghost use Rattle.world_laws.specs.OwnSpecs.{HasOwnSpecs};
 use crate::carrying::carry_out;
 use crate::ending::ended;
 use crate::opening::{Opening, open};
-use crate::options::limits_for;
-use crate::ran::Ran;
-use engine_types::{Aim, Declared, Entry, RunFault, RunOptions};
+use crate::options::{bounded, limits_for, unread_limits};
+use crate::ran::{Carried, Handed, Ran};
+use engine_types::{Aim, Declared, Entry, RunFault, RunLimits, RunOptions};
 use outside_api::Hand;
 use std::alloc::Global;
 use tree_base::{List, Memory, ReservedList, Text};
@@ -102,8 +102,61 @@ pub fn run_project<H: Hand>(
         (length (H.log hand.old)) (H.clock hand.new)) }
 {
     match first_journal(alloc) {
-        Ok(journal) => run(alloc, hand, declared, aim, options, journal),
+        Ok(journal) => {
+            let Handed {
+                ran,
+                declared: back,
+                limits: _,
+            } = run(alloc, hand, declared, aim, options, None, journal);
+            drop(back);
+            ran
+        }
         Err(Memory) => unopened(alloc, declared),
+    }
+}
+
+/// The same within limits that an earlier run of the same had, the deadline among them, where they are given; else with those that
+/// options set. The limits are handed back, and so is the declared set, but where memory was wanted.
+pub fn run_given<H: Hand>(
+    alloc: Global,
+    hand: &mut H,
+    declared: Declared,
+    aim: Aim,
+    options: RunOptions,
+    given: Option<RunLimits>,
+) -> Handed
+    requires whole { IsWhole declared }
+    requires small { HasSmallNumbers declared }
+    requires acyclic { HasNoCycle declared }
+    requires needs { NeedsDependencies declared }
+    requires unused { H.clock hand.old ≡ new_clock }
+    requires given { AreFor 1 given }
+    ensures empty { result.ran.journal ≡ []
+        → (result.ran.fault ≡ Some RunFault.Memory) × (hand.new ≡ hand.old) }
+    ensures limits { result.limits ≡ limits_in 1 options given (H.clock hand.new).first }
+    ensures leaves { IfBegun result.ran.journal (Leaves
+        (task_of declared aim (limits_in 1 options given (H.clock hand.new).first))
+        result.ran.journal
+        (telling (H.log hand.old) (H.heard hand.old) (H.faults hand.old) (H.clock hand.old)
+        (H.engine hand.old))
+        (telling (H.log hand.new) (H.heard hand.new) (H.faults hand.new) (H.clock hand.new)
+        (H.engine hand.new))) }
+    ensures fault { IfBegun result.ran.journal (IsFault (run_fault
+        (task_of declared aim (limits_in 1 options given (H.clock hand.new).first))
+        result.ran.journal) result.ran.fault) }
+    ensures report { IsReport (run_report
+        (task_of declared aim (limits_in 1 options given (H.clock hand.new).first))
+        result.ran.journal) result.ran.fault result.ran.report }
+    ensures back { IfSome result.declared (λ same. same ≡ declared) }
+    ensures lost { result.declared ≡ None → result.ran.fault ≡ Some RunFault.Memory }
+{
+    match first_journal(alloc) {
+        Ok(journal) => run(alloc, hand, declared, aim, options, given, journal),
+        Err(Memory) => Handed {
+            ran: unopened(alloc, declared),
+            declared: None,
+            limits: unread_limits(1, options, given),
+        },
     }
 }
 
@@ -138,33 +191,89 @@ fn run<H: Hand>(
     declared: Declared,
     aim: Aim,
     options: RunOptions,
+    given: Option<RunLimits>,
     journal: ReservedList<Entry>,
-) -> Ran
+) -> Handed
     requires whole { IsWhole declared }
     requires small { HasSmallNumbers declared }
     requires acyclic { HasNoCycle declared }
     requires needs { NeedsDependencies declared }
     requires unused { H.clock hand.old ≡ new_clock }
+    requires given { AreFor 1 given }
     requires empty { journal.items ≡ [] }
     requires room { 1 ≤ journal.spare }
+    ensures limits { result.limits ≡ limits_in 1 options given (H.clock hand.new).first }
     ensures leaves { Leaves
-        (task_of declared aim (limits_by options (H.clock hand.new))) result.journal
+        (task_of declared aim (limits_in 1 options given (H.clock hand.new).first))
+        result.ran.journal
         (telling (H.log hand.old) (H.heard hand.old) (H.faults hand.old) (H.clock hand.old)
         (H.engine hand.old))
         (telling (H.log hand.new) (H.heard hand.new) (H.faults hand.new) (H.clock hand.new)
         (H.engine hand.new)) }
     ensures fault { IsFault (run_fault
-        (task_of declared aim (limits_by options (H.clock hand.new))) result.journal)
-        result.fault }
+        (task_of declared aim (limits_in 1 options given (H.clock hand.new).first))
+        result.ran.journal) result.ran.fault }
     ensures report { IsReport (run_report
-        (task_of declared aim (limits_by options (H.clock hand.new))) result.journal)
-        result.fault result.report }
+        (task_of declared aim (limits_in 1 options given (H.clock hand.new).first))
+        result.ran.journal) result.ran.fault result.ran.report }
+    ensures back { IfSome result.declared (λ same. same ≡ declared) }
+    ensures lost { result.declared ≡ None → result.ran.fault ≡ Some RunFault.Memory }
 {
-    let limits = limits_for(hand, aim, options);
+    let limits = limits_for(hand, 1, options, given);
+    let Carried {
+        ran,
+        declared: back,
+    } = run_within(alloc, hand, declared, aim, limits, journal);
+    Handed {
+        ran,
+        declared: back,
+        limits,
+    }
+}
+
+/// The same within limits, with a hand that has read its clock once where there is a deadline, and else never.
+fn run_within<H: Hand>(
+    alloc: Global,
+    hand: &mut H,
+    declared: Declared,
+    aim: Aim,
+    limits: RunLimits,
+    journal: ReservedList<Entry>,
+) -> Carried
+    requires whole { IsWhole declared }
+    requires small { HasSmallNumbers declared }
+    requires acyclic { HasNoCycle declared }
+    requires needs { NeedsDependencies declared }
+    requires one { limits.workers ≡ 1 }
+    requires read { H.clock hand.old
+        ≡ clock_begun limits.deadline (length (H.log hand.old)) (H.clock hand.old).first }
+    requires empty { journal.items ≡ [] }
+    requires room { 1 ≤ journal.spare }
+    ensures leaves { Leaves (task_of declared aim limits) result.ran.journal
+        (telling (H.log hand.old) (H.heard hand.old) (H.faults hand.old) new_clock
+        (H.engine hand.old))
+        (telling (H.log hand.new) (H.heard hand.new) (H.faults hand.new) (H.clock hand.new)
+        (H.engine hand.new)) }
+    ensures first { 0 < (H.clock hand.old).readings
+        → (H.clock hand.new).first ≡ (H.clock hand.old).first }
+    ensures fault { IsFault (run_fault (task_of declared aim limits) result.ran.journal)
+        result.ran.fault }
+    ensures report { IsReport (run_report (task_of declared aim limits) result.ran.journal)
+        result.ran.fault result.ran.report }
+    ensures back { IfSome result.declared (λ same. same ≡ declared) }
+    ensures lost { result.declared ≡ None → result.ran.fault ≡ Some RunFault.Memory }
+{
+    let within = bounded(aim, limits);
     match open(alloc, hand, &declared, aim) {
         Opening::Planned { observed, plan } => {
-            carry_out(alloc, hand, declared, observed, plan, limits, journal)
+            carry_out(alloc, hand, declared, observed, plan, within, journal)
         }
-        Opening::Ended(observed) => ended(alloc, &declared, observed, journal),
+        Opening::Ended(observed) => {
+            let ran = ended(alloc, &declared, observed, journal);
+            Carried {
+                ran,
+                declared: Some(declared),
+            }
+        }
     }
 }

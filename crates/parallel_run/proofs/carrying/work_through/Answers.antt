@@ -47,3 +47,6 @@ returns-in-Err-clause-worked g c = λ observed is. inr (record {
       ∙ ap (λ (l : List Exchange). Entry.Seen (cut_short l) ∷ []) (c.exchanges_of.ensures observed (ap (λ (r : Course). r.journal) c.in-Err.ensures.back.0 ∙ is));
   alone = c.in-Err.ensures.back.1;
 })
+
+pub returns-in-Ok-clause-back : goal.returns-in-Ok-clause-back
+returns-in-Ok-clause-back g c = c.finish-declared.ensures.declared ∙ ap (λ (run : Course). run.declared) c.in-Ok.ensures.same

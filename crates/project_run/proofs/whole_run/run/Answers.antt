@@ -1,85 +1,34 @@
-use Rattle.std.proofs.Common.{◌≡◌, ◌∙◌, List, Option, length, refl, sym, subst}
-use Rattle.engine_types.specs.declared.Entry.{Entry}
+use Rattle.std.proofs.Common.{◌≡◌, ◌∙◌, List, Option, ap, length, subst, sym}
 use Rattle.engine_types.specs.declared.RunFault.{RunFault}
+use Rattle.engine_types.specs.declared.RunLimits.{RunLimits}
 use Rattle.ledger_run.specs.Tellings.{Telling, telling}
-use Rattle.project_run.proofs.Beginning.{may_begin}
-use Rattle.project_run.proofs.Leaving.{leaves, leaves_badly, of_task}
-use Rattle.project_run.proofs.Timed.{has_room}
-use Rattle.project_run.specs.Opening.{Opens}
-use Rattle.project_run.specs.Options.{limits_by}
+use Rattle.outside_api.specs.Clock.{Clock, new_clock}
+use Rattle.project_run.proofs.Timed.{given_for, limits_stay}
+use Rattle.project_run.specs.Options.{clock_begun}
 use Rattle.project_run.specs.Whole.{IsFault, IsReport, Leaves, task_of}
-use Rattle.project_run.specs.declared.opening.Opening.{Opening}
-use Rattle.run_model.specs.Ending.{first_fault}
-use Rattle.run_model.specs.Lines.{report_text}
 use Rattle.run_model.specs.Runs.{run_fault, run_report}
 use Rattle.project_run.proofs.whole_run.run.Goals as goal
 
-pub carry_out-requires-clause-may : goal.carry_out-requires-clause-may
-carry_out-requires-clause-may g c =
-    may_begin c.args.declared c.args.aim c.in-Planned.observed c.in-Planned.plan (limits_by c.args.options (g.H.Hand.clock c.limits_for-limits.new.hand)) c.limits_for-limits.result
-    (telling (g.H.Hand.log c.limits_for-limits.new.hand) (g.H.Hand.heard c.limits_for-limits.new.hand) (g.H.Hand.faults c.limits_for-limits.new.hand) (g.H.Hand.clock c.limits_for-limits.new.hand) (g.H.Hand.engine c.limits_for-limits.new.hand))
-    (telling (g.H.Hand.log c.open.new.hand) (g.H.Hand.heard c.open.new.hand) (g.H.Hand.faults c.open.new.hand) (g.H.Hand.clock c.open.new.hand) (g.H.Hand.engine c.open.new.hand))
-    c.requires.whole c.requires.small c.requires.acyclic c.requires.needs c.in-Planned.ensures refl c.limits_for-limits.ensures.limits
+pub run_within-ran-requires-clause-one : goal.run_within-ran-requires-clause-one
+run_within-ran-requires-clause-one g c = given_for c.args.options 1 c.args.given (g.H.Hand.clock c.limits_for-limits.new.hand).first c.limits_for-limits.result c.requires.given c.limits_for-limits.ensures.limits
 
-pub carry_out-requires-clause-clock : goal.carry_out-requires-clause-clock
-carry_out-requires-clause-clock g c =
-    has_room c.args.options.wait_seconds (length (g.H.Hand.log c.args.hand.now)) (g.H.Hand.clock c.limits_for-limits.new.hand).first (g.H.Hand.clock c.open.new.hand) (c.in-Planned.ensures.timed ∙ c.limits_for-limits.ensures.clock)
+pub run_within-ran-requires-clause-read : goal.run_within-ran-requires-clause-read
+run_within-ran-requires-clause-read g c = c.limits_for-limits.ensures.clock
+    ∙ ap (λ (t : Telling). clock_begun c.limits_for-limits.result.deadline (length t.log) (g.H.Hand.clock c.limits_for-limits.new.hand).first) (sym c.limits_for-limits.ensures.kept)
 
-pub returns-in-Planned-clause-leaves : goal.returns-in-Planned-clause-leaves
-returns-in-Planned-clause-leaves g c =
-    leaves c.args.declared c.args.aim c.args.options c.limits_for-limits.result c.in-Planned.observed c.in-Planned.plan c.carry_out.result.journal (g.H.Hand.clock c.limits_for-limits.new.hand)
-    (telling (g.H.Hand.log c.args.hand.now) (g.H.Hand.heard c.args.hand.now) (g.H.Hand.faults c.args.hand.now) (g.H.Hand.clock c.args.hand.now) (g.H.Hand.engine c.args.hand.now))
-    (telling (g.H.Hand.log c.open.new.hand) (g.H.Hand.heard c.open.new.hand) (g.H.Hand.faults c.open.new.hand) (g.H.Hand.clock c.open.new.hand) (g.H.Hand.engine c.open.new.hand))
-    (telling (g.H.Hand.log c.carry_out.new.hand) (g.H.Hand.heard c.carry_out.new.hand) (g.H.Hand.faults c.carry_out.new.hand) (g.H.Hand.clock c.carry_out.new.hand) (g.H.Hand.engine c.carry_out.new.hand))
-    c.requires.unused c.limits_for-limits.ensures.clock c.limits_for-limits.ensures.limits c.requires.whole c.requires.small c.requires.acyclic c.requires.needs
-    (subst (λ (t : Telling). Opens c.args.declared c.args.aim (Opening.Planned c.in-Planned.observed c.in-Planned.plan) t
-    (telling (g.H.Hand.log c.open.new.hand) (g.H.Hand.heard c.open.new.hand) (g.H.Hand.faults c.open.new.hand) (g.H.Hand.clock c.open.new.hand) (g.H.Hand.engine c.open.new.hand)))
-    c.limits_for-limits.ensures.kept c.in-Planned.ensures)
-    c.carry_out.ensures.carried
+pub returns-clause-limits : goal.returns-clause-limits
+returns-clause-limits g c = limits_stay c.args.options 1 c.args.given (length (g.H.Hand.log c.args.hand.now)) (g.H.Hand.clock c.limits_for-limits.new.hand) (g.H.Hand.clock c.run_within-ran.new.hand) c.limits_for-limits.result c.limits_for-limits.ensures.limits c.limits_for-limits.ensures.clock c.run_within-ran.ensures.first
 
-pub returns-in-Planned-clause-fault : goal.returns-in-Planned-clause-fault
-returns-in-Planned-clause-fault g c = subst (λ (expected : Option RunFault). IsFault expected c.carry_out.result.fault)
-    (of_task c.args.declared c.args.aim c.args.options c.limits_for-limits.result c.in-Planned.observed c.in-Planned.plan c.carry_out.result.journal (g.H.Hand.clock c.limits_for-limits.new.hand)
-    (telling (g.H.Hand.log c.args.hand.now) (g.H.Hand.heard c.args.hand.now) (g.H.Hand.faults c.args.hand.now) (g.H.Hand.clock c.args.hand.now) (g.H.Hand.engine c.args.hand.now))
-    (telling (g.H.Hand.log c.open.new.hand) (g.H.Hand.heard c.open.new.hand) (g.H.Hand.faults c.open.new.hand) (g.H.Hand.clock c.open.new.hand) (g.H.Hand.engine c.open.new.hand))
-    (telling (g.H.Hand.log c.carry_out.new.hand) (g.H.Hand.heard c.carry_out.new.hand) (g.H.Hand.faults c.carry_out.new.hand) (g.H.Hand.clock c.carry_out.new.hand) (g.H.Hand.engine c.carry_out.new.hand))
-    c.requires.unused c.limits_for-limits.ensures.clock c.limits_for-limits.ensures.limits c.requires.whole c.requires.small c.requires.acyclic c.requires.needs
-    (subst (λ (t : Telling). Opens c.args.declared c.args.aim (Opening.Planned c.in-Planned.observed c.in-Planned.plan) t
-    (telling (g.H.Hand.log c.open.new.hand) (g.H.Hand.heard c.open.new.hand) (g.H.Hand.faults c.open.new.hand) (g.H.Hand.clock c.open.new.hand) (g.H.Hand.engine c.open.new.hand)))
-    c.limits_for-limits.ensures.kept c.in-Planned.ensures)
-    first_fault (λ setup other. refl) c.carry_out.ensures.carried)
-    c.carry_out.ensures.fault
+pub returns-clause-leaves : goal.returns-clause-leaves
+returns-clause-leaves g c =
+    let kept : (telling (g.H.Hand.log c.limits_for-limits.new.hand) (g.H.Hand.heard c.limits_for-limits.new.hand) (g.H.Hand.faults c.limits_for-limits.new.hand) new_clock (g.H.Hand.engine c.limits_for-limits.new.hand)) ≡ (telling (g.H.Hand.log c.args.hand.now) (g.H.Hand.heard c.args.hand.now) (g.H.Hand.faults c.args.hand.now) (g.H.Hand.clock c.args.hand.now) (g.H.Hand.engine c.args.hand.now))
+    = ap (λ (t : Telling). record t { clock = new_clock }) c.limits_for-limits.ensures.kept
+    ∙ ap (λ (k : Clock). telling (g.H.Hand.log c.args.hand.now) (g.H.Hand.heard c.args.hand.now) (g.H.Hand.faults c.args.hand.now) k (g.H.Hand.engine c.args.hand.now)) (sym c.requires.unused) in
+    subst (λ (limits : RunLimits). Leaves (task_of c.args.declared c.args.aim limits) c.run_within-ran.result.ran.journal (telling (g.H.Hand.log c.args.hand.now) (g.H.Hand.heard c.args.hand.now) (g.H.Hand.faults c.args.hand.now) (g.H.Hand.clock c.args.hand.now) (g.H.Hand.engine c.args.hand.now)) (telling (g.H.Hand.log c.run_within-ran.new.hand) (g.H.Hand.heard c.run_within-ran.new.hand) (g.H.Hand.faults c.run_within-ran.new.hand) (g.H.Hand.clock c.run_within-ran.new.hand) (g.H.Hand.engine c.run_within-ran.new.hand))) (limits_stay c.args.options 1 c.args.given (length (g.H.Hand.log c.args.hand.now)) (g.H.Hand.clock c.limits_for-limits.new.hand) (g.H.Hand.clock c.run_within-ran.new.hand) c.limits_for-limits.result c.limits_for-limits.ensures.limits c.limits_for-limits.ensures.clock c.run_within-ran.ensures.first)
+    (subst (λ (t : Telling). Leaves (task_of c.args.declared c.args.aim c.limits_for-limits.result) c.run_within-ran.result.ran.journal t (telling (g.H.Hand.log c.run_within-ran.new.hand) (g.H.Hand.heard c.run_within-ran.new.hand) (g.H.Hand.faults c.run_within-ran.new.hand) (g.H.Hand.clock c.run_within-ran.new.hand) (g.H.Hand.engine c.run_within-ran.new.hand))) kept c.run_within-ran.ensures.leaves)
 
-pub returns-in-Planned-clause-report : goal.returns-in-Planned-clause-report
-returns-in-Planned-clause-report g c = subst (λ (expected : List _). IsReport expected c.carry_out.result.fault c.carry_out.result.report)
-    (of_task c.args.declared c.args.aim c.args.options c.limits_for-limits.result c.in-Planned.observed c.in-Planned.plan c.carry_out.result.journal (g.H.Hand.clock c.limits_for-limits.new.hand)
-    (telling (g.H.Hand.log c.args.hand.now) (g.H.Hand.heard c.args.hand.now) (g.H.Hand.faults c.args.hand.now) (g.H.Hand.clock c.args.hand.now) (g.H.Hand.engine c.args.hand.now))
-    (telling (g.H.Hand.log c.open.new.hand) (g.H.Hand.heard c.open.new.hand) (g.H.Hand.faults c.open.new.hand) (g.H.Hand.clock c.open.new.hand) (g.H.Hand.engine c.open.new.hand))
-    (telling (g.H.Hand.log c.carry_out.new.hand) (g.H.Hand.heard c.carry_out.new.hand) (g.H.Hand.faults c.carry_out.new.hand) (g.H.Hand.clock c.carry_out.new.hand) (g.H.Hand.engine c.carry_out.new.hand))
-    c.requires.unused c.limits_for-limits.ensures.clock c.limits_for-limits.ensures.limits c.requires.whole c.requires.small c.requires.acyclic c.requires.needs
-    (subst (λ (t : Telling). Opens c.args.declared c.args.aim (Opening.Planned c.in-Planned.observed c.in-Planned.plan) t
-    (telling (g.H.Hand.log c.open.new.hand) (g.H.Hand.heard c.open.new.hand) (g.H.Hand.faults c.open.new.hand) (g.H.Hand.clock c.open.new.hand) (g.H.Hand.engine c.open.new.hand)))
-    c.limits_for-limits.ensures.kept c.in-Planned.ensures)
-    report_text (λ setup other. refl) c.carry_out.ensures.carried)
-    c.carry_out.ensures.report
+pub returns-clause-fault : goal.returns-clause-fault
+returns-clause-fault g c = subst (λ (limits : RunLimits). IsFault (run_fault (task_of c.args.declared c.args.aim limits) c.run_within-ran.result.ran.journal) c.run_within-ran.result.ran.fault) (limits_stay c.args.options 1 c.args.given (length (g.H.Hand.log c.args.hand.now)) (g.H.Hand.clock c.limits_for-limits.new.hand) (g.H.Hand.clock c.run_within-ran.new.hand) c.limits_for-limits.result c.limits_for-limits.ensures.limits c.limits_for-limits.ensures.clock c.run_within-ran.ensures.first) c.run_within-ran.ensures.fault
 
-pub returns-in-Ended-clause-leaves : goal.returns-in-Ended-clause-leaves
-returns-in-Ended-clause-leaves g c = subst (λ (journal : List Entry). Leaves (task_of c.args.declared c.args.aim (limits_by c.args.options (g.H.Hand.clock c.open.new.hand))) journal
-    (telling (g.H.Hand.log c.args.hand.now) (g.H.Hand.heard c.args.hand.now) (g.H.Hand.faults c.args.hand.now) (g.H.Hand.clock c.args.hand.now) (g.H.Hand.engine c.args.hand.now))
-    (telling (g.H.Hand.log c.open.new.hand) (g.H.Hand.heard c.open.new.hand) (g.H.Hand.faults c.open.new.hand) (g.H.Hand.clock c.open.new.hand) (g.H.Hand.engine c.open.new.hand)))
-    (sym c.ended.ensures.journal)
-    (leaves_badly c.args.declared c.args.aim c.args.options c.in-Ended.observed (g.H.Hand.clock c.limits_for-limits.new.hand)
-    (telling (g.H.Hand.log c.args.hand.now) (g.H.Hand.heard c.args.hand.now) (g.H.Hand.faults c.args.hand.now) (g.H.Hand.clock c.args.hand.now) (g.H.Hand.engine c.args.hand.now))
-    (telling (g.H.Hand.log c.open.new.hand) (g.H.Hand.heard c.open.new.hand) (g.H.Hand.faults c.open.new.hand) (g.H.Hand.clock c.open.new.hand) (g.H.Hand.engine c.open.new.hand))
-    c.requires.unused c.limits_for-limits.ensures.clock
-    (subst (λ (t : Telling). Opens c.args.declared c.args.aim (Opening.Ended c.in-Ended.observed) t
-    (telling (g.H.Hand.log c.open.new.hand) (g.H.Hand.heard c.open.new.hand) (g.H.Hand.faults c.open.new.hand) (g.H.Hand.clock c.open.new.hand) (g.H.Hand.engine c.open.new.hand)))
-    c.limits_for-limits.ensures.kept c.in-Ended.ensures))
-
-pub returns-in-Ended-clause-fault : goal.returns-in-Ended-clause-fault
-returns-in-Ended-clause-fault g c = subst (λ (journal : List Entry). IsFault (run_fault (task_of c.args.declared c.args.aim (limits_by c.args.options (g.H.Hand.clock c.open.new.hand))) journal) c.ended.result.fault)
-    (sym c.ended.ensures.journal) (c.ended.ensures.fault (task_of c.args.declared c.args.aim (limits_by c.args.options (g.H.Hand.clock c.open.new.hand))))
-
-pub returns-in-Ended-clause-report : goal.returns-in-Ended-clause-report
-returns-in-Ended-clause-report g c = subst (λ (journal : List Entry). IsReport (run_report (task_of c.args.declared c.args.aim (limits_by c.args.options (g.H.Hand.clock c.open.new.hand))) journal) c.ended.result.fault c.ended.result.report)
-    (sym c.ended.ensures.journal) (c.ended.ensures.report (task_of c.args.declared c.args.aim (limits_by c.args.options (g.H.Hand.clock c.open.new.hand))))
+pub returns-clause-report : goal.returns-clause-report
+returns-clause-report g c = subst (λ (limits : RunLimits). IsReport (run_report (task_of c.args.declared c.args.aim limits) c.run_within-ran.result.ran.journal) c.run_within-ran.result.ran.fault c.run_within-ran.result.ran.report) (limits_stay c.args.options 1 c.args.given (length (g.H.Hand.log c.args.hand.now)) (g.H.Hand.clock c.limits_for-limits.new.hand) (g.H.Hand.clock c.run_within-ran.new.hand) c.limits_for-limits.result c.limits_for-limits.ensures.limits c.limits_for-limits.ensures.clock c.run_within-ran.ensures.first) c.run_within-ran.ensures.report
