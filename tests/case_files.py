@@ -1,5 +1,6 @@
 """Cases as they stand in their files: which keys they have, and what is wrong with them."""
 import os
+import re
 import shlex
 
 from case_yaml import Fault, read
@@ -11,6 +12,11 @@ def is_text(value):
 
 def is_number(value):
     return is_text(value) and value.isdigit()
+
+
+def is_time(value):
+    """From so many milliseconds to so many, or on."""
+    return is_text(value) and re.fullmatch(r"\d+\.\.\d*", value)
 
 
 def is_built(value):
@@ -54,6 +60,7 @@ FORMS = {
     "any_order": is_text,
     "input": is_built,
     "engine": is_list,
+    "took": is_time,
     "status": is_number,
     "out": is_built,
     "out_to": is_text,
@@ -69,6 +76,7 @@ EXCHANGE_FORMS = {
     "body": is_built,
     "chunks": is_texts,
     "raw": is_built,
+    "makes": is_text,
     "pause": is_number,
     "cut": is_number,
     "close": is_text,
@@ -145,12 +153,17 @@ def built(text):
         return built(text["of"]) * int(text["times"])
     if isinstance(text, dict) and set(text) | {"from"} == {"times", "from", "counting"}:
         first, times = int(text.get("from", "0")), int(text["times"])
-        return b"".join(built(text["counting"]).replace(b"#", b"%d" % at) for at in range(first, first + times))
+        # `#-1` is the number before.
+        pieces = [built(text["counting"]).replace(b"#-1", b"%d" % (at - 1)).replace(b"#", b"%d" % at) for at in range(first, first + times)]
+        return b"".join(pieces)
     if isinstance(text, dict) and set(text) == {"times", "deeper"}:
         return b"".join(b" " * at + built(text["deeper"]) for at in range(int(text["times"])))
+    if isinstance(text, dict) and set(text) == {"first", "of"}:
+        return built(text["of"])[: int(text["first"])]
     if isinstance(text, dict) and set(text) == {"bytes"}:
         return bytes.fromhex(text["bytes"])
-    raise Fault("a text is a scalar, or parts: TEXT, {times: N, of: TEXT}, the same with `counting` or `deeper`, {bytes: HEX}")
+    parts = "TEXT, {times: N, of: TEXT}, the same with `counting` or `deeper`, {first: N, of: TEXT}, {bytes: HEX}"
+    raise Fault(f"a text is a scalar, or parts: {parts}")
 
 
 def cases_of(file, place):

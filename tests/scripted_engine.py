@@ -129,6 +129,9 @@ class ScriptedEngine:
         self.came += lines
         if not exchange or lines != wanted_lines(exchange) or "close" in exchange:
             return
+        if "makes" in exchange:
+            with open(exchange["makes"], "w", encoding="utf-8"):
+                pass
         time.sleep(int(exchange.get("pause") or "0") / 1000)
         response = response_of(exchange)
         connection.sendall(response[: int(exchange["cut"])] if exchange.get("cut") else response)
