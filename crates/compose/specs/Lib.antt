@@ -1,4 +1,3 @@
-pub mod Calls
 pub mod Directories
 pub mod Ends
 pub mod Given

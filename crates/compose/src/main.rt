@@ -1,26 +1,24 @@
 //! The program `compose`: it gives the words of the command line, the variables, the working directory, the files of
-//! the disk and the standard streams to the top call of `parallel_cli`, and ends with the status that this answers.
-//! Where a create is refused because its name is used, it makes the call again a moment later. Questions about the
-//! program itself, `--help` and `--version`, it answers before.
+//! the disk and the standard streams to the top call of `repeated_runs`, and ends with the status that this answers. Questions
+//! about the program itself, `--help` and `--version`, it answers before.
 //!
 //! Contracts say what is taken of words, variables and a directory that are told, when there is none of these, and that
 //! the status is that of the refusal whose line is written. The process itself tells nothing: there they say nothing.
 #![tactic(auto)]
 
-mod calls;
 mod directory;
 mod ends;
 mod given;
-mod null_sink;
+mod made;
 mod process;
 
 ghost use Rattle.std.specs.Prelude.{◌<◌, ◌^◌, length};
 
-use calls::status_of_calls;
 use compose_words::notice_of;
 use directory::working_directory;
 use ends::{answer_notice, end, end_without_directory};
 use given::{variables, words};
+use made::status_of_call;
 use outside_files::OutSink;
 use refusals::Refusal;
 use std::process::ExitCode;
@@ -57,8 +55,7 @@ fn answer<R: Threads + Wait + Sync>(host: &HostRuntime, rt: &R, words: &List<Tex
     }
 }
 
-/// Makes the top call, more than once where `status_of_calls` says so; none where variables or working directory can't
-/// be had.
+/// Makes the top call; none where variables or working directory can't be had.
 fn call<R: Threads + Wait + Sync>(host: &HostRuntime, rt: &R, words: &List<Text>) -> u8
     requires { length words.now < 2 ^ 32 }
 {
@@ -67,7 +64,7 @@ fn call<R: Threads + Wait + Sync>(host: &HostRuntime, rt: &R, words: &List<Text>
         return end(host.alloc(), Some(Refusal::Memory), &mut err);
     };
     match working_directory(host.alloc(), host, &variables) {
-        Ok(directory) => status_of_calls(host, rt, words, &variables, &directory),
+        Ok(directory) => status_of_call(host, rt, words, &variables, &directory),
         Err(refusal) => end_without_directory(refusal, &mut err),
     }
 }

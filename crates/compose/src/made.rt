@@ -1,0 +1,57 @@
+ghost use Rattle.std.specs.Prelude.{◌≡◌, ◌<◌, ◌^◌, length, IfErr};
+ghost use Rattle.asked_project.specs.Asking.{options_asked};
+ghost use Rattle.compose.specs.Ends.{IsStatusOf};
+
+use compose_cli::Ended;
+use engine_plugs::MainPlug;
+use outside_files::{DiskFiles, OutSink};
+use repeated_runs::{Attempts, compose_main};
+use std::sync::Wait;
+use std::thread::Threads;
+use tree_base::{Env, List, Text};
+
+/// Makes the top call with the disk's files, the standard streams and the plug of the program, and with several workers: its exit
+/// status.
+pub(crate) fn status_of_call<R: Threads + Wait + Sync>(
+    host: &HostRuntime,
+    rt: &R,
+    words: &List<Text>,
+    variables: &Env,
+    directory: &Text,
+) -> u8
+    requires { length words.now < 2 ^ 32 }
+    ensures { IfErr (options_asked words.now variables.now) (λ refusal.
+        IsStatusOf refusal result) }
+{
+    let mut files = DiskFiles::new(host.alloc(), host);
+    let mut plug = MainPlug::new(host, rt);
+    let mut out = OutSink::new(host.stdout());
+    let mut err = OutSink::new(host.stderr());
+    let Attempts {
+        earlier,
+        last,
+        looker,
+    } = compose_main(
+        host.alloc(),
+        rt,
+        words,
+        variables,
+        directory,
+        &mut files,
+        &mut plug,
+        &mut out,
+        &mut err,
+    );
+    // By calls, since all drops would be proved at this place.
+    drop(earlier);
+    drop(looker);
+    status_in(last)
+}
+
+fn status_in<H: Drop>(ended: Ended<H>) -> u8
+    ensures { result ≡ ended.status }
+{
+    let status = ended.status;
+    drop(ended);
+    status
+}

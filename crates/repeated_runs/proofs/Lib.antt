@@ -1,0 +1,14 @@
+pub mod Dials
+pub mod Workers
+pub mod Refusals
+pub mod Ran
+pub mod Pairs
+pub mod Onces
+pub mod Short
+pub mod Counting
+pub mod Chains
+pub mod Lookings
+pub mod Followed
+pub mod Steps
+pub mod Places
+pub mod Asked

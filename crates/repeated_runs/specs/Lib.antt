@@ -1,0 +1,12 @@
+pub mod Dials
+pub mod Hands
+pub mod Workers
+pub mod Running
+pub mod Moments
+pub mod Conflicts
+pub mod Attempts
+pub mod Onces
+pub mod Lookings
+pub mod Followings
+pub mod Steps
+pub mod Calls
