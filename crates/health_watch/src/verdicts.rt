@@ -14,7 +14,7 @@ pub fn judge(condition: Condition, report: &Report) -> Verdict
         Condition::Started => Verdict::Met,
         Condition::Healthy => judge_health(report.state, report.health),
         Condition::Completed => judge_completion(report.state, report.exit_code),
-        Condition::Running => judge_running(report.state),
+        Condition::Running => judge_running(report.state, report.health),
     }
 }
 
@@ -52,13 +52,18 @@ fn judge_completion(state: ContainerState, exit_code: i64) -> Verdict
     }
 }
 
-/// A running container meets Running. One that has exited, is dead or is being removed fails it.
-fn judge_running(state: ContainerState) -> Verdict
-    ensures { result ≡ judge_running state }
+/// A running container that has no health check, or is healthy, meets Running. One that is unhealthy, has exited, is dead or is
+/// being removed fails it; so one whose image has a health check is waited for while that is starting.
+fn judge_running(state: ContainerState, health: Health) -> Verdict
+    ensures { result ≡ judge_running state health }
 {
-    match state {
-        ContainerState::Running => Verdict::Met,
-        ContainerState::Exited | ContainerState::Dead | ContainerState::Removing => Verdict::Failed,
+    match (state, health) {
+        (ContainerState::Running, Health::Absent) => Verdict::Met,
+        (ContainerState::Running, Health::Healthy) => Verdict::Met,
+        (ContainerState::Exited, _) => Verdict::Failed,
+        (ContainerState::Dead, _) => Verdict::Failed,
+        (ContainerState::Removing, _) => Verdict::Failed,
+        (_, Health::Unhealthy) => Verdict::Failed,
         _ => Verdict::NotYet,
     }
 }

@@ -38,20 +38,23 @@ judge_completion ContainerState.Dead code = Verdict.Failed
 judge_completion ContainerState.Removing code = Verdict.Failed
 judge_completion state code = Verdict.NotYet
 
--- what a report says of running: a running container meets it; one that has exited, is dead or is being removed fails it
-abbrev pub judge_running : ContainerState → Verdict
-judge_running ContainerState.Running = Verdict.Met
-judge_running ContainerState.Exited = Verdict.Failed
-judge_running ContainerState.Dead = Verdict.Failed
-judge_running ContainerState.Removing = Verdict.Failed
-judge_running state = Verdict.NotYet
+-- what a report says of running: it is met by a running container that has no health check or is healthy; it fails at an
+-- unhealthy one, and at one that has exited, is dead or is being removed
+abbrev pub judge_running : ContainerState → Health → Verdict
+judge_running ContainerState.Running Health.Absent = Verdict.Met
+judge_running ContainerState.Running Health.Healthy = Verdict.Met
+judge_running ContainerState.Exited _ = Verdict.Failed
+judge_running ContainerState.Dead _ = Verdict.Failed
+judge_running ContainerState.Removing _ = Verdict.Failed
+judge_running _ Health.Unhealthy = Verdict.Failed
+judge_running _ _ = Verdict.NotYet
 
 -- what a report says of a condition; the conditions are those of the Compose Specification's `depends_on`, and Running
 abbrev pub judge : Condition → Report → Verdict
 judge Condition.Started report = Verdict.Met
 judge Condition.Healthy report = judge_health report.state report.health
 judge Condition.Completed report = judge_completion report.state report.exit_code
-judge Condition.Running report = judge_running report.state
+judge Condition.Running report = judge_running report.state report.health
 
 -- the verdict Met
 abbrev pub is_met_verdict : Verdict → Bool
