@@ -10,7 +10,7 @@ use Rattle.std.specs.declared.cmp.Ordering.TheVariants.{Less, Equal, Greater}
 use Rattle.std.proofs.lemmas.Map.Text.{is_eq-slice_cmp}
 use Rattle.std.proofs.lemmas.Slice.Eq.{bytes_eq-Decides}
 use Rattle.declared_resources.specs.Resources.{variable_of}
-use Rattle.declared_set.specs.Labels.{container_labels, own_labels, with_known}
+use Rattle.declared_set.specs.Labels.{container_labels, own_labels, with_dependencies, with_known}
 use Rattle.engine_types.specs.Labels as the
 use Rattle.engine_types.specs.Labels.{label}
 use Rattle.engine_types.specs.declared.Slot.{Slot}
@@ -93,8 +93,11 @@ put_seen (entry ∷ entries) key value name = at (bytes_eq key entry.0) refl (pu
     at false e rest = ap (λ o. cond (bytes_eq name entry.0) (Some entry.1) o) rest ∙ swapped e (bytes_eq name entry.0) (bytes_eq name key) refl refl
 
 module _ (project : List ℕ) (service : Service) (hash : List ℕ) (number : ℕ) where
+  abbrev given : List (List ℕ × List ℕ)
+  given = with_dependencies service (own_labels service)
+
   abbrev all : List (List ℕ × List ℕ)
-  all = with_known project service.key hash number (own_labels service)
+  all = with_known project service.key hash number given
 
   abbrev labels : List Var
   labels = container_labels project service hash number
@@ -103,7 +106,7 @@ module _ (project : List ℕ) (service : Service) (hash : List ℕ) (number : �
   seen name = ap (option_map (λ (pair : Var). pair.value)) (find-by_key (λ (v : Var). v.name) name (map variable_of all)) ∙ label_of all name
 
   abbrev first : List (List ℕ × List ℕ)
-  first = with_entry (own_labels service) the.project_label project
+  first = with_entry given the.project_label project
 
   abbrev second : List (List ℕ × List ℕ)
   second = with_entry first the.service_label service.key
@@ -143,7 +146,7 @@ module _ (project : List ℕ) (service : Service) (hash : List ℕ) (number : �
   project_is =
       seen the.project_label ∙ put_seen fifth the.oneoff_label the.not_oneoff the.project_label ∙ put_seen fourth the.version_label the.hash_version the.project_label
       ∙ put_seen third the.hash_label hash the.project_label ∙ put_seen second the.number_label (decimal number) the.project_label
-      ∙ put_seen first the.service_label service.key the.project_label ∙ put_seen (own_labels service) the.project_label project the.project_label
+      ∙ put_seen first the.service_label service.key the.project_label ∙ put_seen given the.project_label project the.project_label
 
   has_value : (name value : List ℕ) → label labels name ≡ Some value → has_label labels name value ≡ true
   has_value name value e = ap (λ o. option_map_or (bytes_eq value) o false) e ∙ same_text value

@@ -1,8 +1,13 @@
--- The labels of a container: those of its service, and those by which it is known (Docker Compose's labels, and one of this program's own).
-use Rattle.std.specs.Prelude.{ℕ, List, [], codes, decimal, map, unwrap_or}
+-- The labels of a container: those of its service, what this depends on, and those by which it is known (Docker Compose's labels, and one of
+-- this program's own).
+use Rattle.std.specs.Prelude.{ℕ, Bool, true, false, List, [], ◌++◌, codes, decimal, map, unwrap_or}
+use Rattle.std.specs.List.{join_by}
 use Rattle.attribute_types.specs.Lookups.{pairs_at}
+use Rattle.attribute_types.specs.declared.rows.Dependency.{Dependency}
 use Rattle.declared_resources.specs.Resources.{label_entry, variable_of}
 use Rattle.engine_types.specs.Labels as the
+use Rattle.project_pages.specs.AttributePages.{condition_word}
+use Rattle.service_graph.specs.Cycles.{dependencies_of}
 use Rattle.tree_base.specs.ByteOrder.{by_key}
 use Rattle.tree_base.specs.Entries.{with_entry}
 use Rattle.tree_base.specs.declared.Var.{Var}
@@ -11,6 +16,28 @@ use Rattle.typed_project.specs.declared.service.Service.{Service}
 -- the labels that a service gives its containers
 abbrev pub own_labels : Service → List (List ℕ × List ℕ)
 own_labels service = map label_entry (unwrap_or (pairs_at service.attributes (codes "labels")) [])
+
+-- the name of the label that says what a container's service depends on
+abbrev pub depends_on_label : List ℕ
+depends_on_label = codes "com.docker.compose.depends_on"
+
+-- whether a service is to be restarted with the one that it depends on
+abbrev pub restart_word : Bool → List ℕ
+restart_word true = codes "true"
+restart_word false = codes "false"
+
+-- a dependency in that label: the key of the service, what is waited for, and whether it restarts with it
+abbrev pub dependency_text : Dependency → List ℕ
+dependency_text dependency =
+    dependency.key ++ codes ":" ++ condition_word dependency.condition ++ codes ":" ++ restart_word dependency.restart
+
+-- all that a service depends on, in byte order of the keys, with commas; nothing is the empty text
+abbrev pub depends_on_text : Service → List ℕ
+depends_on_text service = join_by dependency_text (codes ",") (dependencies_of service)
+
+-- labels with what the service depends on, in place of one of that name
+abbrev pub with_dependencies : Service → List (List ℕ × List ℕ) → List (List ℕ × List ℕ)
+with_dependencies service labels = with_entry labels depends_on_label (depends_on_text service)
 
 -- with what the container is: of which project and service, which of its numbers, and made by which hash; each in place of an own label of its name
 abbrev pub with_known : List ℕ → List ℕ → List ℕ → ℕ → List (List ℕ × List ℕ) → List (List ℕ × List ℕ)
@@ -24,4 +51,4 @@ with_known project service hash number own =
 abbrev pub container_labels : List ℕ → Service → List ℕ → ℕ → List Var
 container_labels project service hash number =
     by_key (λ variable. variable.name)
-    (map variable_of (with_known project service.key hash number (own_labels service)))
+    (map variable_of (with_known project service.key hash number (with_dependencies service (own_labels service))))

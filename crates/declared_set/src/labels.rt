@@ -1,11 +1,15 @@
 ghost use Rattle.std.specs.Prelude.{◌≡◌, IfOk, OnOk, decimal};
-ghost use Rattle.declared_set.specs.Labels.{container_labels, with_known};
+ghost use Rattle.declared_set.specs.Labels.{container_labels, with_dependencies, with_known};
 
+use crate::dependencies::depends_on_text;
 use declared_resources::labels::{in_byte_order, own_labels, put_label, variables_of};
 use engine_types::{Pairs, labels};
 use std::alloc::Global;
 use tree_base::{Env, Memory, Text};
 use typed_project::Service;
+
+/// What a container's service depends on: of Docker Compose, which stops containers in that order where it reads no file.
+const DEPENDS_ON: &str = "com.docker.compose.depends_on";
 
 /// The labels of a service's container with a number, in byte order of their names.
 pub(crate) fn container_labels(
@@ -19,8 +23,17 @@ pub(crate) fn container_labels(
         ≡ container_labels project.now service.now hash.now number) }
 {
     let mut labels = own_labels(alloc, service.labels())?;
+    put_dependencies(alloc, &mut labels, service)?;
     put_known(alloc, &mut labels, project, &service.key, hash, number)?;
     in_byte_order(variables_of(alloc, &labels)?)
+}
+
+/// Puts what a service depends on in place of a label of that name.
+fn put_dependencies(alloc: Global, labels: &mut Env, service: &Service) -> Result<(), Memory>
+    ensures { OnOk result (labels.new ≡ with_dependencies service.now labels.old) }
+{
+    let text = depends_on_text(alloc, service)?;
+    put_label(alloc, labels, DEPENDS_ON, text.as_str())
 }
 
 /// Puts the labels by which a container is known in place of those of their names.

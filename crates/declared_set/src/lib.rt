@@ -5,6 +5,7 @@
 #![tactic(auto)]
 
 mod declaring;
+mod dependencies;
 mod labels;
 mod refusal;
 mod refusing;
