@@ -81,17 +81,17 @@ module _ (project name : List ℕ) (a b : Slot) (s : DeclaredService) (one : IsA
 
   no_need : {P : Type 0} (slot : Slot) (need : Need) → Among (a ∷ b ∷ []) slot → Among slot.needs need → P
   no_need slot need among needed =
-      let none : Among [] need = subst (λ (needs : List Need). Among needs need) (of_slots (λ (slot : Slot). slot.needs ≡ []) one.1.1.1 two.1.1.1 slot among) needed in
+      let none : Among [] need = subst (λ (needs : List Need). Among needs need) (of_slots (λ (slot : Slot). slot.needs ≡ []) one.3 two.3 slot among) needed in
       absurd none
 
   no_attach : {P : Type 0} (slot : Slot) (attach : Attach) → Among (a ∷ b ∷ []) slot → Among slot.attach attach → P
   no_attach slot attach among joined =
-      let none : Among [] attach = subst (λ (all : List Attach). Among all attach) (of_slots (λ (slot : Slot). slot.attach ≡ []) one.1.1.0 two.1.1.0 slot among) joined in
+      let none : Among [] attach = subst (λ (all : List Attach). Among all attach) (of_slots (λ (slot : Slot). slot.attach ≡ []) one.2 two.2 slot among) joined in
       absurd none
 
   no_dependency : {P : Type 0} (service : DeclaredService) (key : List ℕ) → Among (s ∷ []) service → Among service.depends_on key → P
   no_dependency service key among depended =
-      let none : Among [] key = subst (λ (keys : List (List ℕ)). Among keys key) (of_services (λ (service : DeclaredService). service.depends_on ≡ []) own.1.0 service among) depended in
+      let none : Among [] key = subst (λ (keys : List (List ℕ)). Among keys key) (of_services (λ (service : DeclaredService). service.depends_on ≡ []) own.1 service among) depended in
       absurd none
 
   owned : (slot : Slot) → slot.service ≡ name → list_any (λ service. bytes_eq service.key slot.service) (s ∷ []) ≡ true
@@ -102,11 +102,11 @@ module _ (project name : List ℕ) (a b : Slot) (s : DeclaredService) (one : IsA
       or_right (is_before a.service b.service) (bytes_eq a.service b.service && nat_lt a.number b.number)
       (both (bytes_eq a.service b.service) (nat_lt a.number b.number)
       ((bytes_eq-Decides a.service b.service).1 (one.0 ∙ sym two.0))
-      ((Decides-ltb a.number b.number).1 (omega (arith, one.1.0, two.1.0))))
+      ((Decides-ltb a.number b.number).1 (omega (arith, one.1, two.1))))
 
   never_none : (service : DeclaredService) → Among (s ∷ []) service → service.roll ≡ Some 0 → ⊥
   never_none service among e =
-      let clash : None ≡ Some 0 = sym (of_services (λ (service : DeclaredService). service.roll ≡ None) own.1.1 service among) ∙ e in
+      let clash : None ≡ Some 0 = sym (of_services (λ (service : DeclaredService). service.roll ≡ None) own.2 service among) ∙ e in
       cc clash
 
   two_stand : Stands (made project (a ∷ b ∷ []) (s ∷ []) networks volumes)
@@ -122,7 +122,7 @@ module _ (project name : List ℕ) (a b : Slot) (s : DeclaredService) (one : IsA
       conditions = λ slot need among needed. no_need slot need among needed;
       rolls = never_none;
     };
-    small = of_slots (λ (slot : Slot). slot.number < 2 ^ 32) (omega (arith, one.1.0)) (omega (arith, two.1.0));
+    small = of_slots (λ (slot : Slot). slot.number < 2 ^ 32) (omega (arith, one.1)) (omega (arith, two.1));
     acyclic = record {
       rank = λ s. 0;
       falls = λ s slot need at needed. no_need slot need (at_among (a ∷ b ∷ []) s slot at) needed;
