@@ -7,8 +7,8 @@ use Rattle.engine_types.specs.declared.Request.{Request}
 use Rattle.ledger_run.specs.Tellings.{Telling}
 use Rattle.name_conflicts.specs.declared.LookEnd.{LookEnd}
 use Rattle.outside_api.specs.declared.dial.Dial.{Dial}
-use Rattle.outside_files.specs.Counts.{Rose}
 use Rattle.refusals.specs.declared.Refusal.{Refusal}
+use Rattle.repeated_runs.specs.Attempts.{AsksOnce, StandsUndialled}
 use Rattle.repeated_runs.specs.Conflicts.{conflict_of, was_repeated_for}
 use Rattle.repeated_runs.specs.Followings.{EndsLook, Follows, LooksSo, is_sought, shortened}
 use Rattle.repeated_runs.specs.Lookings.{Looks}
@@ -47,25 +47,25 @@ module _ {H : Type 0} (tell : H → Telling) (Place : ℕ → Dial → Type 0) (
   -- no hand was asked for, since the run wasn't refused a create whose name is used, or this was made again before
   pub stands_unsought : (left : Left) → is_sought ended.refusal earlier ≡ false
       → Follows tell Place (record { ended = ended; whole = true; left = Some left }) earlier earlier (Behind.Stands ended None) old old dialled dialled faults faults
-  stands_unsought left e = (refl, inl refl, inl refl, refl, why (not_sought ended.refusal earlier e))
+  stands_unsought left e = (refl, inl refl, refl, inl (refl, why (not_sought ended.refusal earlier e)))
     where
       why : (conflict_of ended.refusal ≡ None) ⊎ ((request : Request) × (conflict_of ended.refusal ≡ Some request) × (was_repeated_for earlier request ≡ true))
-          → (conflict_of ended.refusal ≡ None) ⊎ (true ≡ false) ⊎ ((request : Request) × (conflict_of ended.refusal ≡ Some request) × (was_repeated_for earlier request ≡ true)) ⊎ Rose faults faults
+          → (conflict_of ended.refusal ≡ None) ⊎ (true ≡ false) ⊎ ((request : Request) × (conflict_of ended.refusal ≡ Some request) × (was_repeated_for earlier request ≡ true))
       why (inl none) = inl none
-      why (inr again) = inr (inr (inl again))
+      why (inr again) = inr (inr again)
 
   -- its report wasn't written whole
   pub stands_broken : (left : Left) → Follows tell Place (record { ended = ended; whole = false; left = Some left }) earlier earlier (Behind.Stands ended None) old old dialled dialled faults faults
-  stands_broken left = (refl, inl refl, inl refl, refl, inr (inl refl))
+  stands_broken left = (refl, inl refl, refl, inl (refl, inr (inl refl)))
 
   -- it wasn't refused such a create
   pub stands_else : (whole : Bool) (left : Option Left) → conflict_of ended.refusal ≡ None
       → Follows tell Place (record { ended = ended; whole = whole; left = left }) earlier earlier (Behind.Stands ended None) old old dialled dialled faults faults
-  stands_else whole left none = (refl, inl refl, inl refl, refl, inl none)
+  stands_else whole left none = (refl, inl refl, refl, inl (refl, inl none))
 
   -- there was no memory for one more
   pub stands_short : (left : Left) → Follows tell Place (record { ended = ended; whole = true; left = Some left }) earlier earlier (Behind.Stands (shortened ended) None) old old dialled dialled faults faults
-  stands_short left = (refl, inr refl, inl refl, refl, inl refl)
+  stands_short left = (refl, inr refl, refl, inl (refl, inl refl))
 
 module _ {H : Type 0} (tell : H → Telling) (Place : ℕ → Dial → Type 0) (ended : Ended H) (left : Left) (earlier : List (Attempt H)) (request : Request)
     (old new : List Dial) (dialled_old dialled_new : Option ℕ) (faults_old faults_new : ℕ) where
@@ -73,14 +73,20 @@ module _ {H : Type 0} (tell : H → Telling) (Place : ℕ → Dial → Type 0) (
   once = record { ended = ended; whole = true; left = Some left }
 
   -- the plug failed
-  pub stands_undialled : Looks tell Place left.declared.project request left.limits.deadline Looked.Undialled old new dialled_old dialled_new faults_old faults_new
+  pub stands_undialled : conflict_of ended.refusal ≡ Some request → Looks tell Place left.declared.project request left.limits.deadline Looked.Undialled old new dialled_old dialled_new faults_old faults_new
       → Follows tell Place once earlier earlier (Behind.Stands ended None) old new dialled_old dialled_new faults_old faults_new
-  stands_undialled looks = (refl, inl refl, inr looks.0, looks.1, inr (inr (inr looks.2)))
+  stands_undialled conflict looks = (refl, inl refl, looks.1, inr (looks.0, inr ((request, conflict), looks.2)))
 
   -- memory was wanted for the hand
   pub stands_handless : Looks tell Place left.declared.project request left.limits.deadline Looked.Short old new dialled_old dialled_new faults_old faults_new
       → Follows tell Place once earlier earlier (Behind.Stands (shortened ended) None) old new dialled_old dialled_new faults_old faults_new
-  stands_handless looks = (refl, inr refl, looks.0, looks.1, inl refl)
+  stands_handless looks = (refl, inr refl, looks.1, by looks.0)
+    where
+      by : (new ≡ old) ⊎ AsksOnce Place old new
+          → ((new ≡ old) × ((conflict_of (shortened ended).refusal ≡ None) ⊎ (true ≡ false) ⊎ ((asked : Request) × (conflict_of (shortened ended).refusal ≡ Some asked) × (was_repeated_for earlier asked ≡ true))))
+          ⊎ (AsksOnce Place old new × StandsUndialled (shortened ended).refusal faults_old faults_new)
+      by (inl same) = inl (same, inl refl)
+      by (inr asked) = inr (asked, inl refl)
 
   -- a hand looked
   module _ (conflict : conflict_of ended.refusal ≡ Some request) (fresh : was_repeated_for earlier request ≡ false) (hand : H) (after : List (Attempt H)) where

@@ -1,5 +1,5 @@
 -- What holds of a call's runs by other words for their dials, and with another end.
-use Rattle.std.proofs.Common.{◌≡◌, ◌⊎◌, ℕ, List, [], ◌∷◌, ◌++◌, Option, None, Some, length, refl, sym, ap, ◌∙◌, subst, inl, inr}
+use Rattle.std.proofs.Common.{◌≡◌, ◌⊎◌, ℕ, List, [], ◌∷◌, Option, None, Some, length, refl, sym, ap, ◌∙◌, subst, inl, inr}
 use Rattle.compose_cli.proofs.Dialled.{dials_by}
 use Rattle.compose_cli.specs.declared.Ended.{Ended}
 use Rattle.engine_types.specs.declared.Request.{Request}
@@ -13,7 +13,7 @@ use Rattle.refusals.specs.declared.Refusal.{Refusal}
 use Rattle.repeated_runs.proofs.Chains.{first_by}
 use Rattle.repeated_runs.proofs.Onces.{run_unplaced}
 use Rattle.repeated_runs.proofs.Short.{one_short}
-use Rattle.repeated_runs.specs.Attempts.{AreAttempts, AreMadeAgain, HasNoLooker, IsMadeAgain, IsOneLook, IsOneRun, Stands, StandsUnlooked, first_hands}
+use Rattle.repeated_runs.specs.Attempts.{AreAttempts, AreMadeAgain, IsMadeAgain, IsOneLook, IsOneRun, Stands, StandsUnlooked, first_hands}
 use Rattle.repeated_runs.specs.Conflicts.{AreApart, conflict_of}
 use Rattle.repeated_runs.specs.Followings.{shortened}
 use Rattle.repeated_runs.specs.Moments.{Moment}
@@ -59,16 +59,13 @@ module _ {H : Type 0} (tell : H → Telling) (F G : ℕ → Dial → Type 0) (to
   all_at [] old new made = made
   all_at (attempt ∷ rest) old new made = (made.0, again_at attempt old made.0 made.1, all_at rest made.0 new made.2)
 
-  looker_at : (old new : Moment) → HasNoLooker F old new → HasNoLooker G old new
-  looker_at old new h = record { dials = at h.dials; dialled = h.dialled; written = h.written; out_faults = h.out_faults }
-    where
-      at : (new.dials ≡ old.dials) ⊎ ((dial : Dial) × F 0 dial × (new.dials ≡ old.dials ++ dial ∷ [])) → (new.dials ≡ old.dials) ⊎ ((dial : Dial) × G 0 dial × (new.dials ≡ old.dials ++ dial ∷ []))
-      at (inl same) = inl same
-      at (inr one) = inr (one.0, to 0 one.0 one.1, one.2)
+  unlooked_at : (earlier : List (Attempt H)) (refusal : Option Refusal) (before after new : Moment) → StandsUnlooked F earlier refusal before after new → StandsUnlooked G earlier refusal before after new
+  unlooked_at earlier refusal before after new (inl none) = inl none
+  unlooked_at earlier refusal before after new (inr asked) = let one = asked.0 in inr ((one.0, to 0 one.0 one.1, one.2), asked.1)
 
   stands_at : (earlier : List (Attempt H)) (refusal : Option Refusal) (looker : Option H) (before after new : Moment) → Stands tell F task earlier refusal looker before after new
       → Stands tell G task earlier refusal looker before after new
-  stands_at earlier refusal None before after new s = (looker_at after new s.0, s.1)
+  stands_at earlier refusal None before after new s = (s.0, unlooked_at earlier refusal before after new s.1)
   stands_at earlier refusal (Some looker) before after new s = (s.0, s.1, look_at s.0 s.1 looker after new s.2, s.3, s.4)
 
   -- the same runs by dials of which another fact holds that follows
@@ -105,8 +102,9 @@ module _ {H : Type 0} (tell : H → Telling) (Place : ℕ → Dial → Type 0) (
   run_said ended other old new (inl e) run = subst (λ (x : Ended H). IsOneRun tell Place workers task x old new) (sym e) run
   run_said ended other old new (inr e) run = subst (λ (x : Ended H). IsOneRun tell Place workers task x old new) (sym e) (one_short tell task ended Place workers old new run)
 
-  unlooked_short : (earlier : List (Attempt H)) (refusal : Option Refusal) (before after new : Moment) → StandsUnlooked earlier refusal before after new → StandsUnlooked earlier (Some Refusal.Memory) before after new
-  unlooked_short earlier refusal before after new s = inl refl
+  unlooked_short : (earlier : List (Attempt H)) (refusal : Option Refusal) (before after new : Moment) → StandsUnlooked Place earlier refusal before after new → StandsUnlooked Place earlier (Some Refusal.Memory) before after new
+  unlooked_short earlier refusal before after new (inl none) = inl (none.0, inl refl)
+  unlooked_short earlier refusal before after new (inr asked) = inr (asked.0, inl refl)
 
   stands_short : (earlier : List (Attempt H)) (refusal : Option Refusal) (looker : Option H) (before after new : Moment) → Stands tell Place task earlier refusal looker before after new
       → Stands tell Place task earlier (Some Refusal.Memory) looker before after new
@@ -143,5 +141,5 @@ module _ {H : Type 0} (tell : H → Telling) (Place : ℕ → Dial → Type 0) (
         apart = subst (λ (l : List (Attempt H)). AreApart l) (sym none) tt;
         last = run_unplaced tell Place workers task attempts.last now empty handless wanted status;
         stands = subst (λ (o : Option H). Stands tell Place task attempts.earlier attempts.last.refusal o now now now) (sym unlooked)
-            (record { dials = inl refl; dialled = refl; written = refl; out_faults = refl }, inl (ap conflict_of wanted));
+            (record { dialled = refl; written = refl; out_faults = refl }, inl (refl, inl (ap conflict_of wanted)));
       }

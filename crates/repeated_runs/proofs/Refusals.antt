@@ -4,9 +4,11 @@ use Rattle.std.specs.Prelude.{Bool, Option}
 use Rattle.compose_cli.specs.Ends.{failed_dial}
 use Rattle.compose_cli.specs.Runs.{IsUnbegun, refusal_after}
 use Rattle.engine_types.specs.declared.RunFault.{RunFault}
-use Rattle.refusals.specs.Origins.{IsOfLoading, IsOfRun}
-use Rattle.refusals.specs.Saying.{IsSaidIfAny}
+use Rattle.refusals.proofs.Said.{said}
+use Rattle.refusals.specs.Origins.{IsBeforeDial, IsOfLoading, IsOfRun}
+use Rattle.refusals.specs.Saying.{IsSaid, IsSaidIfAny}
 use Rattle.refusals.specs.declared.Refusal.{Refusal}
+use Rattle.repeated_runs.specs.Calls.{IsRefusedBeforeDial}
 use Rattle.repeated_runs.specs.Conflicts.{conflict_of}
 use Rattle.repeated_runs.specs.Dials.{refusal_of}
 use Rattle.repeated_runs.specs.declared.dialling.DialFault.{DialFault}
@@ -48,6 +50,10 @@ no_loading (Some Refusal.Stopped) run loading = loading
 no_loading (Some (Refusal.Late why)) run loading = loading
 no_loading (Some (Refusal.Outside part)) run loading = loading
 no_loading (Some Refusal.Memory) run loading = loading
+
+-- what a call is refused with that has no run is said so, or a want of memory in its place
+pub said_before_dial : (refusal : Refusal) (found : Option Refusal) → IsBeforeDial refusal → IsSaid refusal found → IsRefusedBeforeDial found
+said_before_dial refusal found before is_said = said refusal found is_said IsRefusedBeforeDial tt before
 
 -- a run without memory is refused so
 pub memory_refusal : (fault : Option RunFault) (whole : Bool) (refusal : Option Refusal) → refusal ≡ refusal_after fault whole → fault ≡ Some RunFault.Memory → refusal ≡ Some Refusal.Memory

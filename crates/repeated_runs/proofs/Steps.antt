@@ -23,7 +23,7 @@ use Rattle.project_run.specs.Whole.{task_of}
 use Rattle.refusals.specs.declared.Refusal.{Refusal}
 use Rattle.repeated_runs.proofs.Chains.{apart_more, first_by, made_more, same_first}
 use Rattle.repeated_runs.proofs.Short.{one_short}
-use Rattle.repeated_runs.specs.Attempts.{AreAttempts, AreMadeAgain, IsMadeAgain, IsOneLook, IsOneRun, Stands, StandsUnlooked, first_hands, most_runs}
+use Rattle.repeated_runs.specs.Attempts.{AreAttempts, AreMadeAgain, AsksOnce, IsMadeAgain, IsOneLook, IsOneRun, Stands, StandsUnasked, StandsUndialled, StandsUnlooked, first_hands, most_runs}
 use Rattle.repeated_runs.specs.Conflicts.{AreApart, conflict_of, was_repeated_for}
 use Rattle.repeated_runs.specs.Followings.{Follows, LooksSo, Underway, shortened, task_by}
 use Rattle.repeated_runs.specs.Moments.{Moment}
@@ -140,16 +140,20 @@ module _ {H : Type 0} (tell : H → Telling) (Place : ℕ → Dial → Type 0) (
       ap (λ (l : List (Attempt H)). first_hands l last) same ∙ first_by earlier last once.ended (kept_hands last kept),
     )
 
-    abbrev Why : Option Refusal → Type 0
-    Why refusal =
+    abbrev Unasked : Option Refusal → Type 0
+    Unasked refusal =
         (conflict_of refusal ≡ None) ⊎ (once.whole ≡ false)
-        ⊎ ((request : Request) × (conflict_of refusal ≡ Some request) × (was_repeated_for earlier request ≡ true)) ⊎ Rose now.plug_faults new.plug_faults
+        ⊎ ((request : Request) × (conflict_of refusal ≡ Some request) × (was_repeated_for earlier request ≡ true))
 
-    why : (refusal : Option Refusal) → Why refusal → StandsUnlooked earlier refusal u.before now new
-    why refusal (inl none) = inl none
-    why refusal (inr (inl broken)) = inr (inl (u.broken broken))
-    why refusal (inr (inr (inl before))) = inr (inr (inl before))
-    why refusal (inr (inr (inr rose))) = inr (inr (inr (inr rose)))
+    unasked : (refusal : Option Refusal) → Unasked refusal → StandsUnasked earlier refusal u.before now
+    unasked refusal (inl none) = inl none
+    unasked refusal (inr (inl broken)) = inr (inl (u.broken broken))
+    unasked refusal (inr (inr before)) = inr (inr (inl before))
+
+    why : (refusal : Option Refusal) → ((new.dials ≡ now.dials) × Unasked refusal) ⊎ (AsksOnce Place now.dials new.dials × StandsUndialled refusal now.plug_faults new.plug_faults)
+        → StandsUnlooked Place earlier refusal u.before now new
+    why refusal (inl none) = inl (none.0, unasked refusal none.1)
+    why refusal (inr asked) = inr asked
 
     kept_by : (last : Ended H) (end : LookEnd) → (last ≡ shortened once.ended) ⊎ ((end ≡ LookEnd.Memory → ⊥) × (last ≡ once.ended)) → (last ≡ once.ended) ⊎ (last ≡ shortened once.ended)
     kept_by last end (inl short) = inr short
@@ -162,7 +166,7 @@ module _ {H : Type 0} (tell : H → Telling) (Place : ℕ → Dial → Type 0) (
 
     pub is_over : (last : Ended H) (looker : Option H) → Follows tell Place once earlier after (Behind.Stands last looker) now.dials new.dials now.dialled new.dialled now.plug_faults new.plug_faults
         → AreAttempts tell Place workers task (record { earlier = after; last = last; looker = looker }) first new × (first_hands after last ≡ first_hands earlier once.ended)
-    is_over last None f = over_by last None f.0 f.1 (record { dials = f.2; dialled = f.3; written = written; out_faults = out_faults }, why last.refusal f.4)
+    is_over last None f = over_by last None f.0 f.1 (record { dialled = f.2; written = written; out_faults = out_faults }, why last.refusal f.3)
     is_over last (Some looker) f = over_by last (Some looker) f.0 (kept_by last f.5 f.8) (
       f.3,
       f.5,
@@ -179,7 +183,7 @@ module _ {H : Type 0} (tell : H → Telling) (Place : ℕ → Dial → Type 0) (
     earlier = u.made;
     apart = u.apart;
     last = u.run;
-    stands = (record { dials = inl refl; dialled = refl; written = refl; out_faults = refl }, inr (inr (inr (inl full))));
+    stands = (record { dialled = refl; written = refl; out_faults = refl }, inl (refl, inr (inr (inr full))));
   }
 
 -- the first run of a call

@@ -76,23 +76,36 @@ AreMadeAgain tell Place workers task (attempt ∷ rest) old new =
 abbrev pub most_runs : ℕ
 most_runs = 2 ^ 32 - 1
 
--- no hand was made to look: nothing is to be looked for, since the run wasn't refused a create whose name is used, or wanted memory;
--- the output failed; it was made again before for what the create makes; there were as many runs before it as there may be; or the
--- plug failed
-abbrev pub StandsUnlooked : {H : Type 0} → List (Attempt H) → Option Refusal → Moment → Moment → Moment
-    → Type 0
-StandsUnlooked earlier refusal before after new =
+-- why no hand is asked for to look: there is nothing to look for, since the run wasn't refused a create whose name is used, or wanted
+-- memory; the output failed; it was made again before for what the create makes; or there were as many runs before it as there may be
+abbrev pub StandsUnasked : {H : Type 0} → List (Attempt H) → Option Refusal → Moment → Moment → Type 0
+StandsUnasked earlier refusal before after =
     (conflict_of refusal ≡ None)
     ⊎ Rose before.out_faults after.out_faults
     ⊎ ((request : Request) × (conflict_of refusal ≡ Some request)
     × (was_repeated_for earlier request ≡ true))
     ⊎ (length earlier ≡ most_runs)
-    ⊎ Rose after.plug_faults new.plug_faults
+
+-- why a hand that is asked for to look isn't made: memory was wanted; or the plug failed, and the refusal of the create stands
+abbrev pub StandsUndialled : Option Refusal → ℕ → ℕ → Type 0
+StandsUndialled refusal faults_old faults_new =
+    (refusal ≡ Some Refusal.Memory)
+    ⊎ (((request : Request) × (conflict_of refusal ≡ Some request)) × Rose faults_old faults_new)
+
+-- the plug was asked for one hand more, which is worker 0's
+abbrev pub AsksOnce : (ℕ → Dial → Type 0) → List Dial → List Dial → Type 0
+AsksOnce Place old new = (dial : Dial) × Place 0 dial × (new ≡ old ++ dial ∷ [])
 
 -- the plug was asked for no hand to look, or for one that it didn't make
-pub record HasNoLooker (Place : ℕ → Dial → Type 0) (old new : Moment) : Type 0 where
-  pub dials : (new.dials ≡ old.dials)
-      ⊎ ((dial : Dial) × Place 0 dial × (new.dials ≡ old.dials ++ dial ∷ []))
+abbrev pub StandsUnlooked : {H : Type 0} → (ℕ → Dial → Type 0) → List (Attempt H) → Option Refusal → Moment
+    → Moment → Moment → Type 0
+StandsUnlooked Place earlier refusal before after new =
+    ((new.dials ≡ after.dials) × StandsUnasked earlier refusal before after)
+    ⊎ (AsksOnce Place after.dials new.dials
+    × StandsUndialled refusal after.plug_faults new.plug_faults)
+
+-- no hand was made to look, and nothing was written
+pub record HasNoLooker (old new : Moment) : Type 0 where
   pub dialled : new.dialled ≡ old.dialled
   pub written : new.written ≡ old.written
   pub out_faults : new.out_faults ≡ old.out_faults
@@ -102,7 +115,7 @@ pub record HasNoLooker (Place : ℕ → Dial → Type 0) (old new : Moment) : Ty
 abbrev pub Stands : {H : Type 0} → (H → Telling) → (ℕ → Dial → Type 0) → Task → List (Attempt H)
     → Option Refusal → Option H → Moment → Moment → Moment → Type 0
 Stands tell Place task earlier refusal None before after new =
-    HasNoLooker Place after new × StandsUnlooked earlier refusal before after new
+    HasNoLooker after new × StandsUnlooked Place earlier refusal before after new
 Stands tell Place task earlier refusal (Some looker) before after new =
     (request : Request) × (end : LookEnd) × IsOneLook tell Place task request end looker after new
     × (end ≡ LookEnd.Came → ⊥)

@@ -1,5 +1,5 @@
 -- What a call of words leaves, in plug and output, beside what it ends with.
-use Rattle.std.specs.Prelude.{◌≡◌, ℕ, List, Option}
+use Rattle.std.specs.Prelude.{◌≡◌, ℕ, List, Option, Some, None}
 use Rattle.asked_project.specs.Asking.{Variables}
 use Rattle.asked_run.specs.Declaring.{ForDeclared}
 use Rattle.compose_cli.specs.Dialling.{IsDialAsked}
@@ -11,6 +11,8 @@ use Rattle.ledger_run.specs.Tellings.{Telling}
 use Rattle.outside_api.specs.declared.dial.Dial.{Dial}
 use Rattle.outside_files.specs.Files.{Contents}
 use Rattle.project_run.specs.Whole.{task_of}
+use Rattle.refusals.specs.Origins.{IsBeforeDial}
+use Rattle.refusals.specs.declared.Refusal.{Refusal}
 use Rattle.repeated_runs.specs.Attempts.{AreAttempts, RanOnce, first_hands}
 use Rattle.repeated_runs.specs.Moments.{Moment}
 use Rattle.repeated_runs.specs.declared.attempt.Attempts.{Attempts}
@@ -24,6 +26,17 @@ pub record AsksNothing {H : Type 0} (attempts : Attempts H) (dials_old dials_new
   pub nothing : SendsNothing attempts.last
   pub dials : dials_new ≡ dials_old
   pub dialled : dialled_new ≡ dialled_old
+
+-- a call is refused before its first dial: by what it asks for or declares, or since memory was wanted
+abbrev pub IsRefusedBeforeDial : Option Refusal → Type 0
+IsRefusedBeforeDial None = ⊥
+IsRefusedBeforeDial (Some refusal) = IsBeforeDial refusal
+
+-- a call that is to run a project made no run: it was refused before its first dial, asked its plug for no hand and wrote nothing
+pub record RunsNothing {H : Type 0} (attempts : Attempts H) (old new : Moment) : Type 0 where
+  pub asks : AsksNothing attempts old.dials new.dials old.dialled new.dialled
+  pub refused : IsRefusedBeforeDial attempts.last.refusal
+  pub written : new.written ≡ old.written
 
 -- the first reading of the clock of hand 0 of a call's first run
 abbrev pub first_reading_of : {H : Type 0} → (H → Telling) → Attempts H → ℕ

@@ -17,7 +17,7 @@ use Rattle.outside_files.specs.Counts.{Rose}
 use Rattle.project_run.specs.Whole.{task_of}
 use Rattle.refusals.specs.Statuses.{status_of}
 use Rattle.refusals.specs.declared.Refusal.{Refusal}
-use Rattle.repeated_runs.specs.Attempts.{AreMadeAgain, IsOneRun, first_hands}
+use Rattle.repeated_runs.specs.Attempts.{AreMadeAgain, AsksOnce, IsOneRun, StandsUndialled, first_hands}
 use Rattle.repeated_runs.specs.Conflicts.{AreApart, conflict_of, was_repeated_for}
 use Rattle.repeated_runs.specs.Moments.{Moment}
 use Rattle.repeated_runs.specs.Onces.{IsLeft, WritesWhole}
@@ -61,12 +61,11 @@ Follows {H} tell Place once before after (Behind.Again left) old new dialled_old
     old new dialled_old dialled_new
 Follows tell Place once before after (Behind.Stands last None) old new dialled_old dialled_new faults_old faults_new =
     (after ≡ before) × ((last ≡ once.ended) ⊎ (last ≡ shortened once.ended))
-    × ((new ≡ old) ⊎ ((dial : Dial) × Place 0 dial × (new ≡ old ++ dial ∷ [])))
     × (dialled_new ≡ dialled_old)
-    × ((conflict_of last.refusal ≡ None) ⊎ (once.whole ≡ false)
+    × (((new ≡ old) × ((conflict_of last.refusal ≡ None) ⊎ (once.whole ≡ false)
     ⊎ ((request : Request) × (conflict_of last.refusal ≡ Some request)
-    × (was_repeated_for before request ≡ true))
-    ⊎ Rose faults_old faults_new)
+    × (was_repeated_for before request ≡ true))))
+    ⊎ (AsksOnce Place old new × StandsUndialled last.refusal faults_old faults_new))
 Follows tell Place once before after (Behind.Stands last (Some looker)) old new dialled_old dialled_new faults_old faults_new =
     (after ≡ before) × (left : Left) × (once.left ≡ Some left)
     × (request : Request) × (conflict_of once.ended.refusal ≡ Some request) × (end : LookEnd)

@@ -15,7 +15,7 @@ ghost use Rattle.refusals.specs.Statuses.{status_of};
 ghost use Rattle.refusals.specs.Went.{ReadsEnd};
 ghost use Rattle.refusals.specs.declared.Refusal.{Refusal};
 ghost use Rattle.repeated_runs.specs.Attempts.{AreAttempts, RanOnce};
-ghost use Rattle.repeated_runs.specs.Calls.{AsksNothing, RunsProject};
+ghost use Rattle.repeated_runs.specs.Calls.{RunsNothing, RunsProject};
 ghost use Rattle.repeated_runs.specs.Followings.{shortened, task_by};
 ghost use Rattle.repeated_runs.specs.Moments.{moment};
 ghost use Rattle.run_laws.specs.Orders.{NeedsDependencies};
@@ -86,8 +86,11 @@ where
     ensures quiet_loading { IsOfLoading result.last.refusal
         → O.written out.new ≡ O.written out.old }
 
-    ensures attempts { AsksNothing result (P.dials plug.old) (P.dials plug.new)
-        (P.dialled plug.old) (P.dialled plug.new)
+    ensures attempts { RunsNothing result
+        (moment (P.dials plug.old) (P.dialled plug.old) (P.faults plug.old)
+        (O.written out.old) (O.faults out.old))
+        (moment (P.dials plug.new) (P.dialled plug.new) (P.faults plug.new)
+        (O.written out.new) (O.faults out.new))
         ⊎ RunsProject (λ h. telling (P.Hand.log h) (P.Hand.heard h) (P.Hand.faults h)
         (P.Hand.clock h) (P.Hand.engine h)) (IsDialFor asked.options env.now cwd.now)
         asked.options.parallel (F.told files.old) asked.options.command asked.project aim result

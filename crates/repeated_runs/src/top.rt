@@ -3,7 +3,7 @@ ghost use Rattle.std.specs.Option.{ForSome};
 ghost use Rattle.asked_project.specs.Asking.{command_of, options_asked};
 ghost use Rattle.asked_project.specs.Meaning.{IsFailedRead, meaning};
 ghost use Rattle.compose_cli.specs.Ends.{IsRefusedWith, SendsNothing, WritesPage, WritesPrefix, failed_digest, failed_output, failed_read};
-ghost use Rattle.compose_cli.specs.Runs.{IfDeclared, IsFailedDigestRead, IsFaultOfReads, IsUndeclared, aim_asked};
+ghost use Rattle.compose_cli.specs.Runs.{IfDeclared, IfRuns, IsFailedDigestRead, IsFaultOfReads, IsUndeclared, aim_asked};
 ghost use Rattle.compose_config.specs.Commands.{IfLoads, IsConfig, IsOfConfig, IsReadFault, OnlyOutsideFails};
 ghost use Rattle.ledger_run.specs.Tellings.{telling};
 ghost use Rattle.outside_files.specs.Counts.{Rose};
@@ -12,7 +12,7 @@ ghost use Rattle.refusals.specs.Saying.{IsSaid, SaysRefusal};
 ghost use Rattle.refusals.specs.Statuses.{status_of};
 ghost use Rattle.refusals.specs.Went.{ReadsEnd};
 ghost use Rattle.repeated_runs.specs.Attempts.{RanOnce};
-ghost use Rattle.repeated_runs.specs.Calls.{AsksNothing, RunsAsked};
+ghost use Rattle.repeated_runs.specs.Calls.{AsksNothing, RunsAsked, RunsNothing};
 ghost use Rattle.repeated_runs.specs.Moments.{moment};
 ghost use Rattle.repeated_runs.specs.Workers.{workers_asked};
 
@@ -116,18 +116,22 @@ where
     // A call that is refused before its run writes nothing to `out`.
     ensures quiet { IsOfLoading result.last.refusal → O.written out.new ≡ O.written out.old }
 
-    // Else the call ran what the words ask for of one project, with a hand for each of its workers, and again where a create was refused
-    // whose name is used and what it makes has come since: of this one task is all that `AreAttempts` says, which dials there were,
-    // what each run ended with, that the reports stand in order, and what the last one left. Without a run no hand is asked for.
-    ensures attempts { AsksNothing result (P.dials plug.old) (P.dials plug.new)
-        (P.dialled plug.old) (P.dialled plug.new)
+    // An `up` or a `down` was refused before its first dial, or there was no memory for it, and wrote nothing. Else it ran what the words
+    // ask for of one project, with a hand for each of its workers, and again where a create was refused whose name is used and what it
+    // makes has come since: of this one task is all that `AreAttempts` says, which dials there were, what each run ended with, that
+    // the reports stand in order, and what the last one left.
+    ensures attempts { IfRuns words.now env.now (λ aim. RunsNothing result
+        (moment (P.dials plug.old) (P.dialled plug.old) (P.faults plug.old)
+        (O.written out.old) (O.faults out.old))
+        (moment (P.dials plug.new) (P.dialled plug.new) (P.faults plug.new)
+        (O.written out.new) (O.faults out.new))
         ⊎ RunsAsked (λ h. telling (P.Hand.log h) (P.Hand.heard h) (P.Hand.faults h)
         (P.Hand.clock h) (P.Hand.engine h)) (workers_asked words.now env.now)
         words.now env.now cwd.now (F.told files.old) result
         (moment (P.dials plug.old) (P.dialled plug.old) (P.faults plug.old)
         (O.written out.old) (O.faults out.old))
         (moment (P.dials plug.new) (P.dialled plug.new) (P.faults plug.new)
-        (O.written out.new) (O.faults out.new)) }
+        (O.written out.new) (O.faults out.new))) }
 {
     match project_asked(alloc, words, env, cwd, files) {
         Ok(asked) => match aim_for(&asked.options.command) {

@@ -9,8 +9,10 @@ use Rattle.compose_config.proofs.Loads.{IfSome-map}
 use Rattle.ledger_run.specs.Tellings.{telling}
 use Rattle.project_run.specs.Whole.{task_of}
 use Rattle.refusals.proofs.AfterReads.{ends_loaded, ends_said}
+use Rattle.refusals.proofs.BeforeDial.{declaring_before_dial}
 use Rattle.refusals.specs.Origins.{IsOfLoading}
 use Rattle.repeated_runs.proofs.Places.{attempts_at}
+use Rattle.repeated_runs.proofs.Refusals.{said_before_dial}
 use Rattle.repeated_runs.specs.Calls.{first_reading_of}
 use Rattle.repeated_runs.specs.Followings.{task_by}
 use Rattle.repeated_runs.specs.Moments.{moment}
@@ -65,7 +67,11 @@ pub returns-in-Err-clause-nothing_sent : goal.returns-in-Err-clause-nothing_sent
 returns-in-Err-clause-nothing_sent g c = λ loading. (c.refused.ensures.nothing, (c.new.ensures, refl))
 
 pub returns-in-Err-clause-attempts : goal.returns-in-Err-clause-attempts
-returns-in-Err-clause-attempts g c = inl (record { once = (c.new.ensures, refl); nothing = c.refused.ensures.nothing; dials = refl; dialled = refl })
+returns-in-Err-clause-attempts g c = inl (record {
+  asks = record { once = (c.new.ensures, refl); nothing = c.refused.ensures.nothing; dials = refl; dialled = refl };
+  refused = said_before_dial c.in-Err.refusal c.refused.result.refusal (declaring_before_dial c.in-Err.refusal c.in-Err.ensures.kind) c.refused.ensures.refusal;
+  written = refl;
+})
 
 pub returns-in-Ok-clause-attempts : goal.returns-in-Ok-clause-attempts
 returns-in-Ok-clause-attempts g c = inr (

@@ -7,21 +7,23 @@ use Rattle.compose_config.proofs.Printed.{asked_prefix, asked_whole, page_comple
 use Rattle.compose_config.specs.Commands.{GrewByPrefix, IsReadFault, page_asked, page_for}
 use Rattle.asked_run.specs.Declaring.{declared_from}
 use Rattle.compose_cli.proofs.Declaring.{asking_undeclared, digest_faults, digest_read, if_declared, if_declared_idle, loads_fault}
-use Rattle.compose_cli.proofs.Ending.{asking_no_digest, beside, no_config, only_reads, refused_with}
+use Rattle.compose_cli.proofs.Ending.{asking_no_digest, beside, if_runs, no_config, only_reads, refused_with}
 use Rattle.compose_cli.proofs.Circles.{spelled_acyclic}
 use Rattle.compose_cli.proofs.Reachable.{reachable}
-use Rattle.compose_cli.proofs.Ran.{asked, aims, said_not_zero, unasked}
+use Rattle.compose_cli.proofs.Ran.{asked, aims, idle, said_not_zero, unasked}
 use Rattle.compose_cli.specs.Ends.{SendsNothing}
 use Rattle.compose_cli.specs.Runs.{IsFaultOfReads, IsUndeclared}
 use Rattle.file_digests.specs.declared.DigestRefusal.{DigestRefusal}
 use Rattle.outside_files.specs.Sinks.{GrewBy}
 use Rattle.refusals.proofs.AfterReads.{ends_after, ends_loaded, ends_said}
+use Rattle.refusals.proofs.BeforeDial.{asking_before_dial}
 use Rattle.refusals.specs.Origins.{IsOfLoading}
 use Rattle.refusals.specs.Saying.{IsSaid}
 use Rattle.refusals.specs.declared.Part.{Part}
 use Rattle.ledger_run.specs.Tellings.{telling}
 use Rattle.repeated_runs.proofs.Workers.{bounded}
 use Rattle.repeated_runs.proofs.Asked.{runs_asked}
+use Rattle.repeated_runs.proofs.Refusals.{said_before_dial}
 use Rattle.repeated_runs.specs.Moments.{moment}
 use Rattle.repeated_runs.proofs.top.compose_main.Goals as goal
 
@@ -181,14 +183,18 @@ pub returns-in-Err-clause-config : goal.returns-in-Err-clause-config
 returns-in-Err-clause-config g c = λ none. record { once = (c.new-in-Err.ensures, refl); nothing = c.refused.ensures.nothing; dials = refl; dialled = refl }
 
 pub returns-in-None-clause-attempts : goal.returns-in-None-clause-attempts
-returns-in-None-clause-attempts g c = inl (record { once = (c.new.ensures, refl); nothing = c.print_page.ensures.nothing; dials = refl; dialled = refl })
+returns-in-None-clause-attempts g c = idle c.args.words.now c.args.env.now _ (unasked c.args.words.now c.args.env.now c.in-Ok.asked.options.command c.aim_for.result (command_is c.args.words.now c.args.env.now c.in-Ok.asked.options c.in-Ok.ensures.options) c.aim_for.ensures c.in-None.is)
 
 pub returns-in-Err-clause-attempts : goal.returns-in-Err-clause-attempts
-returns-in-Err-clause-attempts g c = inl (record { once = (c.new-in-Err.ensures, refl); nothing = c.refused.ensures.nothing; dials = refl; dialled = refl })
+returns-in-Err-clause-attempts g c = if_runs c.args.words.now c.args.env.now _ (inl (record {
+  asks = record { once = (c.new-in-Err.ensures, refl); nothing = c.refused.ensures.nothing; dials = refl; dialled = refl };
+  refused = said_before_dial c.in-Err.refusal c.refused.result.refusal (asking_before_dial c.in-Err.refusal c.in-Err.ensures.kind) c.refused.ensures.refusal;
+  written = refl;
+}))
 
 pub returns-in-Some-clause-attempts : goal.returns-in-Some-clause-attempts
-returns-in-Some-clause-attempts g c = runs_asked (λ h. telling (g.P.Hand.Hand.log h) (g.P.Hand.Hand.heard h) (g.P.Hand.Hand.faults h) (g.P.Hand.Hand.clock h) (g.P.Hand.Hand.engine h)) c.args.words.now c.args.env.now c.args.cwd.now (g.F.Files.told c.args.files.now) (g.F.Files.told c.project_asked.new.files) c.in-Some.aim c.in-Ok.asked c.run_asked.result
+returns-in-Some-clause-attempts g c = if_runs c.args.words.now c.args.env.now _ (runs_asked (λ h. telling (g.P.Hand.Hand.log h) (g.P.Hand.Hand.heard h) (g.P.Hand.Hand.faults h) (g.P.Hand.Hand.clock h) (g.P.Hand.Hand.engine h)) c.args.words.now c.args.env.now c.args.cwd.now (g.F.Files.told c.args.files.now) (g.F.Files.told c.project_asked.new.files) c.in-Some.aim c.in-Ok.asked c.run_asked.result
     (moment (g.P.Plug.dials c.args.plug.now) (g.P.Plug.dialled c.args.plug.now) (g.P.Plug.faults c.args.plug.now) (g.O.Sink.written c.args.out.now) (g.O.Sink.faults c.args.out.now))
     (moment (g.P.Plug.dials c.run_asked.new.plug) (g.P.Plug.dialled c.run_asked.new.plug) (g.P.Plug.faults c.run_asked.new.plug) (g.O.Sink.written c.run_asked.new.out) (g.O.Sink.faults c.run_asked.new.out))
     c.project_asked.ensures.kept c.in-Ok.ensures.options (command_is c.args.words.now c.args.env.now c.in-Ok.asked.options c.in-Ok.ensures.options)
-    (aims c.in-Ok.asked.options.command c.aim_for.result c.in-Some.aim c.aim_for.ensures c.in-Some.is) c.in-Ok.ensures.told c.in-Ok.ensures.text c.run_asked.ensures.attempts
+    (aims c.in-Ok.asked.options.command c.aim_for.result c.in-Some.aim c.aim_for.ensures c.in-Some.is) c.in-Ok.ensures.told c.in-Ok.ensures.text c.run_asked.ensures.attempts)
