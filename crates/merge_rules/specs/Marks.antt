@@ -1,23 +1,32 @@
--- Marks of entries: texts by which those that may be one are found.
-use Rattle.std.specs.Prelude.{◌≡◌, ℕ, ◌+◌, ◌<◌, ◌≤◌, false, List, [], ◌∷◌, ◌++◌, Option, Some, None, unwrap_or, flat_map, slice_get, codes}
+-- Marks of entries: texts by which those that are one are found.
+use Rattle.std.specs.Prelude.{◌≡◌, ℕ, ◌+◌, ◌<◌, ◌≤◌, false, List, [], ◌∷◌, ◌++◌, Option, Some, None, unwrap_or, flat_map, length, slice_get, codes, decimal}
 use Rattle.std.specs.Option.{option_map}
 use Rattle.tree_base.specs.Entries.{value_at}
 use Rattle.tree_base.specs.declared.Tree.{Tree, out-Tree}
+use Rattle.tree_base.specs.declared.Tree.TheOpen.{Tree-F}
 use Rattle.merge_tables.specs.declared.rules.EntryKind.{EntryKind}
 use Rattle.merge_tables.specs.declared.rules.Joining.{Joining}
 use Rattle.merge_tables.specs.declared.rules.Joining.TheVariants.{Unique}
-use Rattle.merge_tables.specs.Parts.{text_in}
 use Rattle.merge_rules.specs.Uniqueness.{are_one, key_in}
 
--- the line of a part of a key: its text, and for a part without one the text that a protocol has where none is given
-abbrev pub line_text : Tree → List ℕ
-line_text part = unwrap_or (text_in (out-Tree part)) (codes "tcp") ++ 10 ∷ []
+-- a text behind its length
+abbrev pub counted : List ℕ → List ℕ
+counted text = decimal (length text) ++ (codes ":" ++ text)
 
--- the lines of a key
+-- a part of a key in a mark: its text behind its length, and by other signs null and what is neither
+abbrev pub part_in : Tree-F Tree → List ℕ
+part_in (Tree-F.Scalar text) = counted text
+part_in Tree-F.Null = codes "~"
+part_in other = codes "?"
+
+abbrev pub part_text : Tree → List ℕ
+part_text part = part_in (out-Tree part)
+
+-- the parts of a key, one behind the other
 abbrev pub mark_text : List Tree → List ℕ
-mark_text key = flat_map line_text key
+mark_text key = flat_map part_text key
 
--- the mark of an item: the lines of what it is known by. Items that are one have the same mark
+-- the mark of an item: the parts of what it is known by. Items that are one have the same mark
 abbrev pub mark_of : EntryKind → Tree → Option (List ℕ)
 mark_of kind item = option_map mark_text (key_in kind (out-Tree item))
 

@@ -113,7 +113,7 @@ fn is_tcp(tree: &Tree) -> bool
 }
 
 /// The protocol that a port names; null is as good as none.
-fn protocol_at(entries: &Map) -> Option<&Tree>
+pub(crate) fn protocol_at(entries: &Map) -> Option<&Tree>
     ensures { protocol_of entries.now ≡
         unwrap_or (option_copied result) (Tree.Scalar (codes "tcp")) }
 {

@@ -1,10 +1,11 @@
-ghost use Rattle.std.specs.Prelude.{◌≡◌, [], ◌∷◌, ◌++◌, IfOk, OnOk, codes, unwrap_or};
-ghost use Rattle.std.specs.Option.{option_copied, option_map};
+ghost use Rattle.std.specs.Prelude.{◌≡◌, [], ◌∷◌, ◌++◌, IfOk, OnOk, codes};
+ghost use Rattle.std.specs.Option.{option_map};
 ghost use Rattle.tree_base.specs.declared.Tree.{Tree};
-ghost use Rattle.merge_rules.specs.Marks.{mark_of, mark_text};
-ghost use Rattle.merge_rules.specs.Uniqueness.{alone, binding, key_by, placed, port_key, seen, text_at};
+ghost use Rattle.merge_rules.specs.Marks.{counted, mark_of, mark_text, part_text};
+ghost use Rattle.merge_rules.specs.Uniqueness.{alone, binding, key_by, placed, port_key, protocol_of, seen, text_at};
+ghost use Rattle.merge_tables.specs.Parts.{field};
 
-use crate::keys::{seen_at, text_at};
+use crate::keys::{protocol_at, seen_at, text_at};
 use merge_tables::EntryKind;
 use std::alloc::Global;
 use tree_base::{Map, Memory, Text, Tree};
@@ -38,20 +39,21 @@ fn port_mark(alloc: Global, entries: &Map) -> Result<Option<Text>, Memory>
     match text_at(entries, "target") {
         None => Ok(None),
         Some(target) => {
-            let mark = port_lines(alloc, target, entries)?;
+            let mark = port_parts(alloc, target, entries)?;
             Ok(Some(mark))
         }
     }
 }
 
-/// The lines of a port: its target, the address of the host, what it is published as, and the protocol.
-fn port_lines(alloc: Global, target: &Text, entries: &Map) -> Result<Text, Memory>
-    ensures { IfOk result (λ mark. mark ≡ mark_text (Tree.Scalar target.now ∷ binding entries.now)) }
+/// The parts of a port: its target, the address of the host, what it is published as, and the protocol.
+fn port_parts(alloc: Global, target: &Text, entries: &Map) -> Result<Text, Memory>
+    ensures { IfOk result (λ mark.
+        mark ≡ mark_text (Tree.Scalar target.now ∷ binding entries.now)) }
 {
-    let mut mark = line_of(alloc, "", target)?;
-    put_line(&mut mark, text_at(entries, "host_ip"))?;
-    put_line(&mut mark, text_at(entries, "published"))?;
-    put_line(&mut mark, text_at(entries, "protocol"))?;
+    let mut mark = counted(alloc, target)?;
+    put_field(alloc, &mut mark, entries, "host_ip")?;
+    put_field(alloc, &mut mark, entries, "published")?;
+    put_protocol(alloc, &mut mark, entries)?;
     Ok(mark)
 }
 
@@ -62,7 +64,7 @@ fn target_mark(alloc: Global, entries: &Map) -> Result<Option<Text>, Memory>
     match text_at(entries, "target") {
         None => Ok(None),
         Some(target) => {
-            let mark = line_of(alloc, "", target)?;
+            let mark = counted(alloc, target)?;
             Ok(Some(mark))
         }
     }
@@ -82,45 +84,69 @@ fn seen_mark(
         None => Ok(None),
         Some(found) => {
             let (below, name) = found;
-            let mark = placed_line(alloc, folder, below, name)?;
+            let mark = placed_part(alloc, folder, below, name)?;
             Ok(Some(mark))
         }
     }
 }
 
-fn placed_line(alloc: Global, folder: &str, below: bool, name: &Text) -> Result<Text, Memory>
-    ensures { IfOk result (λ line. line ≡ placed folder.now below name.now ++ 10 ∷ []) }
+fn placed_part(alloc: Global, folder: &str, below: bool, name: &Text) -> Result<Text, Memory>
+    ensures { IfOk result (λ part. part ≡ counted (placed folder.now below name.now)) }
 {
     if below {
-        line_of(alloc, folder, name)
+        let mut path = Text::from_str(alloc, folder)?;
+        path.push_str(name.as_str())?;
+        counted(alloc, &path)
     } else {
-        line_of(alloc, "", name)
+        counted(alloc, name)
     }
 }
 
-fn line_of(alloc: Global, folder: &str, name: &Text) -> Result<Text, Memory>
-    ensures { IfOk result (λ line. line ≡ (folder.now ++ name.now) ++ 10 ∷ []) }
+/// A text behind its length.
+fn counted(alloc: Global, text: &Text) -> Result<Text, Memory>
+    ensures { IfOk result (λ part. part ≡ counted text.now) }
 {
-    let mut line = Text::from_str(alloc, folder)?;
-    line.push_str(name.as_str())?;
-    line.push_str("\n")?;
-    Ok(line)
+    let length = text.len();
+    let part = format!(in alloc; "{length}:{text}")?;
+    Ok(Text::from_string(part))
 }
 
-/// Puts the line of a part of a key last.
-fn put_line(mark: &mut Text, text: Option<&Text>) -> Result<(), Memory>
-    ensures { OnOk result (mark.new ≡ mark.old
-        ++ (unwrap_or (option_copied text.entry) (codes "tcp") ++ 10 ∷ [])) }
+/// Puts the part of a key last that a field is; null is as good as none.
+fn put_field(alloc: Global, mark: &mut Text, entries: &Map, name: &str) -> Result<(), Memory>
+    ensures { OnOk result (mark.new ≡ mark.old ++ part_text (field entries.now name.now)) }
 {
-    match text {
-        Some(text) => put_text(mark, text.as_str()),
-        None => put_text(mark, "tcp"),
+    match entries.find(name) {
+        Some(tree) => put_tree(alloc, mark, tree),
+        None => mark.push_str("~"),
     }
 }
 
-fn put_text(mark: &mut Text, text: &str) -> Result<(), Memory>
-    ensures { OnOk result (mark.new ≡ mark.old ++ (text.now ++ 10 ∷ [])) }
+/// Puts the part of a key last that the protocol of a port is.
+fn put_protocol(alloc: Global, mark: &mut Text, entries: &Map) -> Result<(), Memory>
+    ensures { OnOk result (mark.new ≡ mark.old ++ part_text (protocol_of entries.now)) }
 {
-    mark.push_str(text)?;
-    mark.push_str("\n")
+    match protocol_at(entries) {
+        Some(tree) => put_tree(alloc, mark, tree),
+        None => {
+            let usual = Text::from_str(alloc, "tcp")?;
+            put_text(alloc, mark, &usual)
+        }
+    }
+}
+
+fn put_tree(alloc: Global, mark: &mut Text, tree: &Tree) -> Result<(), Memory>
+    ensures { OnOk result (mark.new ≡ mark.old ++ part_text tree.now) }
+{
+    match tree {
+        Tree::Scalar(text) => put_text(alloc, mark, text),
+        Tree::Null => mark.push_str("~"),
+        _ => mark.push_str("?"),
+    }
+}
+
+fn put_text(alloc: Global, mark: &mut Text, text: &Text) -> Result<(), Memory>
+    ensures { OnOk result (mark.new ≡ mark.old ++ counted text.now) }
+{
+    let part = counted(alloc, text)?;
+    mark.push_str(part.as_str())
 }
