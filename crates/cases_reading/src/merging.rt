@@ -1,7 +1,7 @@
 use case_files::{Answers, Fields};
 use cases_ground::{path_tree, tree_with_marks};
 use long_forms::long_forms;
-use merge_rules::{overlay, overlay_onto};
+use merge_rules::{overlay, overlay_file};
 use merge_tables::MergeRefusal;
 use std::alloc::Global;
 use tree_base::{Path, Tree};
@@ -22,7 +22,7 @@ fn files_merged(files: &[Tree], alloc: Global) -> Result<Tree, MergeRefusal> {
 
 fn file_merged(file: &Tree, base: Tree, alloc: Global) -> Result<Tree, MergeRefusal> {
     let over = long_forms(alloc, file.copy(alloc)?)?;
-    let merged = overlay_onto(alloc, base, &over);
+    let merged = overlay_file(alloc, base, &over);
     drop(over);
     merged
 }
@@ -66,6 +66,7 @@ fn refuse(refusal: &MergeRefusal, answers: &mut Answers) {
     match refusal {
         MergeRefusal::KindMismatch { path } => refuse_at("KindMismatch", path, answers),
         MergeRefusal::BadUniqueEntry { path } => refuse_at("BadUniqueEntry", path, answers),
+        MergeRefusal::MarkUnderExtends { path } => refuse_at("MarkUnderExtends", path, answers),
         MergeRefusal::TooManyNodes => answers.refuse("TooManyNodes"),
         MergeRefusal::TooMuchText => answers.refuse("TooMuchText"),
         MergeRefusal::Memory => answers.reading.memory(),

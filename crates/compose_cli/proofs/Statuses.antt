@@ -67,6 +67,7 @@ tree_not_zero SubstTreeRefusal.Memory e = absurd (cc e)
 merge_not_zero : (refusal : MergeRefusal) → merge_status refusal ≡ 0 → ⊥
 merge_not_zero (MergeRefusal.KindMismatch path) e = absurd (cc e)
 merge_not_zero (MergeRefusal.BadUniqueEntry path) e = absurd (cc e)
+merge_not_zero (MergeRefusal.MarkUnderExtends path) e = absurd (cc e)
 merge_not_zero MergeRefusal.TooManyNodes e = absurd (cc e)
 merge_not_zero MergeRefusal.TooMuchText e = absurd (cc e)
 merge_not_zero MergeRefusal.Memory e = absurd (cc e)

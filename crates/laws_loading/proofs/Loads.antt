@@ -36,6 +36,7 @@ use Rattle.loaded_files.specs.declared.reads.Seen.TheVariants.{There}
 use Rattle.loading_words.specs.declared.ProjectRefusal.{ProjectRefusal}
 use Rattle.loading_words.specs.declared.TreeRefusal.{TreeRefusal}
 use Rattle.merge_rules.proofs.Unchanged.{files_stand}
+use Rattle.merge_rules.proofs.UnmarkedFiles.{unmarked_files_laid}
 use Rattle.long_forms.specs.LongForms.{long_forms}
 use Rattle.merge_tables.specs.declared.refusal.MergeRefusal.{MergeRefusal}
 use Rattle.laws_loading.proofs.SettledModels.{settled_models}
@@ -106,7 +107,7 @@ module _ (profiles : Profiles) (project : Project) (tree : Tree) (bytes : List �
   alone_there : loaded_from held (after_file tree) ≡ Ok own
   alone_there =
       ap (λ (r : Result Tree MergeRefusal). loaded_from held (after (of_merge path r) counted >>= with_file >>= with_files))
-      (files_stand tree is.unmarked is.keys is.alone ∙ is.bounded)
+      (unmarked_files_laid Null tree is.unmarked ∙ files_stand tree is.unmarked is.keys is.alone ∙ is.bounded)
       ∙ placed_there
 
   tree_there : loaded_from held (after_read (file_tree env path bytes)) ≡ Ok own

@@ -31,7 +31,8 @@ use Rattle.laws_pages.proofs.ReadBack.{project_back}
 use Rattle.laws_pages.specs.PlainTrees.{tree_of_project}
 use Rattle.normal_form.specs.Projects.{filled, name_given}
 use Rattle.outside_files.specs.Files.{Contents}
-use Rattle.laws_pages.proofs.Merging.{is_within, page_alone, page_long}
+use Rattle.laws_pages.proofs.Merging.{is_within, page_alone, page_long, project_clean}
+use Rattle.merge_rules.proofs.UnmarkedFiles.{unmarked_files_laid}
 use Rattle.laws_pages.proofs.Placing.{page_paths, page_shaped}
 use Rattle.laws_pages.proofs.Projects.{page_read, page_valued, value_of_project}
 use Rattle.laws_pages.proofs.Sizes.{no_larger}
@@ -115,7 +116,7 @@ module _ (project : PlainProject) (caller : Variables) (cwd : List ℕ) (held : 
   alone_there : loaded_from held (after_file tree) ≡ Ok own
   alone_there =
       ap (λ (r : Result Tree MergeRefusal). loaded_from held (after (of_merge path r) counted >>= with_file >>= with_files))
-      (page_alone project (few_nodes project is) (short_text project is) is.order)
+      (unmarked_files_laid Null (tree_of_project project) (project_clean project) ∙ page_alone project (few_nodes project is) (short_text project is) is.order)
       ∙ placed_there
 
   tree_there : loaded_from held (after_read (file_tree env path (project_page project))) ≡ Ok own

@@ -91,7 +91,7 @@ services_clean : (services : List PlainService) → list_all (λ is. is) (values
 services_clean [] = refl
 services_clean (service ∷ services) = rw (service_clean service) (services_clean services)
 
-project_clean : (project : PlainProject) → no_mark (tree_of_project project) ≡ true
+pub project_clean : (project : PlainProject) → no_mark (tree_of_project project) ≡ true
 project_clean project = map_clean (elements project) ∙ rw (scalar_clean project.name, map_clean (map entry_of project.services), services_clean project.services) refl
 
 -- a mapping with keys of its own, by its values

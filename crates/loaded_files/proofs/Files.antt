@@ -12,7 +12,7 @@ use Rattle.loaded_files.proofs.Runs.{given_on, given_out, gives_on, gives_out, r
 use Rattle.loaded_files.proofs.Steps.{given_last}
 use Rattle.interpolate.specs.Walking.{substituted_tree}
 use Rattle.long_forms.specs.LongForms.{long_forms}
-use Rattle.merge_rules.specs.Overlay.{over_files}
+use Rattle.merge_rules.specs.UnderExtends.{file_over}
 use Rattle.outside_files.specs.Files.{Contents}
 use Rattle.tree_base.specs.Entries.{value_at}
 use Rattle.tree_base.specs.declared.Step.{Step}
@@ -76,11 +76,11 @@ module _ (told : Option Contents) where
 
   -- a file's tree over what those before it gave
   module _ (path : List ℕ) (base over : Tree) (left : ℕ) where
-    pub over_refused : (e : LoadRefusal) → IsGiven {X = Tree} (Err e) (of_merge path (over_files base over)) → Gives {X = Tree × ℕ} told (Err e) (over_laid path base over left)
-    over_refused e h = given_out told (of_merge path (over_files base over)) (λ tree. give (tree, left)) e h
+    pub over_refused : (e : LoadRefusal) → IsGiven {X = Tree} (Err e) (of_merge path (file_over base over)) → Gives {X = Tree × ℕ} told (Err e) (over_laid path base over left)
+    over_refused e h = given_out told (of_merge path (file_over base over)) (λ tree. give (tree, left)) e h
 
-    pub over_there : (tree : Tree) → IsGiven (Ok tree) (of_merge path (over_files base over)) → Gives told (Ok (tree, left)) (over_laid path base over left)
-    over_there tree h = given_on told (of_merge path (over_files base over)) (λ tree. give (tree, left)) tree (Ok (tree, left)) h (λ n. refl)
+    pub over_there : (tree : Tree) → IsGiven (Ok tree) (of_merge path (file_over base over)) → Gives told (Ok (tree, left)) (over_laid path base over left)
+    over_there tree h = given_on told (of_merge path (file_over base over)) (λ tree. give (tree, left)) tree (Ok (tree, left)) h (λ n. refl)
 
   -- a file read and laid over what those before it gave
   module _ (env : Variables) (path : List ℕ) (found : Option Seen) (base : Tree) (left : ℕ) where

@@ -9,7 +9,7 @@ use Rattle.loaded_files.specs.declared.reads.Seen.{Seen}
 use Rattle.loaded_files.specs.declared.refusal.LoadRefusal.{LoadRefusal}
 use Rattle.loaded_files.specs.declared.refusal.LoadRefusal.TheVariants.{BadShape}
 use Rattle.long_forms.specs.LongForms.{long_forms}
-use Rattle.merge_rules.specs.Overlay.{over_files}
+use Rattle.merge_rules.specs.UnderExtends.{file_over}
 use Rattle.tree_base.specs.Entries.{value_at}
 use Rattle.tree_base.specs.declared.Step.{Step}
 use Rattle.tree_base.specs.declared.Tree.{Tree, out-Tree}
@@ -48,7 +48,7 @@ tree_at env path found left =
 -- a file's tree laid over what the files before it gave
 abbrev pub over_laid : List ℕ → Tree → Tree → ℕ → Load (Tree × ℕ)
 over_laid path base over left =
-    after (of_merge path (over_files base over)) (λ tree. give (tree, left))
+    after (of_merge path (file_over base over)) (λ tree. give (tree, left))
 
 -- a file read and laid over what the files before it gave
 abbrev pub file_laid : Variables → List ℕ → Option Seen → Tree → ℕ → Load (Tree × ℕ)

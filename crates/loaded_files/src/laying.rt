@@ -3,7 +3,7 @@ ghost use Rattle.loaded_files.specs.FileTrees.{file_laid, files_laid, look_or, o
 ghost use Rattle.loaded_files.specs.Reads.{Gives, IsGiven, WentAs};
 ghost use Rattle.loaded_files.specs.Refusing.{of_merge};
 ghost use Rattle.loaded_files.specs.declared.refusal.LoadRefusal.{LoadRefusal};
-ghost use Rattle.merge_rules.specs.Overlay.{over_files};
+ghost use Rattle.merge_rules.specs.UnderExtends.{file_over};
 ghost use Rattle.outside_files.specs.Counts.{Rose};
 ghost use Rattle.outside_files.specs.Files.{Contents};
 ghost use Rattle.tree_base.specs.declared.Tree.{Null};
@@ -12,7 +12,7 @@ use crate::file_tree::file_tree;
 use crate::reads::{Seen, look, taken};
 use crate::refusal::LoadRefusal;
 use file_paths::shape_fault;
-use merge_rules::overlay_onto;
+use merge_rules::overlay_file;
 use merge_tables::MergeRefusal;
 use outside_files::Files;
 use std::alloc::Global;
@@ -133,10 +133,10 @@ fn look_or<F: Files>(
 
 /// A file's tree over what the files before it gave.
 fn laid(alloc: Global, path: &Text, base: Tree, over: &Tree) -> Result<Tree, LoadRefusal>
-    ensures given { IsGiven result (of_merge path.now (over_files base over.now)) }
+    ensures given { IsGiven result (of_merge path.now (file_over base over.now)) }
     ensures fault { (at : List ℕ) → result ≡ Err (LoadRefusal.ReadFault at) → ⊥ }
 {
-    match overlay_onto(alloc, base, over) {
+    match overlay_file(alloc, base, over) {
         Ok(tree) => Ok(tree),
         Err(MergeRefusal::Memory) => Err(LoadRefusal::Memory),
         Err(cause) => Err(LoadRefusal::Merge {

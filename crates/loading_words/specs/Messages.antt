@@ -45,6 +45,7 @@ tree_words SubstTreeRefusal.Memory = codes "memory"
 abbrev pub merge_words : MergeRefusal → List ℕ
 merge_words (MergeRefusal.KindMismatch path) = path_words path ++ codes ": KindMismatch"
 merge_words (MergeRefusal.BadUniqueEntry path) = path_words path ++ codes ": BadUniqueEntry"
+merge_words (MergeRefusal.MarkUnderExtends path) = path_words path ++ codes ": MarkUnderExtends"
 merge_words MergeRefusal.TooManyNodes = codes "TooManyNodes"
 merge_words MergeRefusal.TooMuchText = codes "TooMuchText"
 merge_words MergeRefusal.Memory = codes "memory"

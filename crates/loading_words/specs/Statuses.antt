@@ -28,10 +28,11 @@ tree_status (SubstTreeRefusal.At path cause) = 2
 tree_status SubstTreeRefusal.TooMuchText = 8
 tree_status SubstTreeRefusal.Memory = 9
 
--- trees that don't fit have status 2, a tree past a limit 8, and a want of memory 9
+-- trees that don't fit, or have a mark where none may stand, have status 2, a tree past a limit 8, and a want of memory 9
 abbrev pub merge_status : MergeRefusal → ℕ
 merge_status (MergeRefusal.KindMismatch path) = 2
 merge_status (MergeRefusal.BadUniqueEntry path) = 2
+merge_status (MergeRefusal.MarkUnderExtends path) = 2
 merge_status MergeRefusal.TooManyNodes = 8
 merge_status MergeRefusal.TooMuchText = 8
 merge_status MergeRefusal.Memory = 9

@@ -109,6 +109,7 @@ fn misfit_words(alloc: Global, cause: &MergeRefusal) -> Result<Text, Memory>
     match cause {
         MergeRefusal::KindMismatch { path } => behind_path(alloc, path, ": KindMismatch"),
         MergeRefusal::BadUniqueEntry { path } => behind_path(alloc, path, ": BadUniqueEntry"),
+        MergeRefusal::MarkUnderExtends { path } => behind_path(alloc, path, ": MarkUnderExtends"),
         MergeRefusal::TooManyNodes => Text::from_str(alloc, "TooManyNodes"),
         MergeRefusal::TooMuchText => Text::from_str(alloc, "TooMuchText"),
         MergeRefusal::Memory => Text::from_str(alloc, "memory"),

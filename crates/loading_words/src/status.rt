@@ -46,8 +46,8 @@ pub fn project_status(refusal: &ProjectRefusal) -> u8
     }
 }
 
-/// The exit status where files aren't loaded: 2 where one is missing, isn't read, has a scalar without a value, or
-/// doesn't fit those before it, where the home isn't known, where what they give has another form, where services extend
+/// The exit status where files aren't loaded: 2 where one is missing, isn't read, has a scalar without a value or a mark
+/// beside `extends`, or doesn't fit those before it, where the home isn't known, where what they give has another form, where services extend
 /// one another or one that isn't there, and where files include one another or declare one name twice; 7 for a fault, 8
 /// for a limit, 9 for memory. No memory.
 pub fn load_status(refusal: &LoadRefusal) -> u8
@@ -111,6 +111,7 @@ fn merge_status(refusal: &MergeRefusal) -> u8
     match refusal {
         MergeRefusal::KindMismatch { .. } => 2,
         MergeRefusal::BadUniqueEntry { .. } => 2,
+        MergeRefusal::MarkUnderExtends { .. } => 2,
         MergeRefusal::TooManyNodes => 8,
         MergeRefusal::TooMuchText => 8,
         MergeRefusal::Memory => 9,

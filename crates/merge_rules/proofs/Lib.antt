@@ -8,3 +8,5 @@ pub mod EntryPlaces
 pub mod Sames
 pub mod Unchanged
 pub mod Unmarked
+pub mod AskedSteps
+pub mod UnmarkedFiles

@@ -107,7 +107,7 @@ items_clean (Tree-F.Seq xs) h = each_item xs h
 items_clean Tree-F.Reset h = tt
 items_clean (Tree-F.Override inner) h = tt
 
-value_clean : (es : List (List ℕ × Tree)) (k : List ℕ) → AreClean es → IsClean (or_null (value_at es k))
+pub value_clean : (es : List (List ℕ × Tree)) (k : List ℕ) → AreClean es → IsClean (or_null (value_at es k))
 value_clean [] k h = null_clean
 value_clean (e ∷ es) k h = by (value_clean es k h.1) (bytes_eq k e.0)
   where

@@ -4,3 +4,4 @@ pub mod Overlay
 pub mod Sameness
 pub mod Uniqueness
 pub mod Marks
+pub mod UnderExtends

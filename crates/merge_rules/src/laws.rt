@@ -1,5 +1,6 @@
 ghost use Rattle.merge_rules.specs.Alone.{FilesStand};
 ghost use Rattle.merge_rules.specs.Laws.{NoMarkIsLeft, NullLeaves, TreesStand};
+ghost use Rattle.merge_rules.specs.UnderExtends.{UnmarkedFilesLaid};
 
 /// The law that null, laid over a tree, leaves it. Nothing runs.
 pub fn null_leaves()
@@ -20,4 +21,9 @@ pub fn trees_stand()
 /// the limits. Nothing runs.
 pub fn files_stand()
     ensures { FilesStand }
+{}
+
+/// The law that a file without marks is laid over what the files before it gave, whatever its services extend. Nothing runs.
+pub fn unmarked_files_laid()
+    ensures { UnmarkedFilesLaid }
 {}

@@ -10,6 +10,8 @@ mod laws;
 mod layers;
 mod marks;
 mod places;
+mod under_extends;
 
-pub use laws::{files_stand, no_mark_is_left, null_leaves, trees_stand};
+pub use laws::{files_stand, no_mark_is_left, null_leaves, trees_stand, unmarked_files_laid};
 pub use layers::{overlay, overlay_onto, service_onto};
+pub use under_extends::overlay_file;

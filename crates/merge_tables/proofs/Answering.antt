@@ -4,13 +4,14 @@ use Rattle.std.proofs.lemmas.List.{reverse-append}
 use Rattle.tree_base.specs.Answers.{◌>>=◌}
 use Rattle.tree_base.specs.declared.Step.{Step}
 use Rattle.merge_tables.specs.declared.refusal.MergeRefusal.{MergeRefusal}
-use Rattle.merge_tables.specs.declared.refusal.MergeRefusal.TheVariants.{KindMismatch, BadUniqueEntry, TooManyNodes, TooMuchText, Memory}
+use Rattle.merge_tables.specs.declared.refusal.MergeRefusal.TheVariants.{KindMismatch, BadUniqueEntry, MarkUnderExtends, TooManyNodes, TooMuchText, Memory}
 use Rattle.merge_tables.specs.Answers.{Fails, Gives, outer, turned, under}
 
 -- what fails at first fails as a whole
 pub fails_on : {A B : Type 0} (e : MergeRefusal) (read : Result A MergeRefusal) (f : A → Result B MergeRefusal) → Fails e read → Fails e (read >>= f)
 fails_on {A} {B} (KindMismatch path) read f h = ap (λ (r : Result A MergeRefusal). r >>= f) h
 fails_on {A} {B} (BadUniqueEntry path) read f h = ap (λ (r : Result A MergeRefusal). r >>= f) h
+fails_on {A} {B} (MarkUnderExtends path) read f h = ap (λ (r : Result A MergeRefusal). r >>= f) h
 fails_on {A} {B} TooManyNodes read f h = ap (λ (r : Result A MergeRefusal). r >>= f) h
 fails_on {A} {B} TooMuchText read f h = ap (λ (r : Result A MergeRefusal). r >>= f) h
 fails_on Memory read f h = tt
@@ -22,6 +23,7 @@ goes_on {A} {B} read f a h = ap (λ (r : Result A MergeRefusal). r >>= f) h
 pub same_fails : {A : Type 0} (e : MergeRefusal) (read other : Result A MergeRefusal) → read ≡ other → Fails e read → Fails e other
 same_fails (KindMismatch path) read other s h = sym s ∙ h
 same_fails (BadUniqueEntry path) read other s h = sym s ∙ h
+same_fails (MarkUnderExtends path) read other s h = sym s ∙ h
 same_fails TooManyNodes read other s h = sym s ∙ h
 same_fails TooMuchText read other s h = sym s ∙ h
 same_fails Memory read other s h = tt
@@ -38,6 +40,8 @@ under_fails {A} step (KindMismatch path) read h =
     ap (under step) h ∙ ap (λ (p : List Step). failed A (KindMismatch p)) (sym (reverse_step path step))
 under_fails {A} step (BadUniqueEntry path) read h =
     ap (under step) h ∙ ap (λ (p : List Step). failed A (BadUniqueEntry p)) (sym (reverse_step path step))
+under_fails {A} step (MarkUnderExtends path) read h =
+    ap (under step) h ∙ ap (λ (p : List Step). failed A (MarkUnderExtends p)) (sym (reverse_step path step))
 under_fails step TooManyNodes read h = ap (under step) h
 under_fails step TooMuchText read h = ap (under step) h
 under_fails step Memory read h = tt
@@ -47,6 +51,7 @@ pub gives_same : {A : Type 0} (given answer : Result A MergeRefusal) → answer 
 gives_same (Ok x) answer h = h
 gives_same (Err (KindMismatch path)) answer h = h
 gives_same (Err (BadUniqueEntry path)) answer h = h
+gives_same (Err (MarkUnderExtends path)) answer h = h
 gives_same (Err TooManyNodes) answer h = h
 gives_same (Err TooMuchText) answer h = h
 gives_same (Err Memory) answer h = tt

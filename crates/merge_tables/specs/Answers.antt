@@ -6,12 +6,13 @@ use Rattle.tree_base.specs.Trees.{node_count, text_size}
 use Rattle.tree_base.specs.declared.Tree.{Tree}
 use Rattle.tree_base.specs.declared.Step.{Step}
 use Rattle.merge_tables.specs.declared.refusal.MergeRefusal.{MergeRefusal}
-use Rattle.merge_tables.specs.declared.refusal.MergeRefusal.TheVariants.{KindMismatch, BadUniqueEntry, TooManyNodes, TooMuchText, Memory}
+use Rattle.merge_tables.specs.declared.refusal.MergeRefusal.TheVariants.{KindMismatch, BadUniqueEntry, MarkUnderExtends, TooManyNodes, TooMuchText, Memory}
 
 -- a refusal with one step more in front of its path
 abbrev pub stepped : Step → MergeRefusal → MergeRefusal
 stepped step (KindMismatch path) = KindMismatch (step ∷ path)
 stepped step (BadUniqueEntry path) = BadUniqueEntry (step ∷ path)
+stepped step (MarkUnderExtends path) = MarkUnderExtends (step ∷ path)
 stepped step TooManyNodes = TooManyNodes
 stepped step TooMuchText = TooMuchText
 stepped step Memory = Memory
@@ -36,6 +37,7 @@ wants_memory TooManyNodes = false
 wants_memory TooMuchText = false
 wants_memory (KindMismatch path) = false
 wants_memory (BadUniqueEntry path) = false
+wants_memory (MarkUnderExtends path) = false
 
 -- a call refused, for want of memory or as the answer does
 abbrev pub Fails : {X : Type 0} → MergeRefusal → Result X MergeRefusal → Type 0
@@ -49,6 +51,7 @@ Gives given answer = answers.Gives wants_memory given answer
 abbrev pub outer : Step → MergeRefusal → MergeRefusal
 outer step (KindMismatch path) = KindMismatch (path ++ step ∷ [])
 outer step (BadUniqueEntry path) = BadUniqueEntry (path ++ step ∷ [])
+outer step (MarkUnderExtends path) = MarkUnderExtends (path ++ step ∷ [])
 outer step TooManyNodes = TooManyNodes
 outer step TooMuchText = TooMuchText
 outer step Memory = Memory
@@ -57,6 +60,7 @@ outer step Memory = Memory
 abbrev pub turned : MergeRefusal → MergeRefusal
 turned (KindMismatch path) = KindMismatch (reverse path)
 turned (BadUniqueEntry path) = BadUniqueEntry (reverse path)
+turned (MarkUnderExtends path) = MarkUnderExtends (reverse path)
 turned TooManyNodes = TooManyNodes
 turned TooMuchText = TooMuchText
 turned Memory = Memory

@@ -13,6 +13,8 @@ pub enum MergeRefusal {
     KindMismatch { path: Path },
     /// A text isn't of the form of the entries of its list.
     BadUniqueEntry { path: Path },
+    /// A mark stands in a service that extends another one in the same file.
+    MarkUnderExtends { path: Path },
     /// The tree has more than 200,000 nodes.
     TooManyNodes,
     /// The keys and the scalars have more than 16,777,216 bytes together.
@@ -46,6 +48,9 @@ pub fn with_step(refusal: MergeRefusal, step: Step) -> Result<MergeRefusal, Memo
         MergeRefusal::BadUniqueEntry { path } => Ok(MergeRefusal::BadUniqueEntry {
             path: with_last(path, step)?,
         }),
+        MergeRefusal::MarkUnderExtends { path } => Ok(MergeRefusal::MarkUnderExtends {
+            path: with_last(path, step)?,
+        }),
         MergeRefusal::TooManyNodes => Ok(MergeRefusal::TooManyNodes),
         MergeRefusal::TooMuchText => Ok(MergeRefusal::TooMuchText),
         MergeRefusal::Memory => Ok(MergeRefusal::Memory),
@@ -68,6 +73,9 @@ pub fn from_root(refusal: MergeRefusal) -> MergeRefusal
     match refusal {
         MergeRefusal::KindMismatch { path } => MergeRefusal::KindMismatch { path: turned(path) },
         MergeRefusal::BadUniqueEntry { path } => MergeRefusal::BadUniqueEntry {
+            path: turned(path),
+        },
+        MergeRefusal::MarkUnderExtends { path } => MergeRefusal::MarkUnderExtends {
             path: turned(path),
         },
         MergeRefusal::TooManyNodes => MergeRefusal::TooManyNodes,
