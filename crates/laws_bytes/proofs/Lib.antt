@@ -2,3 +2,4 @@ mod Lookups
 mod Same
 mod Tells
 mod Staying
+mod MoreBytes

@@ -1,3 +1,4 @@
 pub mod Differences
 pub mod BodyLaws
 pub mod CutLaws
+pub mod PartLaws
