@@ -3,3 +3,4 @@ mod Same
 mod Tells
 mod Staying
 mod MoreBytes
+mod StayingBroken

@@ -1,5 +1,5 @@
 -- More bytes stand behind what was read of a response, and change nothing of it.
-use Rattle.std.proofs.Common.{◌≡◌, ℕ, ◌+◌, Bool, true, false, List, ◌++◌, length, Option, Some, None, refl, sym, ap, ◌∙◌, inl, inr, arith, append_assoc, true≢false}
+use Rattle.std.proofs.Common.{◌≡◌, ℕ, ◌+◌, Bool, false, List, ◌++◌, length, Option, Some, None, sym, ap, ◌∙◌, inl, inr, arith, append_assoc, true≢false}
 use Rattle.std.proofs.lemmas.List.{length-append, take-append-le}
 use Rattle.std.specs.Prelude.{IsSomeAnd}
 use Rattle.engine_types.specs.declared.WireEnd.{WireEnd}
@@ -9,7 +9,7 @@ use Rattle.response_rules.specs.Chunks.{BeginsWithTrailer, IsChunked, framing_by
 use Rattle.response_rules.specs.Heads.{Framing, chunked, framing_of, sized, to_end}
 use Rattle.response_rules.specs.Responses.{BeginsWithHead, Breaks, HasBody, HasBodyOf, IsResponse, print_heads}
 
-head_stays : (read rest more : List ℕ) (skipped : List ResponseHead) (head : ResponseHead) → BeginsWithHead read skipped head rest → BeginsWithHead (read ++ more) skipped head (rest ++ more)
+pub head_stays : (read rest more : List ℕ) (skipped : List ResponseHead) (head : ResponseHead) → BeginsWithHead read skipped head rest → BeginsWithHead (read ++ more) skipped head (rest ++ more)
 head_stays read rest more skipped head b = record {
   skips = record {
     each = b.skips.each;

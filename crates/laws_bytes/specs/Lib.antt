@@ -2,3 +2,4 @@ pub mod Differences
 pub mod BodyLaws
 pub mod CutLaws
 pub mod PartLaws
+pub mod BrokenLaws
