@@ -4,3 +4,5 @@ mod Tells
 mod Staying
 mod MoreBytes
 mod StayingBroken
+mod OneWayChunks
+mod OneWay

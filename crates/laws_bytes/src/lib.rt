@@ -2,7 +2,7 @@
 //! and reads. Nothing in this crate runs.
 //!
 //! The body of a request tells the description that it was made of. Bytes that were a whole response, or broken, before the
-//! connection's end stay so whatever follows.
+//! connection's end stay so whatever follows, and no bytes are broken in two ways.
 #![tactic(auto)]
 
 mod bodies;
@@ -12,7 +12,9 @@ mod parts;
 mod responses;
 
 pub use bodies::{bodies_say_exactly, requests_are_whole, tables_say_exactly};
-pub use broken::{broken_stays, faults_stay};
+pub use broken::{
+    broken_gives_no_reply, broken_in_one_way, broken_stays, cuts_break_the_same, faults_stay,
+};
 pub use differences::{
     bodies_tell_connections, bodies_tell_containers, bodies_tell_networks, bodies_tell_volumes,
 };
