@@ -6,3 +6,4 @@ mod MoreBytes
 mod StayingBroken
 mod OneWayChunks
 mod OneWay
+mod Negative

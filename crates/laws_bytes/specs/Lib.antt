@@ -3,3 +3,4 @@ pub mod BodyLaws
 pub mod CutLaws
 pub mod PartLaws
 pub mod BrokenLaws
+pub mod BrokenExamples

@@ -8,6 +8,7 @@
 mod bodies;
 mod broken;
 mod differences;
+mod examples;
 mod parts;
 mod responses;
 
@@ -17,6 +18,9 @@ pub use broken::{
 };
 pub use differences::{
     bodies_tell_connections, bodies_tell_containers, bodies_tell_networks, bodies_tell_volumes,
+};
+pub use examples::{
+    other_chunk_line_is_malformed, other_version_is_malformed, spaced_trailer_is_malformed,
 };
 pub use parts::{chunk_lines_stay, heads_stay, trailers_stay};
 pub use responses::{cuts_read_the_same, responses_stay, whole_stays_unbroken};
