@@ -32,6 +32,7 @@ pub fn put_call(
         "journal",
         journal_lines(answers.reading.alloc, ended.journal.as_slice()),
     );
+    answers.put_number("entries", ended.journal.len() as u64);
     answers.put_number("hands", ended.hands.len() as u64);
     match ended.hands.as_slice().first() {
         Some(hand) => put_hand(fields, scene, hand, answers),

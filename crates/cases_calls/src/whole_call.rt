@@ -15,8 +15,8 @@ use std::alloc::Global;
 use tree_base::List;
 
 /// Makes a whole call on an Engine in memory: `status` has its exit status, `out` and `err` what was written, `journal`
-/// the entries of its journal, `hands` how many hands it made, `exchanges` what they exchanged, `exact` whether the
-/// Engine then holds exactly what the project declares, and `engine_after` that Engine.
+/// its journal, `entries` how many entries this has, `hands` how many hands it made, `exchanges` what they exchanged,
+/// `exact` whether the Engine then holds exactly what the project declares, and `engine_after` that Engine.
 pub fn call(fields: &Fields, answers: &mut Answers) {
     let mut engines = List::new(answers.reading.alloc);
     call_on(fields, &mut engines, answers);

@@ -1,4 +1,6 @@
-use crate::{active, env_files, forms, laws, merging, mounts, pages, ports, variables, words};
+use crate::{
+    active, dependents, env_files, forms, laws, merging, mounts, pages, ports, variables, words,
+};
 use case_files::{Answers, Fields};
 
 /// The inputs of a call beside its main one; None where the call isn't one of the reading side. No memory.
@@ -15,6 +17,7 @@ pub fn inputs_of(call: &str) -> Option<&'static [&'static str]> {
         "overlay" => Some(&["base"]),
         "out_of_memory" | "law" => Some(&[]),
         "active" => Some(&["profiles", "variables"]),
+        "dependents" => Some(&["project"]),
         _ => cases_ground::inputs_of(call),
     }
 }
@@ -32,6 +35,7 @@ pub fn answer(call: &str, fields: &Fields, answers: &mut Answers) {
         "page" => pages::page(fields, answers),
         "page_scalar" => pages::page_scalar(fields, answers),
         "active" => active::active(fields, answers),
+        "dependents" => dependents::needing(fields, answers),
         "law" => laws::law(fields, answers),
         _ => answer_of_form(call, fields, answers),
     }
