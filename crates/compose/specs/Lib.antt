@@ -1,3 +1,4 @@
 pub mod Directories
 pub mod Ends
 pub mod Given
+pub mod Hinting

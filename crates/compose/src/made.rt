@@ -2,6 +2,7 @@ ghost use Rattle.std.specs.Prelude.{◌≡◌, ◌<◌, ◌^◌, length, IfErr};
 ghost use Rattle.asked_project.specs.Asking.{options_asked};
 ghost use Rattle.compose.specs.Ends.{IsStatusOf};
 
+use crate::hinting::{Asked, say_hint_on};
 use compose_cli::Ended;
 use engine_plugs::MainPlug;
 use outside_files::{DiskFiles, OutSink};
@@ -10,8 +11,8 @@ use std::sync::Wait;
 use std::thread::Threads;
 use tree_base::{Env, List, Text};
 
-/// Makes the top call with the disk's files, the standard streams and the plug of the program, and with several workers: its exit
-/// status.
+/// Makes the top call with the disk's files, the standard streams and the plug of the program, and with several workers, and says a
+/// hint behind its line, where there is one: its exit status.
 pub(crate) fn status_of_call<R: Threads + Wait + Sync>(
     host: &HostRuntime,
     rt: &R,
@@ -45,6 +46,12 @@ pub(crate) fn status_of_call<R: Threads + Wait + Sync>(
     // By calls, since all drops would be proved at this place.
     drop(earlier);
     drop(looker);
+    let asked = Asked {
+        words,
+        variables,
+        directory,
+    };
+    say_hint_on(host, asked, &last, &mut err);
     status_in(last)
 }
 
