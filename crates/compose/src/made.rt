@@ -2,7 +2,8 @@ ghost use Rattle.std.specs.Prelude.{◌≡◌, ◌<◌, ◌^◌, length, IfErr};
 ghost use Rattle.asked_project.specs.Asking.{options_asked};
 ghost use Rattle.compose.specs.Ends.{IsStatusOf};
 
-use crate::hinting::{Asked, say_hint_on};
+use crate::hinting::say_hint_on;
+use crate::reaching::Asked;
 use compose_cli::Ended;
 use engine_plugs::MainPlug;
 use outside_files::{DiskFiles, OutSink};

@@ -1,7 +1,9 @@
 ghost use Rattle.std.specs.Prelude.{◌≡◌, IfOk, map};
-ghost use Rattle.hints.specs.Attributes.{attribute_hint, element_names, key_hint, service_names};
+ghost use Rattle.attribute_types.specs.Tables.{seen_line};
+ghost use Rattle.hints.specs.Attributes.{attribute_hint, element_names, item_hint, key_hint, names_of, service_names};
 
 use crate::near::{meant_words, near};
+use attribute_types::{Line, network_lines, volume_lines};
 use std::alloc::Global;
 use tree_base::{Memory, Step, Text};
 
@@ -88,18 +90,52 @@ fn service_names() -> &'static [&'static str]
     &SERVICE
 }
 
-/// The known attribute that may be meant where a path ends with the name of none: of a service, or at the top of a file. Nothing is
-/// said of a name of more than 64 bytes.
+/// The known attribute that may be meant where a path ends with the name of none: of a service, a network or a volume, or at the top
+/// of a file. Nothing is said of a name of more than 64 bytes.
 pub fn attribute_hint(alloc: Global, path: &[Step]) -> Result<Option<Text>, Memory>
     ensures { IfOk result (λ hint. hint ≡ attribute_hint path.now) }
 {
     match path {
         [Step::Key(key)] => key_hint(alloc, key.as_str(), elements()),
-        [Step::Key(section), Step::Key(_), Step::Key(key)] if section.as_str() == "services" => {
-            key_hint(alloc, key.as_str(), service_names())
+        [Step::Key(section), Step::Key(_), Step::Key(key)] => {
+            item_hint(alloc, section.as_str(), key.as_str())
         }
         _ => Ok(None),
     }
+}
+
+/// The same of a key of what stands in a section.
+fn item_hint(alloc: Global, section: &str, key: &str) -> Result<Option<Text>, Memory>
+    ensures { IfOk result (λ hint. hint ≡ item_hint section.now key.now) }
+{
+    if section == "services" {
+        key_hint(alloc, key, service_names())
+    } else if section == "networks" {
+        line_hint(alloc, key, network_lines())
+    } else if section == "volumes" {
+        line_hint(alloc, key, volume_lines())
+    } else {
+        Ok(None)
+    }
+}
+
+/// The same of a key among the names of a table.
+fn line_hint(alloc: Global, key: &str, lines: &[Line]) -> Result<Option<Text>, Memory>
+    ensures { IfOk result (λ hint. hint ≡ key_hint key.now (names_of (map seen_line lines.now))) }
+{
+    let names = names_of(alloc, lines)?;
+    key_hint(alloc, key, names.as_slice())
+}
+
+fn names_of(alloc: Global, lines: &[Line]) -> Result<Vec<&'static str>, Memory>
+    ensures { IfOk result (λ names.
+        map (λ name. name.now) names.items ≡ names_of (map seen_line lines.now)) }
+{
+    let mut names = Vec::new(alloc);
+    for line in lines {
+        names.push(line.name)?;
+    }
+    Ok(names)
 }
 
 /// The same of a key among known names.
