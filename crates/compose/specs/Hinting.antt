@@ -2,7 +2,7 @@
 use Rattle.std.specs.Prelude.{ℕ, Bool, true, false, List, Option, None, slice_get, option_and_then}
 use Rattle.std.specs.Option.{option_map}
 use Rattle.compose.specs.declared.reaching.UnheardSocket.{UnheardSocket}
-use Rattle.compose_words.specs.declared.refusal.WordsRefusal.{WordsRefusal}
+use Rattle.compose_words.specs.declared.WordsRefusal.{WordsRefusal}
 use Rattle.engine_types.specs.declared.Exchange.{Exchange}
 use Rattle.engine_types.specs.declared.Outcome.{Outcome}
 use Rattle.engine_types.specs.declared.Request.{Request}
@@ -11,7 +11,7 @@ use Rattle.hints.specs.Attributes.{attribute_hint}
 use Rattle.hints.specs.Requests.{request_hint}
 use Rattle.hints.specs.Sockets.{socket_hint}
 use Rattle.hints.specs.Words.{word_hint}
-use Rattle.loading_words.specs.declared.refusal.ProjectRefusal.{ProjectRefusal}
+use Rattle.loading_words.specs.declared.ProjectRefusal.{ProjectRefusal}
 use Rattle.refusals.specs.declared.Refusal.{Refusal}
 
 -- nothing of a request of the observation could be sent
