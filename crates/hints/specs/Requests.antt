@@ -1,5 +1,5 @@
 -- What is said of a request that wasn't answered well.
-use Rattle.std.specs.Prelude.{ℕ, Bool, false, not, ◌&&◌, ◌==◌, if◌then◌else◌, List, [], ◌∷◌, ◌++◌, flat_map, Option, None, codes}
+use Rattle.std.specs.Prelude.{ℕ, Bool, false, not, ◌&&◌, ◌==◌, nat_lt, if◌then◌else◌, List, [], ◌++◌, flat_map, length, Option, None, codes}
 use Rattle.std.specs.List.{list_any}
 use Rattle.std.specs.Option.{option_map}
 use Rattle.std.specs.Str.{bytes_eq}
@@ -40,17 +40,16 @@ abbrev pub in_use : Outcome → Bool
 in_use (Outcome.Answered (Reply.Refused status message)) = status == 403
 in_use _ = false
 
--- what is said of a network that wasn't removed, by the names of those that are still on it
-abbrev pub network_words_with : List ℕ → Bool → List ℕ → List ℕ
-network_words_with network used [] = codes "the network is " ++ shown network
-network_words_with network used (byte ∷ names) =
-    if used then codes "still on the network " ++ shown network ++ codes ":" ++ byte ∷ names
+-- what is said of a network that wasn't removed, by whether it is used, and by the names of those that are still on it
+abbrev pub words_with : List ℕ → Bool → List ℕ → List ℕ
+words_with network used names =
+    if used && nat_lt 0 (length names) then codes "still on the network " ++ shown network ++ codes ":" ++ names
     else codes "the network is " ++ shown network
 
 -- what is said of a network that wasn't removed: who is still on it where that is why, else its name
 abbrev pub network_words : List ℕ → Outcome → List Exchange → List ℕ
 network_words network outcome exchanges =
-    network_words_with network (in_use outcome) (names_on network exchanges)
+    words_with network (in_use outcome) (names_on network exchanges)
 
 -- what is said of a network by its id, whose name is known
 abbrev pub network_hint : List ℕ → Outcome → List Exchange → Option (List ℕ)

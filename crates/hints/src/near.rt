@@ -71,7 +71,7 @@ fn begun<'a>(word: &str, known: &[&'a str]) -> Option<&'a str>
 fn is_begun(word: &str, whole: &str) -> bool
     ensures { result ≡ is_begun word.now whole.now }
 {
-    whole.starts_with(word)
+    whole.as_bytes().starts_with(word.as_bytes())
 }
 
 /// Asks whether a known word is meant by another.

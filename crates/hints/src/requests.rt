@@ -1,6 +1,6 @@
 ghost use Rattle.std.specs.Prelude.{◌≡◌, ◌++◌, IfOk, OnOk, flat_map, map};
 ghost use Rattle.run_model.specs.Shown.{shown};
-ghost use Rattle.hints.specs.Requests.{container_hint, in_use, is_on, is_still_on, names_in, names_on, network_hint, network_words, request_hint, spaced_name};
+ghost use Rattle.hints.specs.Requests.{container_hint, in_use, is_on, is_still_on, names_in, names_on, network_hint, network_words, request_hint, spaced_name, words_with};
 
 use crate::told::{container_name, is_gone, network_name, rows_told};
 use engine_types::{Exchange, Listed, Outcome, Reply, Request};
@@ -67,7 +67,14 @@ fn network_words(
         ≡ network_words network.now outcome.now (map (λ exchange. exchange.now) exchanges.now)) }
 {
     let names = names_on(alloc, network, exchanges)?;
-    if !in_use(outcome) || names.is_empty() {
+    words_with(alloc, network, in_use(outcome), names.as_str())
+}
+
+/// The words by whether the network is used, and the names of those that are still on it.
+fn words_with(alloc: Global, network: &Text, used: bool, names: &str) -> Result<Text, Memory>
+    ensures { IfOk result (λ words. words ≡ words_with network.now used names.now) }
+{
+    if !(used && names.len() > 0) {
         return naming(alloc, "the network is ", network);
     }
     let network = shown(alloc, network.as_str())?;
