@@ -1,5 +1,5 @@
 -- What is said of a request that wasn't answered well.
-use Rattle.std.specs.Prelude.{ℕ, Bool, false, not, ◌&&◌, ◌==◌, nat_lt, if◌then◌else◌, List, [], ◌++◌, flat_map, length, Option, None, codes}
+use Rattle.std.specs.Prelude.{ℕ, Bool, false, not, ◌&&◌, ◌==◌, if◌then◌else◌, List, [], ◌++◌, flat_map, length, Option, None, codes}
 use Rattle.std.specs.List.{list_any}
 use Rattle.std.specs.Option.{option_map}
 use Rattle.std.specs.Str.{bytes_eq}
@@ -40,11 +40,16 @@ abbrev pub in_use : Outcome → Bool
 in_use (Outcome.Answered (Reply.Refused status message)) = status == 403
 in_use _ = false
 
--- what is said of a network that wasn't removed, by whether it is used, and by the names of those that are still on it
+-- what is said of a network that is used, by the names of those that are still on it, if any
+abbrev pub used_words : List ℕ → List ℕ → List ℕ
+used_words network names =
+    if length names == 0 then codes "the network is " ++ shown network
+    else codes "still on the network " ++ shown network ++ codes ":" ++ names
+
+-- what is said of a network that wasn't removed, by whether that is since it is used
 abbrev pub words_with : List ℕ → Bool → List ℕ → List ℕ
 words_with network used names =
-    if used && nat_lt 0 (length names) then codes "still on the network " ++ shown network ++ codes ":" ++ names
-    else codes "the network is " ++ shown network
+    if used then used_words network names else codes "the network is " ++ shown network
 
 -- what is said of a network that wasn't removed: who is still on it where that is why, else its name
 abbrev pub network_words : List ℕ → Outcome → List Exchange → List ℕ

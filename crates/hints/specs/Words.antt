@@ -44,14 +44,15 @@ abbrev pub unknown_words : List ℕ → Option (List ℕ) → List ℕ
 unknown_words word (Some known) = meant_words word known
 unknown_words word None = shown word ++ codes " is neither a command nor an option"
 
--- what is said of a word: that it is a second command, an option of another one or a question beside other words, else which known
--- word is near it, else that it is none
+-- what is said of a word: that it is empty, a second command, an option of another one or a question beside other words, else which
+-- known word is near it, else that it is none
 abbrev pub word_words : List ℕ → List ℕ
 word_words word =
-    if is_one_of word command_words then shown word ++ codes " is a second command"
+    if length word == 0 then codes "the word is empty"
+    else (if is_one_of word command_words then shown word ++ codes " is a second command"
     else (if is_option word then shown word ++ codes " isn't an option of this command"
     else (if is_one_of word question_words then shown word ++ codes " has to stand alone"
-    else unknown_words word (known_near (name_in word))))
+    else unknown_words word (known_near (name_in word)))))
 
 -- the hint on a word, which isn't longer than 64 bytes
 abbrev pub word_hint : List ℕ → Option (List ℕ)

@@ -1,6 +1,6 @@
 ghost use Rattle.std.specs.Prelude.{◌≡◌, ◌++◌, IfOk, OnOk, flat_map, map};
 ghost use Rattle.run_model.specs.Shown.{shown};
-ghost use Rattle.hints.specs.Requests.{container_hint, in_use, is_on, is_still_on, names_in, names_on, network_hint, network_words, request_hint, spaced_name, words_with};
+ghost use Rattle.hints.specs.Requests.{container_hint, in_use, is_on, is_still_on, names_in, names_on, network_hint, network_words, request_hint, spaced_name, used_words, words_with};
 
 use crate::told::{container_name, is_gone, network_name, rows_told};
 use engine_types::{Exchange, Listed, Outcome, Reply, Request};
@@ -74,7 +74,17 @@ fn network_words(
 fn words_with(alloc: Global, network: &Text, used: bool, names: &str) -> Result<Text, Memory>
     ensures { IfOk result (λ words. words ≡ words_with network.now used names.now) }
 {
-    if !(used && names.len() > 0) {
+    if used {
+        used_words(alloc, network, names)
+    } else {
+        naming(alloc, "the network is ", network)
+    }
+}
+
+fn used_words(alloc: Global, network: &Text, names: &str) -> Result<Text, Memory>
+    ensures { IfOk result (λ words. words ≡ used_words network.now names.now) }
+{
+    if names.len() == 0 {
         return naming(alloc, "the network is ", network);
     }
     let network = shown(alloc, network.as_str())?;

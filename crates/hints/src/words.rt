@@ -78,9 +78,9 @@ fn questions() -> &'static [&'static str]
     &QUESTIONS
 }
 
-/// What is said of a word of the command line that is refused as unknown: that it is a second command, an option of another one or a
-/// question that stands beside other words, else which known word is near it, else that it is none. Nothing is said of a word of more
-/// than 64 bytes.
+/// What is said of a word of the command line that is refused as unknown: that it is empty, a second command, an option of another one
+/// or a question that stands beside other words, else which known word is near it, else that it is none. Nothing is said of a word of
+/// more than 64 bytes.
 pub fn word_hint(alloc: Global, word: &str) -> Result<Option<Text>, Memory>
     ensures { IfOk result (λ hint. hint ≡ word_hint word.now) }
 {
@@ -94,7 +94,9 @@ pub fn word_hint(alloc: Global, word: &str) -> Result<Option<Text>, Memory>
 fn word_words(alloc: Global, word: &str) -> Result<Text, Memory>
     ensures { IfOk result (λ words. words ≡ word_words word.now) }
 {
-    if is_one_of(word, commands()) {
+    if word.len() == 0 {
+        Text::from_str(alloc, "the word is empty")
+    } else if is_one_of(word, commands()) {
         behind(alloc, word, " is a second command")
     } else if is_option(word) {
         behind(alloc, word, " isn't an option of this command")
