@@ -40,11 +40,15 @@ abbrev pub in_use : Outcome → Bool
 in_use (Outcome.Answered (Reply.Refused status message)) = status == 403
 in_use _ = false
 
+-- what is said of those that are still on a network, by their names
+abbrev pub still_words : List ℕ → List ℕ → List ℕ
+still_words network names = codes "still on the network " ++ shown network ++ codes ":" ++ names
+
 -- what is said of a network that is used, by the names of those that are still on it, if any
 abbrev pub used_words : List ℕ → List ℕ → List ℕ
 used_words network names =
     if length names == 0 then codes "the network is " ++ shown network
-    else codes "still on the network " ++ shown network ++ codes ":" ++ names
+    else still_words network names
 
 -- what is said of a network that wasn't removed, by whether that is since it is used
 abbrev pub words_with : List ℕ → Bool → List ℕ → List ℕ

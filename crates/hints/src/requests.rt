@@ -1,6 +1,6 @@
 ghost use Rattle.std.specs.Prelude.{◌≡◌, ◌++◌, IfOk, OnOk, flat_map, map};
 ghost use Rattle.run_model.specs.Shown.{shown};
-ghost use Rattle.hints.specs.Requests.{container_hint, in_use, is_on, is_still_on, names_in, names_on, network_hint, network_words, request_hint, spaced_name, used_words, words_with};
+ghost use Rattle.hints.specs.Requests.{container_hint, in_use, is_on, is_still_on, names_in, names_on, network_hint, network_words, request_hint, spaced_name, still_words, used_words, words_with};
 
 use crate::told::{container_name, is_gone, network_name, rows_told};
 use engine_types::{Exchange, Listed, Outcome, Reply, Request};
@@ -85,11 +85,21 @@ fn used_words(alloc: Global, network: &Text, names: &str) -> Result<Text, Memory
     ensures { IfOk result (λ words. words ≡ used_words network.now names.now) }
 {
     if names.len() == 0 {
-        return naming(alloc, "the network is ", network);
+        naming(alloc, "the network is ", network)
+    } else {
+        still_words(alloc, network, names)
     }
+}
+
+fn still_words(alloc: Global, network: &Text, names: &str) -> Result<Text, Memory>
+    ensures { IfOk result (λ words. words ≡ still_words network.now names.now) }
+{
     let network = shown(alloc, network.as_str())?;
-    let words = format!(in alloc; "still on the network {network}:{names}")?;
-    Ok(Text::from_string(words))
+    let mut words = Text::from_str(alloc, "still on the network ")?;
+    words.push_str(network.as_str())?;
+    words.push_str(":")?;
+    words.push_str(names)?;
+    Ok(words)
 }
 
 /// Words before a name that an Engine may have sent.
