@@ -21,7 +21,8 @@ pub(crate) fn near<'a>(
     known: &[&'a str],
 ) -> Result<Option<&'a str>, Memory>
     ensures { IfOk result (λ found.
-        option_map (λ whole. whole.now) found ≡ near word.now (map (λ whole. whole.now) known.now)) }
+        option_map (λ whole. whole.now) found
+        ≡ near word.now (map (λ whole. whole.now) known.now)) }
 {
     if let Some(found) = within(alloc, 1, word, known)? {
         return Ok(Some(found));

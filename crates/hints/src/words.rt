@@ -109,7 +109,8 @@ fn word_words(alloc: Global, word: &str) -> Result<Text, Memory>
 
 /// What is said of a word that is neither a command nor an option.
 fn unknown_words(alloc: Global, word: &str) -> Result<Text, Memory>
-    ensures { IfOk result (λ words. words ≡ unknown_words word.now (known_near (name_in word.now))) }
+    ensures { IfOk result (λ words.
+        words ≡ unknown_words word.now (known_near (name_in word.now))) }
 {
     match known_near(alloc, name_in(word))? {
         Some(known) => meant_words(alloc, word, known),
