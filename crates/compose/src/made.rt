@@ -4,6 +4,7 @@ ghost use Rattle.compose.specs.Ends.{IsStatusOf};
 
 use crate::hinting::say_hint_on;
 use crate::reaching::Asked;
+use crate::seconds::wait_seconds;
 use compose_cli::Ended;
 use engine_plugs::MainPlug;
 use outside_files::{DiskFiles, OutSink};
@@ -26,7 +27,9 @@ pub(crate) fn status_of_call<R: Threads + Wait + Sync>(
         IsStatusOf refusal result) }
 {
     let mut files = DiskFiles::new(host.alloc(), host);
-    let mut plug = MainPlug::new(host, rt);
+    // Where memory is wanted for the words, the call itself says so.
+    let seconds = wait_seconds(host.alloc(), words).unwrap_or(None);
+    let mut plug = MainPlug::new(host, rt, seconds);
     let mut out = OutSink::new(host.stdout());
     let mut err = OutSink::new(host.stderr());
     let Attempts {

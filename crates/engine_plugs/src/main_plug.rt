@@ -1,4 +1,4 @@
-ghost use Rattle.std.specs.Prelude.{◌≡◌, ℕ, ◌≤◌, ◌<◌, ◌^◌, List as Items, [], Some, None, IfOk};
+ghost use Rattle.std.specs.Prelude.{◌≡◌, ℕ, ◌≤◌, ◌<◌, ◌^◌, List as Items, [], Some, None, IfOk, is_some};
 ghost use Rattle.std.specs.Option.{ForSome, option_copied};
 ghost use Rattle.engine_plugs.specs.MainHands.{IsFresh, IsSocketHand, no_engine};
 ghost use Rattle.engine_types.specs.declared.Exchange.{Exchange};
@@ -14,18 +14,22 @@ use http_hand::HttpHand;
 use memory_engine::MemoryEngine;
 use outside_api::{Dial, DialAnswer, Hand, Plug, Target, copied_stop_file, note_dial};
 use shared_hand::{SharedEngine, SharedHand};
-use socket_wire::SocketWire;
+use socket_wire::{Patience, SocketWire, milliseconds};
 use std::alloc::Global;
 use std::sync::{Arc, Mutex, Wait};
 use tree_base::{List, Memory, Text};
 
 /// The plug of the program. It tells no Engine, keeps the dials that it was asked for, and counts the hands that it made. No dial
 /// fails: the hand of a socket connects at its exchanges, and all hands in memory share one Engine, which is fresh for the first
-/// of them and settles.
+/// of them and settles. Where the call has a deadline, that is so many seconds after the first dial, and hands over sockets wait for
+/// their Engine no longer than their patience lasts behind it.
 #[derive(Drop)]
 pub struct MainPlug<'r, R> {
     host: &'r HostRuntime,
     rt: &'r R,
+    wait_seconds: Option<u32>,
+    /// The call's deadline in milliseconds of the system's clock, once a hand over a socket was asked for.
+    deadline: Option<u64>,
     /// The Engine in memory, once a hand was made for it.
     memory: Option<Arc<Mutex<SharedEngine>>>,
     dials: List<Dial>,
@@ -33,9 +37,9 @@ pub struct MainPlug<'r, R> {
 }
 
 impl<'r, R: Wait + Sync> MainPlug<'r, R> {
-    /// A plug that made no hand yet. Its hands over sockets are the host's, and those in memory wait for their lock by the other
-    /// handle. No memory.
-    pub fn new(host: &'r HostRuntime, rt: &'r R) -> MainPlug<'r, R>
+    /// A plug that made no hand yet, of a call that has so many seconds. Its hands over sockets are the host's, and those in memory
+    /// wait for their lock by the other handle. No memory.
+    pub fn new(host: &'r HostRuntime, rt: &'r R, wait_seconds: Option<u32>) -> MainPlug<'r, R>
         ensures dials { ⟦<MainPlug<'r, R> as Plug>⟧.dials result ≡ [] }
         ensures dialled { ⟦<MainPlug<'r, R> as Plug>⟧.dialled result ≡ Some 0 }
         ensures faults { ⟦<MainPlug<'r, R> as Plug>⟧.faults result ≡ 0 }
@@ -43,6 +47,8 @@ impl<'r, R: Wait + Sync> MainPlug<'r, R> {
         MainPlug {
             host,
             rt,
+            wait_seconds,
+            deadline: None,
             memory: None,
             dials: List::new(host.alloc()),
             dialled: 0,
@@ -85,11 +91,23 @@ impl<'r, R> MainPlug<'r, R> {
     {
         match target {
             Target::Socket(path) => {
-                let hand = socket_hand(alloc, self.host, path, stop_file)?;
+                let deadline = self.deadline();
+                let hand = socket_hand(alloc, self.host, path, stop_file, deadline)?;
                 Ok(MainHand::Http(hand))
             }
             Target::InMemory => Ok(MainHand::Memory(self.memory_hand(alloc)?)),
         }
+    }
+
+    /// The call's deadline, which the first dial sets. No memory.
+    fn deadline(&mut self) -> Option<u64>
+        ensures dials { self.new.dials ≡ self.old.dials }
+        ensures dialled { self.new.dialled ≡ self.old.dialled }
+    {
+        if self.deadline.is_none() {
+            self.deadline = deadline_from(self.host, self.wait_seconds);
+        }
+        self.deadline
     }
 
     /// A new hand that shares the Engine in memory.
@@ -184,12 +202,22 @@ fn fresh_engine(alloc: Global) -> Result<SharedEngine, Memory>
     Ok(SharedEngine::settling(alloc, MemoryEngine::fresh(alloc)?))
 }
 
+/// The deadline of a call that has so many seconds from now on, in milliseconds of the system's clock. No memory.
+fn deadline_from(rt: &HostRuntime, seconds: Option<u32>) -> Option<u64>
+    ensures { is_some result ≡ is_some seconds }
+{
+    let seconds = seconds?;
+    let now = milliseconds(rt, u64::MAX);
+    Some(now.saturating_add(1_000 * u64::from(seconds)))
+}
+
 /// A new hand over the socket at a path, which doesn't connect yet.
 fn socket_hand<'r>(
     alloc: Global,
     rt: &'r HostRuntime,
     path: &Text,
     stop_file: Option<&Text>,
+    deadline: Option<u64>,
 ) -> Result<HttpHand<SocketWire<'r>>, Memory>
     ensures log { IfOk result (λ hand. ⟦<HttpHand<SocketWire<'r>> as Hand>⟧.log hand ≡ []) }
     ensures clock { IfOk result (λ hand.
@@ -202,5 +230,6 @@ fn socket_hand<'r>(
 {
     let stop_file = copied_stop_file(alloc, stop_file)?;
     let path = path.copy(alloc)?;
-    Ok(HttpHand::new(alloc, SocketWire::new(rt, path, stop_file)))
+    let patience = Arc::new(alloc, Patience::new(deadline, stop_file))?;
+    Ok(HttpHand::new(alloc, SocketWire::new(rt, path, patience)))
 }

@@ -1,2 +1,3 @@
+pub mod Patiences
 pub mod PipesOfSockets
 pub mod WiresOfSockets

@@ -1,9 +1,11 @@
 -- What a wire over a socket counts, and what it is made for.
 use Rattle.std.specs.Prelude.{ℕ, zero, suc, List, Option, None}
+use Rattle.std.specs.Arc.{arc_value}
 use Rattle.outside_files.specs.Counts.{one_more}
 use Rattle.outside_api.specs.Pipes.{Talk}
 use Rattle.outside_api.specs.declared.wire.DialAnswer.{DialAnswer}
 use Rattle.socket_wire.specs.declared.socket_wire.SocketWire.{SocketWire}
+use Rattle.socket_wire.specs.Patiences.{file_of}
 
 -- what is told of what was said on it: nothing
 abbrev pub no_past : Option (List Talk)
@@ -15,7 +17,7 @@ path_of wire = wire.path
 
 -- where the file stands whose coming asks the worker to stop, if anywhere
 abbrev pub stop_file_of : SocketWire → Option (List ℕ)
-stop_file_of wire = wire.stop_file
+stop_file_of wire = file_of (arc_value wire.patience)
 
 -- how many connections it opened
 abbrev pub opened : SocketWire → ℕ

@@ -1,19 +1,22 @@
-ghost use Rattle.std.specs.Prelude.{◌≡◌, ◌≤◌, ◌+◌, ◌<◌, ◌^◌, ◌/◌, None, IfSome, IsFalse, length, min};
-ghost use Rattle.std.specs.Duration.{as_nanos};
+ghost use Rattle.std.specs.Prelude.{◌≡◌, ◌≤◌, ◌+◌, ◌<◌, ◌^◌, None, IfSome, IsFalse, length};
+ghost use Rattle.std.specs.Arc.{arc_value};
 ghost use Rattle.outside_files.specs.Counts.{Rose, one_more};
 ghost use Rattle.outside_api.specs.Clock.{new_clock, after_now, after_pause, after_asked};
 ghost use Rattle.outside_api.specs.Pipes.{silence};
 ghost use Rattle.outside_api.specs.Wires.{Dials, GrewByTalk, RoseBy};
 ghost use Rattle.outside_api.specs.ClockCounts.{counts_of};
+ghost use Rattle.socket_wire.specs.Patiences.{file_of};
 ghost use Rattle.socket_wire.specs.PipesOfSockets.{failed_calls, no_talk};
 
+use crate::patience::Patience;
 use crate::socket_pipe::SocketPipe;
+use crate::times::milliseconds;
 use outside_api::{ClockCounts, DialAnswer, Pipe, Wire};
 use std::alloc::Global;
 use std::os::unix::net::UnixStream;
-use std::rt::{Clock, Files};
+use std::sync::Arc;
+use std::thread;
 use std::time::Duration;
-use std::{fs, thread};
 use tree_base::Text;
 use wires::EvenWire;
 
@@ -21,12 +24,12 @@ use wires::EvenWire;
 /// dial that failed, and each connection with a fault that was closed.
 ///
 /// Its time is that of the system's clock that never goes back. It is asked to stop where a file is found at the path of its
-/// stop file, and never without one.
+/// stop file, and never without one. Its connections last as long as its patience.
 #[derive(Drop)]
 pub struct SocketWire<'r> {
     rt: &'r HostRuntime,
     path: Text,
-    stop_file: Option<Text>,
+    patience: Arc<Patience>,
     dialled: u64,
     failed: u64,
     clock: ClockCounts,
@@ -36,9 +39,9 @@ impl<'r> SocketWire<'r> {
     ghost use Rattle.socket_wire.specs.WiresOfSockets.{failed_dials, opened, path_of, stop_file_of};
 
     /// A wire over the socket at a path, which opened no connection yet. No memory.
-    pub fn new(rt: &'r HostRuntime, path: Text, stop_file: Option<Text>) -> SocketWire<'r>
+    pub fn new(rt: &'r HostRuntime, path: Text, patience: Arc<Patience>) -> SocketWire<'r>
         ensures path { path_of result ≡ path }
-        ensures stop_file { stop_file_of result ≡ stop_file }
+        ensures stop_file { stop_file_of result ≡ file_of (arc_value patience) }
         ensures past { ⟦<SocketWire<'r> as Wire>⟧.past result ≡ None }
         ensures dialled { ⟦<SocketWire<'r> as Wire>⟧.dialled result ≡ 0 }
         ensures faults { ⟦<SocketWire<'r> as Wire>⟧.faults result ≡ 0 }
@@ -47,7 +50,7 @@ impl<'r> SocketWire<'r> {
         SocketWire {
             rt,
             path,
-            stop_file,
+            patience,
             dialled: 0,
             failed: 0,
             clock: ClockCounts::new(),
@@ -66,20 +69,10 @@ impl<'r> SocketWire<'r> {
     {
         self.failed = self.failed.saturating_add(1);
     }
-
-    /// Whether there is a file at the path of the stop file. No memory.
-    fn finds_stop_file(&self) -> bool
-        ensures { stop_file_of self.now ≡ None → IsFalse result }
-    {
-        match &self.stop_file {
-            Some(path) => is_there(self.rt, path.as_str()),
-            None => false,
-        }
-    }
 }
 
 impl<'r> Wire for SocketWire<'r> {
-    type P = SocketPipe;
+    type P = SocketPipe<'r>;
 
     ghost use Rattle.socket_wire.specs.WiresOfSockets.{failed_dials, faults_after_close, faults_after_dial, no_past, opened, path_of, stop_file_of};
     ghost use Rattle.socket_wire.specs.declared.socket_pipe.SocketPipe.{SocketPipe};
@@ -93,7 +86,7 @@ impl<'r> Wire for SocketWire<'r> {
     ghost clock = { λ wire. counts_of wire.clock };
 
     /// Connects to the socket. It counts a fault exactly where that fails. No memory.
-    fn dial(&mut self, _alloc: Global) -> DialAnswer<SocketPipe>
+    fn dial(&mut self, _alloc: Global) -> DialAnswer<SocketPipe<'r>>
         requires { self.old.dialled < 2 ^ 62 }
         ensures counted { failed_dials self.old ≤ failed_dials self.new }
         ensures answer { Dials (failed_dials self.old) (failed_dials self.new) (opened self.old)
@@ -110,7 +103,8 @@ impl<'r> Wire for SocketWire<'r> {
         match UnixStream::connect(self.rt, self.path.as_str()) {
             Ok(stream) => {
                 self.dialled += 1;
-                DialAnswer::Dialled(SocketPipe::new(stream))
+                let patience = Arc::try_clone(&self.patience).ok();
+                DialAnswer::Dialled(SocketPipe::new(self.rt, stream, patience))
             }
             Err(_) => {
                 self.count_fault();
@@ -120,7 +114,7 @@ impl<'r> Wire for SocketWire<'r> {
     }
 
     /// Closes a connection. It counts a fault exactly where the connection has one. No memory.
-    fn close(&mut self, pipe: SocketPipe)
+    fn close(&mut self, pipe: SocketPipe<'r>)
         ensures told { GrewByTalk no_past no_talk no_past }
         ensures counted { failed_dials self.old ≤ failed_dials self.new }
         ensures faulty { RoseBy (failed_calls pipe) (failed_dials self.old)
@@ -139,10 +133,7 @@ impl<'r> Wire for SocketWire<'r> {
 
     /// The milliseconds of the system's clock that never goes back; where that can't be read, its last reading.
     fn now(&mut self) -> u64 {
-        let time = match self.rt.monotonic() {
-            Ok(time) => milliseconds_of(time),
-            Err(_) => self.clock.last,
-        };
+        let time = milliseconds(self.rt, self.clock.last);
         self.clock.read(time);
         time
     }
@@ -164,7 +155,7 @@ impl<'r> Wire for SocketWire<'r> {
         ensures path { path_of self.new ≡ path_of self.old }
         ensures stop_file { stop_file_of self.new ≡ stop_file_of self.old }
     {
-        let answer = self.finds_stop_file();
+        let answer = self.patience.finds_stop_file(self.rt);
         self.clock.look(answer);
         answer
     }
@@ -174,19 +165,4 @@ impl<'r> EvenWire for SocketWire<'r> {
     ghost use Rattle.std.specs.Prelude.{refl};
 
     ghost even = { λ _ _. refl };
-}
-
-/// Whole milliseconds of a time, at most the greatest `u64`. No memory.
-fn milliseconds_of(time: Duration) -> u64
-    ensures { result ≡ min (as_nanos time / 1_000_000) 18446744073709551615 }
-{
-    u64::try_from(time.as_millis()).unwrap_or(u64::MAX)
-}
-
-/// Whether a file is found at a path. No memory.
-fn is_there<R: Files>(rt: &R, path: &str) -> bool {
-    match fs::exists(rt, path) {
-        Ok(there) => there,
-        Err(_) => false,
-    }
 }

@@ -1,12 +1,14 @@
 //! The wire over a Unix socket, with both of its ends in one thread.
 
 use outside_api::{DialAnswer, Pipe, PipeAnswer, SinkAnswer, Wire};
-use socket_wire::{SocketPipe, SocketWire};
+use socket_wire::{Patience, SocketPipe, SocketWire};
+use std::alloc::Global;
 use std::io::{Read, Write};
 use std::os::unix::net::{UnixListener, UnixStream};
+use std::sync::Arc;
 use std::test::Fail;
 use std::{env, fs, process};
-use tree_base::Text;
+use tree_base::{Memory, Text};
 
 /// A path among the temporary files that is this process's own.
 fn own_path(rt: &HostRuntime, name: &str) -> Result<Text, Fail> {
@@ -16,14 +18,24 @@ fn own_path(rt: &HostRuntime, name: &str) -> Result<Text, Fail> {
     Ok(Text::from_str(alloc, path.as_path().as_str())?)
 }
 
+/// The patience of a call with this deadline and this stop file.
+fn patience_with(
+    alloc: Global,
+    deadline: Option<u64>,
+    stop_file: Option<Text>,
+) -> Result<Arc<Patience>, Memory> {
+    Ok(Arc::new(alloc, Patience::new(deadline, stop_file))?)
+}
+
 #[test]
 fn a_wire_over_a_socket_says_what_it_is_told_and_hears_the_end(
     rt: HostRuntime,
 ) -> Result<(), Fail> {
     let alloc = rt.alloc();
     let path = own_path(&rt, "compose-socket")?;
+    let patience = patience_with(alloc, None, None)?;
     let listener = UnixListener::bind(&rt, path.as_str())?;
-    let mut wire = SocketWire::new(&rt, path.copy(alloc)?, None);
+    let mut wire = SocketWire::new(&rt, path.copy(alloc)?, patience);
     let answer = wire.dial(alloc);
     let removed = fs::remove_file(&rt, path.as_str());
     let said = match answer {
@@ -69,7 +81,8 @@ fn speak_with(pipe: &mut SocketPipe, peer: &mut UnixStream) -> Result<bool, Fail
 fn a_wire_over_a_socket_is_asked_to_stop_by_a_file(rt: HostRuntime) -> Result<(), Fail> {
     let alloc = rt.alloc();
     let path = own_path(&rt, "compose-stop")?;
-    let mut wire = SocketWire::new(&rt, Text::new(alloc), Some(path.copy(alloc)?));
+    let patience = patience_with(alloc, None, Some(path.copy(alloc)?))?;
+    let mut wire = SocketWire::new(&rt, Text::new(alloc), patience);
     let asked_before = wire.asked();
     let written = fs::write(&rt, path.as_str(), b"");
     let asked = wire.asked();
@@ -83,10 +96,29 @@ fn a_wire_over_a_socket_is_asked_to_stop_by_a_file(rt: HostRuntime) -> Result<()
 }
 
 #[test]
-fn a_pause_of_a_wire_takes_its_time(rt: HostRuntime) {
-    let mut wire = SocketWire::new(&rt, Text::new(rt.alloc()), None);
+fn a_pause_of_a_wire_takes_its_time(rt: HostRuntime) -> Result<(), Fail> {
+    let patience = patience_with(rt.alloc(), None, None)?;
+    let mut wire = SocketWire::new(&rt, Text::new(rt.alloc()), patience);
     let before = wire.now();
     wire.pause(2);
     let after = wire.now();
     assert!(rt; before < after);
+    Ok(())
+}
+
+#[test]
+fn a_peer_that_says_nothing_is_left_where_patience_is_over(rt: HostRuntime) -> Result<(), Fail> {
+    let (stream, peer) = UnixStream::pair(&rt)?;
+    let patience = patience_with(rt.alloc(), Some(0), None)?;
+    let mut pipe = SocketPipe::new(&rt, stream, Some(patience));
+    let heard = pipe.read(&mut [0u8; 8]);
+    let said = pipe.write(b"ask");
+    drop(pipe);
+    drop(peer);
+    assert!(rt;
+        heard == PipeAnswer::Failed,
+        "a minute after the system began"
+    );
+    assert!(rt; said == SinkAnswer::Took(3), "between two looks");
+    Ok(())
 }
