@@ -66,6 +66,7 @@ FORMS = {
     "out_to": is_text,
     "out_room": is_number,
     "err": is_built,
+    "terminal": is_text,
 }
 EXCHANGE_FORMS = {
     "ask": is_text,
@@ -80,6 +81,7 @@ EXCHANGE_FORMS = {
     "pause": is_number,
     "cut": is_number,
     "close": is_text,
+    "silent": is_text,
 }
 
 

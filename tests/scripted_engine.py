@@ -132,6 +132,11 @@ class ScriptedEngine:
         if "makes" in exchange:
             with open(exchange["makes"], "w", encoding="utf-8"):
                 pass
+        if "silent" in exchange:
+            # Until the program leaves.
+            connection.settimeout(None)
+            connection.recv(1)
+            return
         time.sleep(int(exchange.get("pause") or "0") / 1000)
         response = response_of(exchange)
         connection.sendall(response[: int(exchange["cut"])] if exchange.get("cut") else response)
