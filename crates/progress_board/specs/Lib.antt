@@ -1,0 +1,4 @@
+pub mod Lines
+pub mod Progresses
+pub mod Subjects
+pub mod Words
