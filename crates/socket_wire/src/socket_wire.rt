@@ -117,12 +117,12 @@ impl<'r> Wire for SocketWire<'r> {
     fn close(&mut self, pipe: SocketPipe<'r>)
         ensures told { GrewByTalk no_past no_talk no_past }
         ensures counted { failed_dials self.old ≤ failed_dials self.new }
-        ensures faulty { RoseBy (failed_calls pipe) (failed_dials self.old)
+        ensures faulty { RoseBy (failed_calls pipe.entry) (failed_dials self.old)
             (failed_dials self.new) }
         ensures dialled { opened self.new ≡ opened self.old }
         ensures clock { counts_of self.new.clock ≡ counts_of self.old.clock }
         ensures exact { failed_dials self.new
-            ≡ faults_after_close (failed_calls pipe) (failed_dials self.old) }
+            ≡ faults_after_close (failed_calls pipe.entry) (failed_dials self.old) }
         ensures path { path_of self.new ≡ path_of self.old }
         ensures stop_file { stop_file_of self.new ≡ stop_file_of self.old }
     {
