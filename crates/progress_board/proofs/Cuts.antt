@@ -1,5 +1,5 @@
 -- A text that is laid out with a precision and no width.
-use Rattle.std.proofs.Common.{◌≡◌, ◌-◌, ◌++◌, ℕ, List, append-nil, arith}
+use Rattle.std.proofs.Common.{◌≡◌, ◌-◌, ℕ, List, append-nil, arith}
 use Rattle.std.specs.Fmt.{char_count, format_spec, padded, styled_text, take_chars}
 
 -- nothing is left of a width that isn't there

@@ -4,6 +4,14 @@ use Rattle.engine_types.specs.declared.ContainerState.{ContainerState}
 use Rattle.engine_types.specs.declared.Health.{Health}
 use Rattle.engine_types.specs.declared.Report.{Report}
 use Rattle.engine_types.specs.declared.Request.{Request}
+use Rattle.progress_board.specs.declared.subject.Subject.{Subject}
+
+-- what the outcome of a request tells something of (Docker Engine API v1.43): what was made gets an id, and what was looked at a report
+abbrev pub subject_of : Request → Subject
+subject_of (Request.Create name spec) = Subject.Made name
+subject_of (Request.MakeNetwork spec) = Subject.Made spec.name
+subject_of (Request.Inspect id) = Subject.LookedAt id
+subject_of _ = Subject.Other
 
 -- the id of the container or network that a request speaks of (Docker Engine API v1.43)
 abbrev pub id_in : Request → Option (List ℕ)

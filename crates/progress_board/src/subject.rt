@@ -1,6 +1,6 @@
 ghost use Rattle.std.specs.Prelude.{◌≡◌, IfOk};
 ghost use Rattle.std.specs.Option.{option_copied};
-ghost use Rattle.progress_board.specs.Subjects.{id_in, is_settled};
+ghost use Rattle.progress_board.specs.Subjects.{id_in, is_settled, subject_of};
 
 use engine_types::{ContainerState, Health, Outcome, Reply, Report, Request};
 use std::alloc::Global;
@@ -18,7 +18,9 @@ pub enum Subject {
 }
 
 /// What a board learns from the outcome of a request.
-pub(crate) fn subject_of(alloc: Global, request: &Request) -> Result<Subject, Memory> {
+pub(crate) fn subject_of(alloc: Global, request: &Request) -> Result<Subject, Memory>
+    ensures { IfOk result (λ subject. subject ≡ subject_of request.now) }
+{
     match request {
         Request::Create { name, .. } => Ok(Subject::Made(name.copy(alloc)?)),
         Request::MakeNetwork { spec } => Ok(Subject::Made(spec.name.copy(alloc)?)),
