@@ -4,10 +4,12 @@ ghost use Rattle.compose.specs.Ends.{IsStatusOf};
 
 use crate::hinting::say_hint_on;
 use crate::reaching::Asked;
+use crate::progress::board_of;
 use crate::seconds::wait_seconds;
 use compose_cli::Ended;
 use engine_plugs::MainPlug;
 use outside_files::{DiskFiles, OutSink};
+use progress_board::{ClearedSink, another, clear};
 use repeated_runs::{Attempts, compose_main};
 use std::sync::Wait;
 use std::thread::Threads;
@@ -29,9 +31,12 @@ pub(crate) fn status_of_call<R: Threads + Wait + Sync>(
     let mut files = DiskFiles::new(host.alloc(), host);
     // Where memory is wanted for the words, the call itself says so.
     let seconds = wait_seconds(host.alloc(), words).unwrap_or(None);
-    let mut plug = MainPlug::new(host, rt, seconds);
-    let mut out = OutSink::new(host.stdout());
-    let mut err = OutSink::new(host.stderr());
+    let board = board_of(host, variables);
+    let mut plug = MainPlug::new(host, rt, seconds, another(board.as_ref()));
+    let out = OutSink::new(host.stdout());
+    let mut out = ClearedSink::new(host, rt, another(board.as_ref()), out);
+    let err = OutSink::new(host.stderr());
+    let mut err = ClearedSink::new(host, rt, another(board.as_ref()), err);
     let Attempts {
         earlier,
         last,
@@ -47,6 +52,7 @@ pub(crate) fn status_of_call<R: Threads + Wait + Sync>(
         &mut out,
         &mut err,
     );
+    clear(host, rt, board.as_ref());
     // By calls, since all drops would be proved at this place.
     drop(earlier);
     drop(looker);

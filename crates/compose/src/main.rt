@@ -13,6 +13,7 @@ mod hinting;
 mod made;
 mod process;
 mod reaching;
+mod progress;
 mod seconds;
 
 ghost use Rattle.std.specs.Prelude.{◌<◌, ◌^◌, length};

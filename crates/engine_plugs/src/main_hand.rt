@@ -1,10 +1,9 @@
 ghost use Rattle.std.specs.Prelude.{None};
 
+use crate::socket_hand::SocketHand;
 use engine_types::{Outcome, Request};
-use http_hand::HttpHand;
 use outside_api::Hand;
 use shared_hand::SharedHand;
-use socket_wire::SocketWire;
 use std::alloc::Global;
 use std::sync::Wait;
 
@@ -12,7 +11,7 @@ use std::sync::Wait;
 /// hand is.
 #[derive(Drop)]
 pub enum MainHand<'r, R> {
-    Http(HttpHand<SocketWire<'r>>),
+    Http(SocketHand<'r, R>),
     Memory(SharedHand<'r, R>),
 }
 
@@ -20,24 +19,24 @@ impl<'r, R: Wait + Sync> Hand for MainHand<'r, R> {
     ghost use Rattle.engine_plugs.specs.declared.main_hand.MainHand.TheVariants.{Http, Memory};
 
     ghost log = { elim [
-      | Http hand ↦ ⟦<HttpHand<SocketWire<'r>> as Hand>⟧.log hand
+      | Http hand ↦ ⟦<SocketHand<'r, R> as Hand>⟧.log hand
       | Memory hand ↦ ⟦<SharedHand<'r, R> as Hand>⟧.log hand
     ] };
 
     ghost engine = { λ _. None };
 
     ghost heard = { elim [
-      | Http hand ↦ ⟦<HttpHand<SocketWire<'r>> as Hand>⟧.heard hand
+      | Http hand ↦ ⟦<SocketHand<'r, R> as Hand>⟧.heard hand
       | Memory hand ↦ None
     ] };
 
     ghost faults = { elim [
-      | Http hand ↦ ⟦<HttpHand<SocketWire<'r>> as Hand>⟧.faults hand
+      | Http hand ↦ ⟦<SocketHand<'r, R> as Hand>⟧.faults hand
       | Memory hand ↦ 0
     ] };
 
     ghost clock = { elim [
-      | Http hand ↦ ⟦<HttpHand<SocketWire<'r>> as Hand>⟧.clock hand
+      | Http hand ↦ ⟦<SocketHand<'r, R> as Hand>⟧.clock hand
       | Memory hand ↦ ⟦<SharedHand<'r, R> as Hand>⟧.clock hand
     ] };
 

@@ -10,9 +10,11 @@ ghost use Rattle.shared_hand.specs.SharedHands.{clock_of, log_of};
 ghost use Rattle.socket_wire.specs.WiresOfSockets.{path_of, stop_file_of};
 
 use crate::main_hand::MainHand;
+use crate::socket_hand::SocketHand;
 use http_hand::HttpHand;
 use memory_engine::MemoryEngine;
 use outside_api::{Dial, DialAnswer, Hand, Plug, Target, copied_stop_file, note_dial};
+use progress_board::{SharedBoard, another};
 use shared_hand::{SharedEngine, SharedHand};
 use socket_wire::{Patience, SocketWire, milliseconds};
 use std::alloc::Global;
@@ -30,6 +32,8 @@ pub struct MainPlug<'r, R> {
     wait_seconds: Option<u32>,
     /// The call's deadline in milliseconds of the system's clock, once a hand over a socket was asked for.
     deadline: Option<u64>,
+    /// What its hands over sockets tell of their exchanges.
+    board: Option<SharedBoard>,
     /// The Engine in memory, once a hand was made for it.
     memory: Option<Arc<Mutex<SharedEngine>>>,
     dials: List<Dial>,
@@ -39,7 +43,12 @@ pub struct MainPlug<'r, R> {
 impl<'r, R: Wait + Sync> MainPlug<'r, R> {
     /// A plug that made no hand yet, of a call that has so many seconds. Its hands over sockets are the host's, and those in memory
     /// wait for their lock by the other handle. No memory.
-    pub fn new(host: &'r HostRuntime, rt: &'r R, wait_seconds: Option<u32>) -> MainPlug<'r, R>
+    pub fn new(
+        host: &'r HostRuntime,
+        rt: &'r R,
+        wait_seconds: Option<u32>,
+        board: Option<SharedBoard>,
+    ) -> MainPlug<'r, R>
         ensures dials { ⟦<MainPlug<'r, R> as Plug>⟧.dials result ≡ [] }
         ensures dialled { ⟦<MainPlug<'r, R> as Plug>⟧.dialled result ≡ Some 0 }
         ensures faults { ⟦<MainPlug<'r, R> as Plug>⟧.faults result ≡ 0 }
@@ -49,6 +58,7 @@ impl<'r, R: Wait + Sync> MainPlug<'r, R> {
             rt,
             wait_seconds,
             deadline: None,
+            board,
             memory: None,
             dials: List::new(host.alloc()),
             dialled: 0,
@@ -64,26 +74,27 @@ impl<'r, R> MainPlug<'r, R> {
         alloc: Global,
         target: &Target,
         stop_file: Option<&Text>,
+        number: u32,
     ) -> Result<MainHand<'r, R>, Memory>
         ensures log { IfOk result (λ hand. (elim hand as (λ _. Items Exchange) [
-          | MainHand.Http http ↦ ⟦<HttpHand<SocketWire<'r>> as Hand>⟧.log http
+          | MainHand.Http http ↦ ⟦<HttpHand<SocketWire<'r>> as Hand>⟧.log http.hand
           | MainHand.Memory memory ↦ log_of memory
         ]) ≡ []) }
         ensures heard { IfOk result (λ hand. HeardNothing (elim hand [
-          | MainHand.Http http ↦ ⟦<HttpHand<SocketWire<'r>> as Hand>⟧.heard http
+          | MainHand.Http http ↦ ⟦<HttpHand<SocketWire<'r>> as Hand>⟧.heard http.hand
           | MainHand.Memory memory ↦ None
         ])) }
         ensures clock { IfOk result (λ hand. (elim hand as (λ _. Clock) [
-          | MainHand.Http http ↦ ⟦<HttpHand<SocketWire<'r>> as Hand>⟧.clock http
+          | MainHand.Http http ↦ ⟦<HttpHand<SocketWire<'r>> as Hand>⟧.clock http.hand
           | MainHand.Memory memory ↦ clock_of memory
         ]) ≡ new_clock) }
         ensures faults { IfOk result (λ hand. (elim hand as (λ _. ℕ) [
-          | MainHand.Http http ↦ ⟦<HttpHand<SocketWire<'r>> as Hand>⟧.faults http
+          | MainHand.Http http ↦ ⟦<HttpHand<SocketWire<'r>> as Hand>⟧.faults http.hand
           | MainHand.Memory memory ↦ 0
         ]) ≡ 0) }
         ensures made { IfOk result (λ hand. elim hand [
           | MainHand.Http http ↦ IsSocketHand target.now (option_copied stop_file.entry)
-              (path_of http.wire) (stop_file_of http.wire)
+              (path_of http.hand.wire) (stop_file_of http.hand.wire)
           | MainHand.Memory memory ↦ target.now ≡ Target.InMemory
         ]) }
         ensures dials { self.new.dials ≡ self.old.dials }
@@ -92,7 +103,10 @@ impl<'r, R> MainPlug<'r, R> {
         match target {
             Target::Socket(path) => {
                 let deadline = self.deadline();
-                let hand = socket_hand(alloc, self.host, path, stop_file, deadline)?;
+                let board = another(self.board.as_ref());
+                let hand = socket_hand(alloc, self.host, path, stop_file, deadline, board)?;
+                let board = another(self.board.as_ref());
+                let hand = SocketHand::new(self.host, self.rt, hand, board, number);
                 Ok(MainHand::Http(hand))
             }
             Target::InMemory => Ok(MainHand::Memory(self.memory_hand(alloc)?)),
@@ -176,14 +190,14 @@ impl<'r, R: Wait + Sync> Plug for MainPlug<'r, R> {
         ensures made { (hand : _) → result ≡ DialAnswer.Dialled hand
             → elim hand [
               | MainHand.Http http ↦ IsSocketHand target.now (option_copied stop_file.entry)
-                  (path_of http.wire) (stop_file_of http.wire)
+                  (path_of http.hand.wire) (stop_file_of http.hand.wire)
               | MainHand.Memory memory ↦ target.now ≡ Target.InMemory
             ] }
     {
         let Ok(()) = note_dial(alloc, &mut self.dials, target, stop_file, number) else {
             return DialAnswer::Memory;
         };
-        match self.hand_for(alloc, target, stop_file) {
+        match self.hand_for(alloc, target, stop_file, number) {
             Ok(hand) => {
                 self.dialled += 1;
                 DialAnswer::Dialled(hand)
@@ -218,6 +232,7 @@ fn socket_hand<'r>(
     path: &Text,
     stop_file: Option<&Text>,
     deadline: Option<u64>,
+    board: Option<SharedBoard>,
 ) -> Result<HttpHand<SocketWire<'r>>, Memory>
     ensures log { IfOk result (λ hand. ⟦<HttpHand<SocketWire<'r>> as Hand>⟧.log hand ≡ []) }
     ensures clock { IfOk result (λ hand.
@@ -231,5 +246,5 @@ fn socket_hand<'r>(
     let stop_file = copied_stop_file(alloc, stop_file)?;
     let path = path.copy(alloc)?;
     let patience = Arc::new(alloc, Patience::new(deadline, stop_file))?;
-    Ok(HttpHand::new(alloc, SocketWire::new(rt, path, patience)))
+    Ok(HttpHand::new(alloc, SocketWire::new(rt, path, patience, board)))
 }

@@ -6,16 +6,18 @@ ghost use Rattle.outside_api.specs.Pipes.{IsGotOf, ToldBy, after_read, after_wri
 use crate::patience::Patience;
 use crate::times::milliseconds;
 use outside_api::{Pipe, PipeAnswer, SinkAnswer};
+use progress_board::{SharedBoard, tell_late};
 use std::io::{self, ErrorKind, Read, Write};
 use std::os::unix::net::UnixStream;
 use std::sync::Arc;
 use std::time::Duration;
 
-/// How many milliseconds a call waits for its peer before it looks whether its patience is over.
+/// How many milliseconds a call waits for its peer before it looks whether its patience is over, and tells the board what time it is.
 const BETWEEN_LOOKS: u64 = 200;
 
 /// One connection over a Unix socket. It tells nothing of what is said on it, and counts its faults: each call that failed,
-/// and each write that took nothing of a piece that isn't empty. A call also fails once its patience is over.
+/// and each write that took nothing of a piece that isn't empty. A call also fails once its patience is over. While one lasts, it tells
+/// a board, if there is one, what time it is.
 #[derive(Drop)]
 pub struct SocketPipe<'r> {
     rt: &'r HostRuntime,
@@ -23,6 +25,7 @@ pub struct SocketPipe<'r> {
     failed: u64,
     /// Where there is none, calls wait as long as their peer does.
     patience: Option<Arc<Patience>>,
+    board: Option<SharedBoard>,
     /// When the stop file was first found.
     stopped: Option<u64>,
     /// When it looks next.
@@ -37,6 +40,7 @@ impl<'r> SocketPipe<'r> {
         rt: &'r HostRuntime,
         stream: UnixStream,
         patience: Option<Arc<Patience>>,
+        board: Option<SharedBoard>,
     ) -> SocketPipe<'r>
         ensures talk { ⟦<SocketPipe<'r> as Pipe>⟧.talk result ≡ None }
         ensures faults { ⟦<SocketPipe<'r> as Pipe>⟧.faults result ≡ 0 }
@@ -47,12 +51,13 @@ impl<'r> SocketPipe<'r> {
             stream,
             failed: 0,
             patience,
+            board,
             stopped: None,
             next_look: 0,
         }
     }
 
-    /// Whether its patience lasts. It looks at most five times a second, and between two looks it does. No memory.
+    /// Whether its patience lasts. It looks at most five times a second, and between two looks it does.
     fn is_patient(&mut self) -> bool
         ensures { failed_calls self.new ≡ failed_calls self.old }
     {
@@ -61,6 +66,9 @@ impl<'r> SocketPipe<'r> {
             return true;
         }
         self.next_look = now.saturating_add(BETWEEN_LOOKS);
+        if let Some(board) = &self.board {
+            tell_late(self.rt, board, now);
+        }
         let Some(patience) = &self.patience else {
             return true;
         };

@@ -12,6 +12,7 @@ use crate::patience::Patience;
 use crate::socket_pipe::SocketPipe;
 use crate::times::milliseconds;
 use outside_api::{ClockCounts, DialAnswer, Pipe, Wire};
+use progress_board::{SharedBoard, another};
 use std::alloc::Global;
 use std::os::unix::net::UnixStream;
 use std::sync::Arc;
@@ -24,12 +25,13 @@ use wires::EvenWire;
 /// dial that failed, and each connection with a fault that was closed.
 ///
 /// Its time is that of the system's clock that never goes back. It is asked to stop where a file is found at the path of its
-/// stop file, and never without one. Its connections last as long as its patience.
+/// stop file, and never without one. Its connections last as long as its patience, and tell its board, if it has one, what time it is.
 #[derive(Drop)]
 pub struct SocketWire<'r> {
     rt: &'r HostRuntime,
     path: Text,
     patience: Arc<Patience>,
+    board: Option<SharedBoard>,
     dialled: u64,
     failed: u64,
     clock: ClockCounts,
@@ -39,7 +41,12 @@ impl<'r> SocketWire<'r> {
     ghost use Rattle.socket_wire.specs.WiresOfSockets.{failed_dials, opened, path_of, stop_file_of};
 
     /// A wire over the socket at a path, which opened no connection yet. No memory.
-    pub fn new(rt: &'r HostRuntime, path: Text, patience: Arc<Patience>) -> SocketWire<'r>
+    pub fn new(
+        rt: &'r HostRuntime,
+        path: Text,
+        patience: Arc<Patience>,
+        board: Option<SharedBoard>,
+    ) -> SocketWire<'r>
         ensures path { path_of result ≡ path }
         ensures stop_file { stop_file_of result ≡ file_of (arc_value patience) }
         ensures past { ⟦<SocketWire<'r> as Wire>⟧.past result ≡ None }
@@ -51,6 +58,7 @@ impl<'r> SocketWire<'r> {
             rt,
             path,
             patience,
+            board,
             dialled: 0,
             failed: 0,
             clock: ClockCounts::new(),
@@ -104,7 +112,8 @@ impl<'r> Wire for SocketWire<'r> {
             Ok(stream) => {
                 self.dialled += 1;
                 let patience = Arc::try_clone(&self.patience).ok();
-                DialAnswer::Dialled(SocketPipe::new(self.rt, stream, patience))
+                let board = another(self.board.as_ref());
+                DialAnswer::Dialled(SocketPipe::new(self.rt, stream, patience, board))
             }
             Err(_) => {
                 self.count_fault();

@@ -44,11 +44,15 @@ fn the_hands_of_the_program_speak_with_their_targets(rt: HostRuntime) -> Result<
     let nowhere = Text::from_str(alloc, "/no such folder/engine.sock")?;
     let outcome = outcome_at(
         alloc,
-        &mut MainPlug::new(&rt, &rt, None),
+        &mut MainPlug::new(&rt, &rt, None, None),
         &Target::Socket(nowhere),
     );
     assert_eq!(rt; outcome, "not sent");
-    let outcome = outcome_at(alloc, &mut MainPlug::new(&rt, &rt, None), &Target::InMemory);
+    let outcome = outcome_at(
+        alloc,
+        &mut MainPlug::new(&rt, &rt, None, None),
+        &Target::InMemory,
+    );
     assert_eq!(rt; outcome, "answered");
     Ok(())
 }

@@ -35,7 +35,7 @@ fn a_wire_over_a_socket_says_what_it_is_told_and_hears_the_end(
     let path = own_path(&rt, "compose-socket")?;
     let patience = patience_with(alloc, None, None)?;
     let listener = UnixListener::bind(&rt, path.as_str())?;
-    let mut wire = SocketWire::new(&rt, path.copy(alloc)?, patience);
+    let mut wire = SocketWire::new(&rt, path.copy(alloc)?, patience, None);
     let answer = wire.dial(alloc);
     let removed = fs::remove_file(&rt, path.as_str());
     let said = match answer {
@@ -82,7 +82,7 @@ fn a_wire_over_a_socket_is_asked_to_stop_by_a_file(rt: HostRuntime) -> Result<()
     let alloc = rt.alloc();
     let path = own_path(&rt, "compose-stop")?;
     let patience = patience_with(alloc, None, Some(path.copy(alloc)?))?;
-    let mut wire = SocketWire::new(&rt, Text::new(alloc), patience);
+    let mut wire = SocketWire::new(&rt, Text::new(alloc), patience, None);
     let asked_before = wire.asked();
     let written = fs::write(&rt, path.as_str(), b"");
     let asked = wire.asked();
@@ -98,7 +98,7 @@ fn a_wire_over_a_socket_is_asked_to_stop_by_a_file(rt: HostRuntime) -> Result<()
 #[test]
 fn a_pause_of_a_wire_takes_its_time(rt: HostRuntime) -> Result<(), Fail> {
     let patience = patience_with(rt.alloc(), None, None)?;
-    let mut wire = SocketWire::new(&rt, Text::new(rt.alloc()), patience);
+    let mut wire = SocketWire::new(&rt, Text::new(rt.alloc()), patience, None);
     let before = wire.now();
     wire.pause(2);
     let after = wire.now();
@@ -110,7 +110,7 @@ fn a_pause_of_a_wire_takes_its_time(rt: HostRuntime) -> Result<(), Fail> {
 fn a_peer_that_says_nothing_is_left_where_patience_is_over(rt: HostRuntime) -> Result<(), Fail> {
     let (stream, peer) = UnixStream::pair(&rt)?;
     let patience = patience_with(rt.alloc(), Some(0), None)?;
-    let mut pipe = SocketPipe::new(&rt, stream, Some(patience));
+    let mut pipe = SocketPipe::new(&rt, stream, Some(patience), None);
     let heard = pipe.read(&mut [0u8; 8]);
     let said = pipe.write(b"ask");
     drop(pipe);

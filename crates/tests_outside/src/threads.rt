@@ -106,7 +106,7 @@ fn two_threads_speak_with_one_engine(rt: HostRuntime) -> Result<(), Fail> {
 #[test]
 fn hands_of_the_program_share_their_engine_in_memory(rt: HostRuntime) -> Result<(), Fail> {
     let alloc = rt.alloc();
-    let mut plug = MainPlug::new(&rt, &rt, None);
+    let mut plug = MainPlug::new(&rt, &rt, None, None);
     let one = hand_of(alloc, &mut plug, 0).expect(&rt, "a first hand");
     let two = hand_of(alloc, &mut plug, 1).expect(&rt, "a second hand");
     let (first, second) = thread::join(
