@@ -69,7 +69,7 @@ fn exchanges_of<'a, 'r, R>(
 
 fn log_of<'a, 'r, R>(hand: &'a MainHand<'r, R>) -> &'a [Exchange] {
     match hand {
-        MainHand::Http(hand) => hand.log(),
+        MainHand::Http(hand) => hand.hand.log(),
         MainHand::Memory(hand) => hand.log(),
     }
 }

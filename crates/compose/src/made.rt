@@ -3,8 +3,8 @@ ghost use Rattle.asked_project.specs.Asking.{options_asked};
 ghost use Rattle.compose.specs.Ends.{IsStatusOf};
 
 use crate::hinting::say_hint_on;
-use crate::reaching::Asked;
 use crate::progress::board_of;
+use crate::reaching::Asked;
 use crate::seconds::wait_seconds;
 use compose_cli::Ended;
 use engine_plugs::MainPlug;

@@ -12,8 +12,8 @@ mod given;
 mod hinting;
 mod made;
 mod process;
-mod reaching;
 mod progress;
+mod reaching;
 mod seconds;
 
 ghost use Rattle.std.specs.Prelude.{◌<◌, ◌^◌, length};
