@@ -29,6 +29,7 @@ fn refuse_file(refusal: &EnvRefusal, answers: &mut Answers) {
             words.put(":");
             say_refusal(&mut words, cause);
         }
+        EnvRefusal::TooMuchText { line } => say_at(&mut words, "TooMuchText", *line),
         EnvRefusal::Memory => words.fail(),
     }
     answers.put_line("refused", words);

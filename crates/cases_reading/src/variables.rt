@@ -36,6 +36,7 @@ pub(crate) fn say_refusal(words: &mut Line, refusal: &SubstRefusal) {
             words.put(": ");
             words.put(message.as_str());
         }
+        SubstRefusal::TooMuchText => words.word("TooMuchText"),
         SubstRefusal::Memory => words.fail(),
     }
 }

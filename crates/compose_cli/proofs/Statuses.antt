@@ -57,6 +57,7 @@ env_not_zero : (refusal : EnvRefusal) → env_status refusal ≡ 0 → ⊥
 env_not_zero (EnvRefusal.BadLine line) e = absurd (cc e)
 env_not_zero (EnvRefusal.BadQuote line) e = absurd (cc e)
 env_not_zero (EnvRefusal.Subst line cause) e = absurd (cc e)
+env_not_zero (EnvRefusal.TooMuchText line) e = absurd (cc e)
 env_not_zero EnvRefusal.Memory e = absurd (cc e)
 
 tree_not_zero : (refusal : SubstTreeRefusal) → tree_status refusal ≡ 0 → ⊥

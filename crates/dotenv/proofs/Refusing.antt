@@ -24,6 +24,7 @@ value_fails number env key causes.Memory read h = tt
 value_fails number env key (causes.Unclosed at) read h = ap (with_value number env key) h
 value_fails number env key (causes.BadForm at) read h = ap (with_value number env key) h
 value_fails number env key (causes.RequiredVariable name message) read h = ap (with_value number env key) h
+value_fails number env key causes.TooMuchText read h = ap (with_value number env key) h
 
 -- a line that isn't read
 pub line_fails : (outer env : Entries) (number : ℕ) (e : LineRefusal) (read : Result Line LineRefusal) → LineFails e read → Fails (numbered number e) (on_line number read >>= told outer number env)
@@ -37,6 +38,7 @@ fails_on refusals.Memory read f h = tt
 fails_on (refusals.BadLine line) read f h = ap (λ (r : Result Entries EnvRefusal). r >>= f) h
 fails_on (refusals.BadQuote line) read f h = ap (λ (r : Result Entries EnvRefusal). r >>= f) h
 fails_on (refusals.Subst line cause) read f h = ap (λ (r : Result Entries EnvRefusal). r >>= f) h
+fails_on (refusals.TooMuchText line) read f h = ap (λ (r : Result Entries EnvRefusal). r >>= f) h
 
 pub goes_on : (read : Result Entries EnvRefusal) (f : Entries → Result Entries EnvRefusal) (env : Entries) → read ≡ Ok env → (read >>= f) ≡ f env
 goes_on read f env h = ap (λ (r : Result Entries EnvRefusal). r >>= f) h
@@ -64,6 +66,7 @@ same_fails refusals.Memory read other s h = tt
 same_fails (refusals.BadLine line) read other s h = sym s ∙ h
 same_fails (refusals.BadQuote line) read other s h = sym s ∙ h
 same_fails (refusals.Subst line cause) read other s h = sym s ∙ h
+same_fails (refusals.TooMuchText line) read other s h = sym s ∙ h
 
 pub line_refused : (outer env : Entries) (number : ℕ) (bytes cs : List ℕ) (e : LineRefusal) → IsUtf8 bytes → cs ≡ chars bytes → LineFails e (line_of cs) → Fails (numbered number e) (with_line outer number env bytes)
 line_refused outer env number bytes cs e u same h =

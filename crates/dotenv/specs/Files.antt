@@ -43,12 +43,13 @@ abbrev pub with_outer : Entries → List ℕ → Option (List ℕ) → Entries
 with_outer env key None = env
 with_outer env key (Some value) = with_entry env key value
 
--- why a value isn't substituted, with its line's number
+-- why a value isn't substituted, with its line's number: one past the limit is refused by a name of its own
 abbrev pub unsubstituted : ℕ → SubstRefusal → EnvRefusal
 unsubstituted number causes.Memory = refusals.Memory
 unsubstituted number (causes.Unclosed at) = refusals.Subst number (causes.Unclosed at)
 unsubstituted number (causes.BadForm at) = refusals.Subst number (causes.BadForm at)
 unsubstituted number (causes.RequiredVariable name message) = refusals.Subst number (causes.RequiredVariable name message)
+unsubstituted number causes.TooMuchText = refusals.TooMuchText number
 
 -- a variable with a value that is substituted
 abbrev pub with_value : ℕ → Entries → List ℕ → Result (List ℕ) SubstRefusal → Result Entries EnvRefusal
@@ -82,6 +83,7 @@ wants_memory refusals.Memory = true
 wants_memory (refusals.BadLine line) = false
 wants_memory (refusals.BadQuote line) = false
 wants_memory (refusals.Subst line cause) = false
+wants_memory (refusals.TooMuchText line) = false
 
 -- a call refused, for want of memory or as the answer does
 abbrev pub Fails : {X : Type 0} → EnvRefusal → Result X EnvRefusal → Type 0

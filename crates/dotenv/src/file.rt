@@ -21,7 +21,8 @@ use tree_base::{Env, Memory, Text, TryCopy};
 /// tab and is trimmed; both are substituted. They see the outer variables first, and then those of the lines before.
 ///
 /// The refusal is that of the first line that is refused: BadQuote for quotes that aren't closed on their line or have
-/// more than a comment behind them, Subst for a value without a substitution, BadLine for anything else.
+/// more than a comment behind them, Subst for a value without a substitution, TooMuchText for one that has more than
+/// 16,777,216 bytes once it is substituted, BadLine for anything else.
 pub fn read_env(alloc: Global, bytes: &[u8], outer: &Env) -> Result<Env, EnvRefusal>
     ensures { Gives result (env_file outer.now bytes.now) }
 {
@@ -204,6 +205,7 @@ fn unsubstituted(number: u32, cause: SubstRefusal) -> EnvRefusal
             line: number,
             cause: SubstRefusal::RequiredVariable { name, message },
         },
+        SubstRefusal::TooMuchText => EnvRefusal::TooMuchText { line: number },
     }
 }
 

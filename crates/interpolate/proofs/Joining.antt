@@ -1,5 +1,5 @@
 -- The value of a text, from the value of its first part and that of the rest.
-use Rattle.std.proofs.Common.{◌≡◌, ◌≢◌, ◌∙◌, ℕ, ◌+◌, ◌-◌, ◌<◌, ◌≤◌, Bool, false, List, [], ◌∷◌, ◌++◌, append-nil, append_assoc, length, take, drop, Result, Ok, Err, IsOk, refl, sym, ap, subst}
+use Rattle.std.proofs.Common.{◌≡◌, ◌≢◌, ◌∙◌, ℕ, ◌+◌, ◌-◌, ◌<◌, ◌≤◌, Bool, false, List, [], ◌∷◌, ◌++◌, length, take, drop, Option, Result, Ok, Err, IsOk, refl, sym, ap, subst}
 use Rattle.tree_base.specs.Answers.{◌>>=◌}
 use Rattle.interpolate.specs.declared.part.Action.{Action}
 use Rattle.interpolate.specs.declared.refusal.SubstRefusal.{SubstRefusal}
@@ -8,8 +8,9 @@ use Rattle.interpolate.specs.Shapes.{Part, Literal, Dollar, Name, Value, Form, U
 use Rattle.interpolate.specs.Lengths.{inside_len}
 use Rattle.interpolate.specs.Heads.{inner}
 use Rattle.interpolate.specs.Parts.{Parts, Reader, Braced, before, with_part, cut, tails, parts}
-use Rattle.interpolate.specs.Substitution.{Variables, value, counted, form_value, part_value, text_value, first_value, appended, Fails}
+use Rattle.interpolate.specs.Substitution.{Variables, value, counted, form_value, part_value, text_value, first_value, put_on, appended, Fails}
 use Rattle.interpolate.proofs.Cutting.{parts_first, tails_below}
+use Rattle.interpolate.proofs.Filling.{put_more, put_nothing}
 
 abbrev pub Value_ : Type 0
 Value_ = Result (List ℕ) SubstRefusal
@@ -19,20 +20,20 @@ abbrev followed : Value_ → Value_ → Value_
 followed first rest = first >>= λ v. rest >>= λ more. Ok (v ++ more)
 
 -- what fails at first fails as a whole
-fails_whole : (e : SubstRefusal) (out : List ℕ) (first rest : Value_) → Fails e (appended out first) → Fails e (appended out (followed first rest))
+fails_whole : (e : SubstRefusal) (out : Option (List ℕ)) (first rest : Value_) → Fails e (appended out first) → Fails e (appended out (followed first rest))
 fails_whole e out (Err d) rest h = h
 fails_whole refusals.Memory out (Ok v) rest h = tt
 fails_whole (refusals.Unclosed at) out (Ok v) rest h = absurd cc
 fails_whole (refusals.BadForm at) out (Ok v) rest h = absurd cc
 fails_whole (refusals.RequiredVariable name message) out (Ok v) rest h = absurd cc
+fails_whole refusals.TooMuchText out (Ok v) rest h = absurd cc
 
-goes_on : (out new : List ℕ) (first rest : Value_) → appended out first ≡ Ok new → appended new rest ≡ appended out (followed first rest)
+goes_on : (out new : Option (List ℕ)) (first rest : Value_) → appended out first ≡ Ok new → appended new rest ≡ appended out (followed first rest)
 goes_on out new (Err d) rest h = absurd cc
 goes_on out new (Ok v) (Err d) h = refl
 goes_on out new (Ok v) (Ok more) h =
-    let same : out ++ v ≡ new = cc in
-    let joined : new ++ more ≡ out ++ (v ++ more) = ap (λ (l : List ℕ). l ++ more) (sym same) ∙ append_assoc out v more in
-    ap Ok joined
+    let same : put_on out v ≡ new = cc in
+    ap Ok (ap (λ (l : Option (List ℕ)). put_on l more) (sym same) ∙ put_more out v more)
 
 form_then : (env : Variables) (read rest : Result Parts SubstRefusal) (name : List ℕ) (colon : Bool) (action : Action) → IsOk (read >>= λ inner. before (Braced name colon action inner) rest)
     → ((read >>= λ inner. before (Braced name colon action inner) rest) >>= value env) ≡ followed (form_value name action (counted colon (env name)) (read >>= value env)) (rest >>= value env)
@@ -101,12 +102,12 @@ form_value_below levels env at text rest nm name colon action start part is left
     ∙ ap (λ (l : List ℕ). form_value nm action (counted colon (env nm)) (text_value (parts (levels - 1)) env (at + start) (inner l))) (sym same)
 
 -- where nothing is left, nothing more is put
-pub join_done : (levels : ℕ) (env : Variables) (at : ℕ) (left out : List ℕ) → left ≡ [] → appended out (text_value (parts levels) env at left) ≡ Ok out
-join_done levels env at [] out e = ap Ok (append-nil out)
+pub join_done : (levels : ℕ) (env : Variables) (at : ℕ) (left : List ℕ) (out : Option (List ℕ)) → left ≡ [] → appended out (text_value (parts levels) env at left) ≡ Ok out
+join_done levels env at [] out e = ap Ok (put_nothing out)
 join_done levels env at (c ∷ cs) out e = absurd cc
 
 -- what fails at the first part fails for the text
-pub join_fails : (levels : ℕ) (env : Variables) (at : ℕ) (text out : List ℕ) (e : SubstRefusal) → text ≢ [] → IsOk (parts levels at text) → Fails e (appended out (first_value levels env at text))
+pub join_fails : (levels : ℕ) (env : Variables) (at : ℕ) (text : List ℕ) (out : Option (List ℕ)) (e : SubstRefusal) → text ≢ [] → IsOk (parts levels at text) → Fails e (appended out (first_value levels env at text))
     → Fails e (appended out (text_value (parts levels) env at text))
 join_fails levels env at [] out e ne fine h = absurd (ne refl)
 join_fails levels env at (c ∷ cs) out e ne fine h =
@@ -123,7 +124,7 @@ module _ (levels : ℕ) (env : Variables) (at : ℕ) (text : List ℕ) (n : ℕ)
   pub join_fine : IsOk (parts levels (at + n) (drop n text))
   join_fine = rest_fine (tails levels) at text (first_part levels text) (parts levels (at + n) (drop n text)) whole
 
-  pub join_more : (out new : List ℕ) → appended out (first_value levels env at text) ≡ Ok new → appended new (text_value (parts levels) env (at + n) (drop n text)) ≡ appended out (text_value (parts levels) env at text)
+  pub join_more : (out new : Option (List ℕ)) → appended out (first_value levels env at text) ≡ Ok new → appended new (text_value (parts levels) env (at + n) (drop n text)) ≡ appended out (text_value (parts levels) env at text)
   join_more out new h =
       goes_on out new (first_value levels env at text) (text_value (parts levels) env (at + n) (drop n text)) h
       ∙ ap (appended out) (sym (part_then env (tails levels) at text (first_part levels text) (parts levels (at + n) (drop n text)) whole))

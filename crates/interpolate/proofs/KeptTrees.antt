@@ -1,16 +1,19 @@
 -- Steps of asking whether a tree keeps its scalars.
-use Rattle.std.proofs.Common.{◌≡◌, ◌∙◌, ℕ, zero, suc, ◌+◌, ◌≤◌, List, [], ◌∷◌, ◌++◌, map, drop, take, add-one, length, slice_get, IfSome, None, Some, Option, Result, Ok, refl, ap, sym, subst, arith, rules}
+use Rattle.std.proofs.Common.{◌≡◌, ◌∙◌, ℕ, zero, suc, ◌+◌, ◌≤◌, Bool, true, false, leb, List, [], ◌∷◌, ◌++◌, map, drop, take, add-one, length, slice_get, IfSome, None, Some, Option, Result, Ok, Err, refl, ap, sym, arith, rules}
+use Rattle.std.proofs.lemmas.Bool.{leb-true}
 use Rattle.std.specs.List.{zip}
 use Rattle.std.specs.Map.{keys_of, values_of}
 use Rattle.tree_base.specs.Answers.{◌>>=◌}
+use Rattle.tree_base.specs.Limits.{most_text}
 use Rattle.tree_base.specs.declared.Tree.{Tree, Map, Override, Scalar, Seq, the_lemmas}
 use Rattle.tree_base.specs.declared.Step.TheVariants.{Index, Key}
-use Rattle.interpolate.specs.declared.refusal.SubstTreeRefusal.{SubstTreeRefusal}
+use Rattle.interpolate.specs.declared.refusal.SubstTreeRefusal.TheVariants.{TooMuchText}
 use Rattle.interpolate.specs.declared.refusal.SubstRefusal.{SubstRefusal}
 use Rattle.interpolate.specs.Laws.{HasNoDollar}
 use Rattle.interpolate.specs.Parts.{place}
 use Rattle.interpolate.specs.Substitution.{Variables, substituted}
-use Rattle.interpolate.specs.Walking.{Stays, Walk, entries_walk, entry_walk, items_walk, scalar_walk, tree_walk, under, with_bytes}
+use Rattle.interpolate.specs.Walking.{Stays, entries_walk, entry_walk, items_walk, scalar_walk, tree_walk, under, with_bytes}
+use Rattle.interpolate.proofs.Filling.{valued_gives}
 use Rattle.interpolate.proofs.Plain.{plain_value}
 use Rattle.interpolate.proofs.Walks.{entries_go, entry_next, goes_on, item_next, items_go, map_done, no_entry}
 
@@ -41,11 +44,19 @@ module _ {X : Type 0} where
   zip_back [] = refl
   zip_back (e ∷ es) = ap (λ (l : List (List ℕ × X)). e ∷ l) (zip_back es)
 
+-- what there is room for is within the limit
+room_for : (size more all : ℕ) → with_bytes size more ≡ Ok all → more ≤ most_text
+room_for size more all h = by (leb (size + more) most_text) refl
+  where
+    by : (b : Bool) → leb (size + more) most_text ≡ b → more ≤ most_text
+    by true e = let k = leb-true (size + more) most_text e in omega (arith, k)
+    by false e = let none : with_bytes size more ≡ Err TooMuchText = rw e refl in absurd (cc (sym none ∙ h))
+
 -- a text without `$` is its value, which counts
 pub text_kept : (env : Variables) (text : List ℕ) (size more : ℕ) → HasNoDollar text → with_bytes size (length text) ≡ Ok more → scalar_walk (substituted env text) size ≡ Ok (Scalar text, more)
 unfolding substituted
 text_kept env text size more h fits =
-    ap (λ (read : Result (List ℕ) SubstRefusal). scalar_walk read size) (plain_value 32 env 0 text h)
+    ap (λ (read : Result (List ℕ) SubstRefusal). scalar_walk read size) (valued_gives 32 env text text (plain_value 32 env 0 text h) (room_for size (length text) more fits))
     ∙ goes_on (with_bytes size (length text)) (λ (size : ℕ). Ok (Scalar text, size)) more fits
 
 -- one item more that keeps its scalars

@@ -1,4 +1,5 @@
 pub mod Cutting
+pub mod Filling
 pub mod Fitting
 pub mod Inside
 pub mod Joining

@@ -47,6 +47,7 @@ root_fails refusals.Memory read f h = tt
 root_fails (refusals.Unclosed at) read f h = ap (λ (r : Result (List ℕ) SubstRefusal). here r >>= f) h
 root_fails (refusals.BadForm at) read f h = ap (λ (r : Result (List ℕ) SubstRefusal). here r >>= f) h
 root_fails (refusals.RequiredVariable name message) read f h = ap (λ (r : Result (List ℕ) SubstRefusal). here r >>= f) h
+root_fails refusals.TooMuchText read f h = ap (λ (r : Result (List ℕ) SubstRefusal). here r >>= f) h
 
 module _ (f : Tree → Walk) where
   next_item : (items : List Tree) (i : ℕ) (item : Tree) → slice_get items i ≡ Some item → drop i (map f items) ≡ f item ∷ drop (suc i) (map f items)

@@ -27,6 +27,7 @@ with_bytes size more = if nat_le (size + more) most_text then Ok (size + more) e
 -- the refusal of a tree, by that of the scalar that it is
 abbrev pub root_refusal : SubstRefusal → SubstTreeRefusal
 root_refusal refusals.Memory = Memory
+root_refusal refusals.TooMuchText = TooMuchText
 root_refusal (refusals.Unclosed at) = At [] (refusals.Unclosed at)
 root_refusal (refusals.BadForm at) = At [] (refusals.BadForm at)
 root_refusal (refusals.RequiredVariable name message) = At [] (refusals.RequiredVariable name message)

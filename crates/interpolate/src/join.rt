@@ -1,4 +1,4 @@
-ghost use Rattle.std.specs.Prelude.{◌≡◌, ◌≢◌, [], ◌++◌, ◌<◌, ◌+◌, ◌^◌, length, false, unwrap_or, OnOk, OnErr, IfOk, IsOk};
+ghost use Rattle.std.specs.Prelude.{◌≡◌, ◌≢◌, [], ◌<◌, ◌+◌, ◌^◌, length, false, unwrap_or, OnOk, IfOk, IsOk};
 ghost use Rattle.std.specs.Option.{option_copied};
 ghost use Rattle.std.specs.Str.{IsCharBoundary};
 ghost use Rattle.tree_base.specs.Entries.{value_at};
@@ -6,7 +6,7 @@ ghost use Rattle.interpolate.specs.Heads.{IsClosed, inner, own};
 ghost use Rattle.interpolate.specs.Lengths.{inside_len};
 ghost use Rattle.interpolate.specs.Shapes.{first_part, part_len};
 ghost use Rattle.interpolate.specs.Parts.{parts, tails};
-ghost use Rattle.interpolate.specs.Substitution.{counted, form_value, text_value, part_value, appended, result_and, Gives};
+ghost use Rattle.interpolate.specs.Substitution.{counted, form_value, missing, text_value, part_value, put_on, appended, result_and, Gives};
 
 use crate::check::place;
 use crate::part::{Action, Head, first_head, tail_start};
@@ -14,7 +14,33 @@ use crate::piece::{front, piece, rest_from};
 use crate::refusal::SubstRefusal;
 use crate::scan::{ends, inside_len};
 use std::alloc::Global;
+use tree_base::limits::MOST_TEXT;
 use tree_base::{Env, Memory, Text};
+
+/// Puts bytes last where there is room for them within the limit; where there is none, nothing is kept.
+fn put(out: &mut Option<Text>, more: &str) -> Result<(), Memory>
+    ensures { OnOk result (out.new ≡ put_on out.old more.now) }
+{
+    if let Some(text) = out {
+        let room = (MOST_TEXT as usize).saturating_sub(text.len());
+        if more.len() <= room {
+            text.push_str(more)?;
+        } else {
+            *out = None;
+        }
+    }
+    Ok(())
+}
+
+/// The refusal of a required variable that is missing, with its message where that is within the limit.
+fn missing(name: Text, message: Option<Text>) -> SubstRefusal
+    ensures { result ≡ missing name message }
+{
+    match message {
+        Some(message) => SubstRefusal::RequiredVariable { name, message },
+        None => SubstRefusal::TooMuchText,
+    }
+}
 
 /// The value of a variable, where it counts as set.
 fn counted<'a>(env: &'a Env, name: &Text, colon: bool) -> Option<&'a Text>
@@ -29,22 +55,24 @@ fn counted<'a>(env: &'a Env, name: &Text, colon: bool) -> Option<&'a Text>
 }
 
 /// Puts the value of a variable last, where it is set.
-fn push_value(alloc: Global, out: &mut Text, name: &str, env: &Env) -> Result<(), Memory>
-    ensures { OnOk result (out.new ≡ out.old ++ unwrap_or (value_at env.now name.now) []) }
+#[tactic(auto, using(crate::proofs::Filling::put_nothing))]
+fn push_value(alloc: Global, out: &mut Option<Text>, name: &str, env: &Env) -> Result<(), Memory>
+    ensures { OnOk result (out.new
+        ≡ put_on out.old (unwrap_or (value_at env.now name.now) [])) }
 {
     let name = Text::from_str(alloc, name)?;
     match env.value(&name) {
-        Some(value) => out.push_str(value.as_str()),
+        Some(value) => put(out, value.as_str()),
         None => Ok(()),
     }
 }
 
-/// Puts the value of a well-formed text last. A text that stands in a form ends at the form's `}`: the result is how
-/// long it is.
+/// Puts the value of a well-formed text last; past the limit nothing is kept, and the text is still gone through. A text
+/// that stands in a form ends at the form's `}`: the result is how long it is.
 #[cycle(join)]
 pub fn join(
     alloc: Global,
-    out: &mut Text,
+    out: &mut Option<Text>,
     text: &str,
     at: usize,
     levels: u32,
@@ -74,7 +102,7 @@ pub fn join(
 #[cycle(join)]
 fn join_part(
     alloc: Global,
-    out: &mut Text,
+    out: &mut Option<Text>,
     text: &str,
     at: usize,
     levels: u32,
@@ -93,11 +121,11 @@ fn join_part(
 {
     match first_head(text, levels, inside) {
         Head::Literal { len } => {
-            out.push_str(front(text, len))?;
+            put(out, front(text, len))?;
             Ok(len)
         }
         Head::Dollar => {
-            out.push_str("$")?;
+            put(out, "$")?;
             Ok(2)
         }
         Head::Name { len } => {
@@ -137,9 +165,10 @@ fn join_part(
 /// Puts what a form gives last, and gives the length of its tail, from whose first byte the text is passed. A tail
 /// that isn't taken is passed over.
 #[cycle(join)]
+#[tactic(auto, using(crate::proofs::Filling::put_nothing))]
 fn join_form(
     alloc: Global,
-    out: &mut Text,
+    out: &mut Option<Text>,
     name: &Text,
     colon: bool,
     action: Action,
@@ -159,11 +188,11 @@ fn join_form(
     match counted(env, name, colon) {
         Some(value) => match action {
             Action::Default => {
-                out.push_str(value.as_str())?;
+                put(out, value.as_str())?;
                 Ok(inside_len(text.as_bytes()))
             }
             Action::Require => {
-                out.push_str(value.as_str())?;
+                put(out, value.as_str())?;
                 Ok(inside_len(text.as_bytes()))
             }
             Action::Replace => join(alloc, out, text, at, levels, true, env),
@@ -171,10 +200,9 @@ fn join_form(
         None => match action {
             Action::Default => join(alloc, out, text, at, levels, true, env),
             Action::Require => {
-                let mut message = Text::new(alloc);
+                let mut message = Some(Text::new(alloc));
                 join(alloc, &mut message, text, at, levels, true, env)?;
-                let name = name.copy(alloc)?;
-                Err(SubstRefusal::RequiredVariable { name, message })
+                Err(missing(name.copy(alloc)?, message))
             }
             Action::Replace => Ok(inside_len(text.as_bytes())),
         },

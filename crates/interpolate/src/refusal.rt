@@ -13,6 +13,8 @@ pub enum SubstRefusal {
     BadForm { at: u32 },
     /// A variable that a form requires is unset, or empty where the form counts that as unset.
     RequiredVariable { name: Text, message: Text },
+    /// The value, or the message of such a form, has more than 16,777,216 bytes.
+    TooMuchText,
     Memory,
 }
 

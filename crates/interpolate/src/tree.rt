@@ -73,6 +73,7 @@ fn at_root(alloc: Global, cause: SubstRefusal) -> SubstTreeRefusal
 {
     match cause {
         SubstRefusal::Memory => SubstTreeRefusal::Memory,
+        SubstRefusal::TooMuchText => SubstTreeRefusal::TooMuchText,
         SubstRefusal::Unclosed { at } => SubstTreeRefusal::At {
             path: List::new(alloc),
             cause: SubstRefusal::Unclosed { at },

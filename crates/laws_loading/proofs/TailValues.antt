@@ -8,7 +8,7 @@ use Rattle.interpolate.specs.declared.refusal.SubstRefusal.{SubstRefusal}
 use Rattle.interpolate.specs.Lengths.{name_len, inside_len}
 use Rattle.interpolate.specs.Shapes.{Part, Form, operator_part, form_part, braced_part, first_part, part_len, tail_start}
 use Rattle.interpolate.specs.Parts.{Parts, End, Braced, before, with_part, tails, parts}
-use Rattle.interpolate.specs.Substitution.{Variables, value, counted, form_value, substituted_within}
+use Rattle.interpolate.specs.Substitution.{Variables, value, counted, form_value, limited, substituted_within, valued_within, within_limit}
 use Rattle.interpolate.proofs.Cutting.{parts_first}
 use Rattle.interpolate.proofs.Joining.{Value_}
 use Rattle.laws_loading.specs.Defaults.{IsName, NestsBraces, IsTail, operator, with_default}
@@ -122,18 +122,24 @@ module _ (colon : Bool) (name tail : List ℕ) (is : IsName name) (nests : Nests
       ∙ ap (λ (l : List ℕ). tails 32 (0 + start) l >>= λ inner. before (Braced (take (length name) body) colon Default inner) (Ok End)) tail_is
       ∙ ap (λ (l : List ℕ). tails 32 (0 + start) tail >>= λ inner. before (Braced l colon Default inner) (Ok End)) name_is
 
-moved : (env : Variables) (there : ℕ) (tail : List ℕ) (read : Result Parts SubstRefusal) → parts 31 0 tail ≡ read → IsOk read → (tails 32 there tail >>= value env) ≡ substituted_within 32 env tail
+moved : (env : Variables) (there : ℕ) (tail : List ℕ) (read : Result Parts SubstRefusal) → parts 31 0 tail ≡ read → IsOk read → (tails 32 there tail >>= value env) ≡ valued_within 32 env tail
 moved env there tail (Ok all) is fine =
     let here : tails 32 there tail ≡ Ok all = parts_same 31 31 (omega arith) 0 there tail all is in
     let alone : parts 32 0 tail ≡ Ok all = parts_same 31 32 (omega arith) 0 0 tail all is in
     ap (λ (r : Result Parts SubstRefusal). r >>= value env) (here ∙ sym alone)
 moved env there tail (Err e) is fine = absurd cc
 
--- where a variable counts as unset, its form gives what its tail gives
-pub default_value : (env : Variables) (colon : Bool) (name tail : List ℕ) → IsName name → IsTail tail → counted colon (env name) ≡ None
-    → substituted_within 32 env (with_default colon name tail) ≡ substituted_within 32 env tail
-default_value env colon name tail is fits unset =
+-- where a variable counts as unset, its form has the value that its tail has
+default_valued : (env : Variables) (colon : Bool) (name tail : List ℕ) → IsName name → IsTail tail → counted colon (env name) ≡ None
+    → valued_within 32 env (with_default colon name tail) ≡ valued_within 32 env tail
+default_valued env colon name tail is fits unset =
     let there = 0 + tail_start (length name) colon in
     ap (λ (r : Result Parts SubstRefusal). r >>= value env) (form_parts colon name tail is fits.nests)
     ∙ taken env colon name (tails 32 there tail) unset
     ∙ moved env there tail (parts 31 0 tail) refl fits.well_formed
+
+-- and so gives what its tail gives, within the limit
+pub default_value : (env : Variables) (colon : Bool) (name tail : List ℕ) → IsName name → IsTail tail → counted colon (env name) ≡ None
+    → substituted_within 32 env (with_default colon name tail) ≡ substituted_within 32 env tail
+default_value env colon name tail is fits unset =
+    ap (λ (r : Result (List ℕ) SubstRefusal). r >>= λ value. limited (within_limit value)) (default_valued env colon name tail is fits unset)

@@ -3,6 +3,7 @@ use Rattle.std.proofs.Common.{◌≡◌, ◌∙◌, ℕ, suc, ◌≤◌, Bool, t
 use Rattle.std.proofs.lemmas.Bool.{and_parts}
 use Rattle.std.proofs.lemmas.Bool.Decides.{nat_tests}
 use Rattle.std.specs.List.{list_all}
+use Rattle.interpolate.proofs.Filling.{valued_gives}
 use Rattle.interpolate.proofs.Plain.{doubled_value}
 use Rattle.interpolate.specs.Laws as written
 use Rattle.interpolate.specs.Substitution.{Variables, substituted}
@@ -17,10 +18,10 @@ same_doubled (c ∷ cs) = by (eqb c 36) ∙ ap (λ l. cond (eqb c 36) (36 ∷ 36
     by true = refl
     by false = refl
 
--- a text whose dollars are doubled has the text as its value
-pub text_value : (env : Variables) (text : List ℕ) → substituted env (doubled text) ≡ Ok text
+-- a text within the limit whose dollars are doubled has the text as its value
+pub text_value : (env : Variables) (text : List ℕ) → length text ≤ 16777216 → substituted env (doubled text) ≡ Ok text
 unfolding substituted
-text_value env text = ap (substituted env) (same_doubled text) ∙ doubled_value 32 env 0 text
+text_value env text fits = ap (substituted env) (same_doubled text) ∙ valued_gives 32 env (written.doubled text) text (doubled_value 32 env 0 text) fits
 
 -- and is no shorter
 pub is_longer : (text : List ℕ) → length text ≤ length (doubled text)
@@ -41,6 +42,6 @@ word_same (c ∷ cs) plain =
     let parts = and_parts (is_plain_byte c) (list_all is_plain_byte cs) plain in
     ap (λ b. cond b (36 ∷ 36 ∷ []) (c ∷ []) ++ flat_map doubled_byte cs) (no_dollar c parts.0) ∙ ap (λ l. c ∷ l) (word_same cs parts.1)
 
--- a word is its own value
-pub word_value : (env : Variables) (text : List ℕ) → list_all is_plain_byte text ≡ true → substituted env text ≡ Ok text
-word_value env text plain = ap (substituted env) (sym (word_same text plain)) ∙ text_value env text
+-- a word within the limit is its own value
+pub word_value : (env : Variables) (text : List ℕ) → list_all is_plain_byte text ≡ true → length text ≤ 16777216 → substituted env text ≡ Ok text
+word_value env text plain fits = ap (substituted env) (sym (word_same text plain)) ∙ text_value env text fits

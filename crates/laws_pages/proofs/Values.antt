@@ -14,7 +14,7 @@ use Rattle.interpolate.specs.declared.refusal.SubstTreeRefusal.{SubstTreeRefusal
 use Rattle.laws_pages.proofs.ProjectTexts.{is_longer, text_value, word_value}
 use Rattle.laws_pages.specs.ProjectLaws.{PagesGiveValues}
 use Rattle.project_print.specs.Values.{value_of}
-use Rattle.project_print.specs.Scalars.{doubled, is_plain_byte}
+use Rattle.project_print.specs.Scalars.{doubled}
 use Rattle.project_print.specs.declared.node.Node as nodes
 use Rattle.project_print.specs.declared.node.Node.{Node}
 use Rattle.project_print.specs.declared.node.Node.TheVariants.{Map, Null, Seq, Text, Word}
@@ -124,15 +124,16 @@ module _ (env : Variables) where
 
   word_claim : (text : List ℕ) → Claim env (Word text)
   word_claim text printable size room =
+      let fits = scalar_room text size (room_at (tree_of (Word text)) (trees.Scalar text) size (tree_word text) room) in
       again (trees.Scalar text) (tree_of (Word text)) (trees.Scalar text) (value_of (Word text)) size (tree_word text) (value_word text)
-      (scalar_walked text text size (word_value env text (word_bytes text (sym (printable_word text) ∙ printable))) (omega arith)
-      (scalar_room text size (room_at (tree_of (Word text)) (trees.Scalar text) size (tree_word text) room)))
+      (scalar_walked text text size (word_value env text (word_bytes text (sym (printable_word text) ∙ printable)) (omega (arith, fits))) (omega arith) fits)
 
   text_claim : (text : List ℕ) → Claim env (Text text)
   text_claim text printable size room =
+      let fits = scalar_room (doubled text) size (room_at (tree_of (Text text)) (trees.Scalar (doubled text)) size (tree_text text) room) in
+      let longer = is_longer text in
       again (trees.Scalar (doubled text)) (tree_of (Text text)) (trees.Scalar text) (value_of (Text text)) size (tree_text text) (value_text text)
-      (scalar_walked (doubled text) text size (text_value env text) (is_longer text)
-      (scalar_room (doubled text) size (room_at (tree_of (Text text)) (trees.Scalar (doubled text)) size (tree_text text) room)))
+      (scalar_walked (doubled text) text size (text_value env text (omega (arith, fits, longer))) longer fits)
 
   -- entries of a mapping, behind those that are done
   abbrev total : List (List ℕ × Tree) → ℕ

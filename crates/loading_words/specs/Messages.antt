@@ -25,6 +25,7 @@ abbrev pub env_words : EnvRefusal → List ℕ
 env_words (EnvRefusal.BadLine line) = line_words line (codes "BadLine")
 env_words (EnvRefusal.BadQuote line) = line_words line (codes "BadQuote")
 env_words (EnvRefusal.Subst line cause) = line_words line (codes "Subst")
+env_words (EnvRefusal.TooMuchText line) = line_words line (codes "TooMuchText")
 env_words EnvRefusal.Memory = codes "memory"
 
 -- why a scalar has no value; a variable that is required is named, with the message of the form that requires it
@@ -33,6 +34,7 @@ value_words (SubstRefusal.Unclosed at) = codes "Unclosed"
 value_words (SubstRefusal.BadForm at) = codes "BadForm"
 value_words (SubstRefusal.RequiredVariable name message) =
     codes "required " ++ name ++ codes ": " ++ message
+value_words SubstRefusal.TooMuchText = codes "TooMuchText"
 value_words SubstRefusal.Memory = codes "memory"
 
 -- why the scalars of a tree have no values: the path of the first, and its fault

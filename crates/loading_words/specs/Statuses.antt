@@ -17,9 +17,10 @@ yaml_status (YamlRefusal.TooManyNodes place) = 8
 yaml_status (YamlRefusal.TooMuchText place) = 8
 yaml_status YamlRefusal.Memory = 9
 
--- a line of an env file that is refused has status 2, and a want of memory 9
+-- a line of an env file that is refused has status 2, one whose value passes the limit 8, and a want of memory 9
 abbrev pub env_status : EnvRefusal → ℕ
 env_status EnvRefusal.Memory = 9
+env_status (EnvRefusal.TooMuchText line) = 8
 env_status refusal = 2
 
 -- a scalar without a value has status 2, a tree whose values pass the limit 8, and a want of memory 9

@@ -31,6 +31,7 @@ pub(crate) fn env_words(alloc: Global, path: &Text, cause: &EnvRefusal) -> Resul
         EnvRefusal::BadLine { line } => line_words(alloc, path, *line, "BadLine"),
         EnvRefusal::BadQuote { line } => line_words(alloc, path, *line, "BadQuote"),
         EnvRefusal::Subst { line, .. } => line_words(alloc, path, *line, "Subst"),
+        EnvRefusal::TooMuchText { line } => line_words(alloc, path, *line, "TooMuchText"),
         EnvRefusal::Memory => behind(alloc, path, ":memory"),
     }
 }
@@ -133,6 +134,7 @@ fn value_words(alloc: Global, cause: &SubstRefusal) -> Result<Text, Memory>
         SubstRefusal::Unclosed { .. } => Text::from_str(alloc, "Unclosed"),
         SubstRefusal::BadForm { .. } => Text::from_str(alloc, "BadForm"),
         SubstRefusal::RequiredVariable { name, message } => required_words(alloc, name, message),
+        SubstRefusal::TooMuchText => Text::from_str(alloc, "TooMuchText"),
         SubstRefusal::Memory => Text::from_str(alloc, "memory"),
     }
 }

@@ -91,6 +91,7 @@ fn env_status(refusal: &EnvRefusal) -> u8
         EnvRefusal::BadLine { .. } => 2,
         EnvRefusal::BadQuote { .. } => 2,
         EnvRefusal::Subst { .. } => 2,
+        EnvRefusal::TooMuchText { .. } => 8,
         EnvRefusal::Memory => 9,
     }
 }

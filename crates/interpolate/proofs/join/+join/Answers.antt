@@ -1,4 +1,4 @@
-use Rattle.std.proofs.Common.{◌≢◌, ◌∙◌, ◌+◌, ap, sym, subst, List, [], ℕ, length, arith, rules, Result, IsOk}
+use Rattle.std.proofs.Common.{◌≢◌, ◌∙◌, ◌+◌, ap, sym, subst, List, [], ℕ, Option, length, arith, rules, Result, IsOk}
 use Rattle.std.proofs.lemmas.Result.{err_from_is_err_and}
 use Rattle.tree_base.specs.Entries.{value_at}
 use Rattle.interpolate.specs.declared.refusal.SubstRefusal.{SubstRefusal}
@@ -20,7 +20,7 @@ join-returns-in_err-more-clause-value t c =
     let e = c.in_err-more.field-0.0 in
     let first = first_value_own a.levels env l.at a.inside l.rest.now l.invariant.closed some in
     let failed = subst (λ (r : Result (List ℕ) SubstRefusal). Fails e (appended l.out r)) (sym first) c.in_err-more.ensures.value in
-    rw (p.1, p.2) (subst (λ (r : Result (List ℕ) SubstRefusal). Fails e r) l.invariant.same
+    rw (p.1, p.2) (subst (λ (r : Result (Option (List ℕ)) SubstRefusal). Fails e r) l.invariant.same
     (join_fails a.levels env l.at (own a.inside l.rest.now) l.out e some l.invariant.fine failed))
 
 pub join-loop-rest-preserved : goal.join-loop-rest-preserved
