@@ -19,6 +19,7 @@ part_in (Tree-F.Scalar text) = counted text
 part_in Tree-F.Null = codes "~"
 part_in other = codes "?"
 
+-- the same of a tree that is such a part
 abbrev pub part_text : Tree → List ℕ
 part_text part = part_in (out-Tree part)
 

@@ -66,6 +66,7 @@ extends_one entries = is_given (content (out-Tree (field entries (codes "extends
 abbrev pub entries_allowed : List (List ℕ × Tree) → Asked
 entries_allowed entries = if extends_one entries then values_unmarked entries else Ok tt
 
+-- the same of the service's tree
 abbrev pub service_allowed : Tree → Asked
 service_allowed service = entries_allowed (entries_of service)
 
@@ -73,6 +74,7 @@ service_allowed service = entries_allowed (entries_of service)
 abbrev pub each_allowed : List (List ℕ × Tree) → Asked
 each_allowed services = entries_asked (map (λ entry. (entry.0, service_allowed entry.1)) services)
 
+-- the same of the tree that has them
 abbrev pub services_allowed : Tree → Asked
 services_allowed services = each_allowed (entries_of services)
 

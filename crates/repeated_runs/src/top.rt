@@ -67,8 +67,9 @@ where
         → result.last.refusal ≡ Some refusal → options_asked words.now env.now ≡ Err refusal }
     ensures loading { IfSome (F.told files.old) (λ contents. IfErr
         (meaning words.now env.now cwd.now contents) (λ refusal. IsRefusedWith refusal result.last)) }
-    ensures read_fault { (path : _) → result.last.refusal ≡ failed_read path → IsFailedRead words.now
-        env.now cwd.now (F.told files.old) (F.faults files.old) (F.faults files.new) path }
+    ensures read_fault { (path : _) → result.last.refusal ≡ failed_read path
+        → IsFailedRead words.now env.now cwd.now (F.told files.old)
+        (F.faults files.old) (F.faults files.new) path }
 
     // Of a project that is meant, what it can't be declared as is what its run is refused with.
     ensures declaring { IfDeclared words.now env.now cwd.now (F.told files.old) (λ meant.
