@@ -8,7 +8,7 @@ use engine_types::Request;
 use outside_api::Hand;
 use std::alloc::Global;
 use tree_base::Text;
-use tree_base::limits::{BEFORE_CALL_AGAIN, MOST_CALLS_AGAIN};
+use tree_base::limits::{BEFORE_LOOK, MOST_LOOKS};
 
 /// Looks with a hand whose clock is new whether what a create would make is there by now: 8 times at most, each time 250
 /// milliseconds later, as long as the hand isn't told to stop and the deadline isn't met, where there is one, in milliseconds of the
@@ -25,7 +25,7 @@ pub fn look_for<H: Hand>(
         (H.log hand.new) (H.clock hand.old) (H.clock hand.new) }
 {
     let mut rounds = 0;
-    'looking: while rounds < MOST_CALLS_AGAIN {
+    'looking: while rounds < MOST_LOOKS {
         match look_once(alloc, hand, project, request, deadline) {
             Some(end) => return end,
             None => rounds += 1,
@@ -48,7 +48,7 @@ fn look_once<H: Hand>(
     ensures { IsRound project.now request.now deadline result (H.log hand.old) (H.log hand.new)
         (H.clock hand.old) (H.clock hand.new) }
 {
-    hand.pause(BEFORE_CALL_AGAIN as u32);
+    hand.pause(BEFORE_LOOK as u32);
     let stops = hand.asked();
     if stops {
         return Some(LookEnd::Stopped);

@@ -106,6 +106,22 @@ most_body_bytes = 16777216
 abbrev pub most_framing_bytes : ℕ
 most_framing_bytes = 16777216
 
+-- how many values the JSON of a body has
+abbrev pub most_body_values : ℕ
+most_body_values = 1000000
+
+-- how many bytes the body of a stream of events has
+abbrev pub most_stream_bytes : ℕ
+most_stream_bytes = 268435456
+
+-- how many slots there are whose logs are asked for
+abbrev pub most_log_slots : ℕ
+most_log_slots = 10000
+
+-- how many bytes the texts of all lines of logs have together
+abbrev pub most_log_bytes : ℕ
+most_log_bytes = 268435456
+
 -- for how many milliseconds a hand pauses before a poll of a container
 abbrev pub before_poll : ℕ
 before_poll = 500

@@ -85,8 +85,8 @@ pub const COUNT_BOUND: usize = 4_294_967_296;
 /// How many exchanges a hand over a socket makes.
 pub const MOST_EXCHANGES: usize = 4_611_686_018_427_387_904;
 
-/// How often a call is made again whose create was refused because its name is used.
-pub const MOST_CALLS_AGAIN: u32 = 8;
+/// How often is looked for what a create would make that was refused because its name is used.
+pub const MOST_LOOKS: u32 = 8;
 
 // Responses of an Engine.
 
@@ -102,6 +102,18 @@ pub const MOST_BODY_BYTES: u64 = 16_777_216;
 /// How many bytes the framing of a body in chunks has: chunk lines, the line ends behind chunks, and the lines behind the last.
 pub const MOST_FRAMING_BYTES: u64 = 16_777_216;
 
+/// How many values the JSON of a body has.
+pub const MOST_BODY_VALUES: u64 = 1_000_000;
+
+/// How many bytes the body of a stream of events has.
+pub const MOST_STREAM_BYTES: u64 = 268_435_456;
+
+/// How many slots there are whose logs are asked for.
+pub const MOST_LOG_SLOTS: usize = 10_000;
+
+/// How many bytes the texts of all lines of logs have together.
+pub const MOST_LOG_BYTES: usize = 268_435_456;
+
 // Times.
 
 /// How long a hand pauses before a poll of a container, in milliseconds.
@@ -110,8 +122,8 @@ pub const BEFORE_POLL: u32 = 500;
 /// How long it pauses where its worker has nothing to do yet, in milliseconds.
 pub const WHILE_IDLE: u32 = 250;
 
-/// How long a call waits that is made again, in milliseconds.
-pub const BEFORE_CALL_AGAIN: u64 = 250;
+/// How long a call waits before each such look, in milliseconds.
+pub const BEFORE_LOOK: u64 = 250;
 
 /// How many seconds a container has to stop where nothing says so.
 pub const USUAL_STOP_SECONDS: u64 = 10;
