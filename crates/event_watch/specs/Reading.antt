@@ -60,6 +60,7 @@ EndsAs old ready new now_ready (Some here) =
 EndsAs old ready new now_ready None =
     (now_ready ≡ ready) × (new.bytes ≡ old.bytes) × (new.fault ≡ Some (LineFault.BadEvent old.at))
 
+-- the same, by what the open line tells
 abbrev pub EndsBy : OpenLine → List Event → OpenLine → List Event → Type 0
 EndsBy old ready new now_ready = EndsAs old ready new now_ready (line_told old.bytes)
 
