@@ -1,8 +1,8 @@
 use case_files::{Fields, Line, Lines, Reading};
 use cases_messages::{read_outcome, say_outcome};
-use engine_types::{Entry, LateWhy, Observed, Outcome, Seen, SeenEnd};
+use engine_types::{Entry, LateWhy, Observed, Outcome, Seen, SeenEnd, Sighting};
 use std::alloc::Global;
-use tree_base::List;
+use tree_base::{List, Memory};
 
 /// The entries of a journal, oldest first, by the lines under a key: `seen` (of nothing), `claim ACTION`, `poll SLOT`,
 /// `ended OUTCOME`, `idle`, `leave`, `stop`, `late entries`, `late CLOCK`, `short`. A line of another worker than 0
@@ -35,7 +35,7 @@ fn worker_and_words(line: &str) -> Option<(u32, &str)> {
 fn entry(reading: &mut Reading, worker: u32, line: &str) -> Entry {
     let (verb, rest) = line.split_once(' ').unwrap_or((line, ""));
     match verb {
-        "seen" => Entry::Seen(nothing_observed(reading.alloc)),
+        "seen" => seen_entry(reading, worker),
         "claim" => Entry::Claim {
             worker,
             action: reading.place("a number", rest),
@@ -71,6 +71,17 @@ pub(crate) fn late_why(reading: &mut Reading, word: &str) -> LateWhy {
     }
 }
 
+/// The entry of an observation that saw nothing.
+fn seen_entry(reading: &mut Reading, worker: u32) -> Entry {
+    match Sighting::new(reading.alloc) {
+        Ok(place) => Entry::Seen(place.holding(nothing_observed(reading.alloc))),
+        Err(Memory) => {
+            reading.memory();
+            Entry::Leave { worker }
+        }
+    }
+}
+
 /// An observation without exchanges, which saw nothing. No memory.
 fn nothing_observed(alloc: Global) -> Observed {
     Observed {
@@ -97,7 +108,7 @@ pub fn journal_lines(alloc: Global, journal: &[Entry]) -> Lines {
 
 fn say_entry(line: &mut Line, entry: &Entry) {
     match entry {
-        Entry::Seen(observed) => say_seen(line, observed),
+        Entry::Seen(sighting) => say_seen(line, sighting.get()),
         Entry::Claim { worker, action } => say_numbered(line, *worker, "claim", *action),
         Entry::Poll { worker, slot } => say_numbered(line, *worker, "poll", *slot),
         Entry::Ended { worker, outcome } => say_ended(line, *worker, outcome),

@@ -2,14 +2,15 @@ use crate::declared::Condition;
 use crate::exchange::Outcome;
 use crate::reply::Report;
 use crate::request::Request;
-use crate::seen::{Observed, SeenFault};
+use crate::seen::SeenFault;
+use crate::sighting::Sighting;
 use tree_base::Text;
 
 /// An entry of a run's journal. Workers, actions and slots are named by their numbers.
 #[derive(Drop)]
 pub enum Entry {
     /// The observation that the run stands on.
-    Seen(Observed),
+    Seen(Sighting),
     /// The worker begins an action.
     Claim { worker: u32, action: u32 },
     /// The worker begins to ask for a report on a slot's container.

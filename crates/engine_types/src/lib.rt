@@ -18,6 +18,7 @@ mod reply;
 mod request;
 mod resource;
 mod seen;
+mod sighting;
 
 pub use aim::Aim;
 pub use container::{
@@ -34,3 +35,4 @@ pub use reply::{ContainerState, Health, ImageRow, Listed, NetRow, Reply, Report}
 pub use request::Request;
 pub use resource::{NetworkSpec, Pairs, VolumeSpec, label};
 pub use seen::{Observed, Purpose, Seen, SeenEnd, SeenFault};
+pub use sighting::Sighting;

@@ -18,7 +18,7 @@ fn seen_at(entry: &Entry) -> Option<&Seen>
     ensures { option_copied result ≡ seen_at (Some entry.now) }
 {
     match entry {
-        Entry::Seen(observed) => seen_of(&observed.end),
+        Entry::Seen(observed) => seen_of(&observed.get().end),
         _ => None,
     }
 }

@@ -4,7 +4,7 @@ ghost use Rattle.ledger_start.specs.Starts.{IsBegun};
 
 use crate::outset::Outset;
 use crate::started::started_of;
-use engine_types::{Declared, Entry, Observed, Plan, RunLimits};
+use engine_types::{Declared, Entry, Observed, Plan, RunLimits, Sighting};
 use ledger_core::{Ledger, Started};
 use std::alloc::Global;
 use tree_base::{Memory, ReservedList};
@@ -12,10 +12,11 @@ use tree_base::{Memory, ReservedList};
 /// How many entries a ledger has room for at first: its observation, and what 16 workers may enter without memory.
 const ENTRIES_AT_FIRST: usize = 33;
 
-/// A ledger's rows, and the room of its journal.
+/// A ledger's rows, and the room of its journal and of its observation.
 #[derive(Drop)]
 struct Opening {
     journal: ReservedList<Entry>,
+    place: Sighting,
     started: Started,
 }
 
@@ -62,8 +63,13 @@ fn opening_of(
     };
     let mut journal = ReservedList::new(alloc);
     journal.reserve(ENTRIES_AT_FIRST)?;
+    let place = Sighting::new(alloc)?;
     let started = started_of(alloc, &outset)?;
-    Ok(Opening { journal, started })
+    Ok(Opening {
+        journal,
+        place,
+        started,
+    })
 }
 
 /// The ledger, with its observation as its first entry. No memory.
@@ -80,8 +86,9 @@ fn opened(
 {
     let Opening {
         mut journal,
+        place,
         started,
     } = opening;
-    journal.push(Entry::Seen(observed)).unwrap();
+    journal.push(Entry::Seen(place.holding(observed))).unwrap();
     Ledger::of(declared, plan, limits, journal, started)
 }

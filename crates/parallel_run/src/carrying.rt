@@ -20,11 +20,11 @@ use engine_types::{
 use ledger_core::Ledger;
 use ledger_start::begin;
 use outside_api::Hand;
-use project_run::{Ran, end, only_seen};
+use project_run::{FirstJournal, Ran, end, only_seen};
 use std::alloc::Global;
 use std::sync::Wait;
 use std::thread::Threads;
-use tree_base::{List, ReservedList, Text};
+use tree_base::{List, Text};
 use worker_pool::{Together, work_together};
 
 /// Carries a plan out that was made from an observation, with a worker for each hand, and tells what came of it. Where there is no
@@ -38,7 +38,7 @@ pub(crate) fn carry_out<R: Threads + Wait + Sync, H: Hand + Send>(
     observed: Observed,
     plan: Plan,
     limits: RunLimits,
-    journal: ReservedList<Entry>,
+    journal: FirstJournal,
 ) -> CarriedTogether<H>
     requires may { MayBegin declared observed plan limits }
     requires some { 0 < length hands }
@@ -74,7 +74,7 @@ fn work_through<R: Threads + Wait + Sync, H: Hand + Send>(
     hands: List<H>,
     ledger: Ledger,
     limits: RunLimits,
-    journal: ReservedList<Entry>,
+    journal: FirstJournal,
 ) -> CarriedTogether<H>
     requires begun { HasOnlySeen ledger.journal }
     requires open_run { IsOpen ledger }
@@ -137,13 +137,16 @@ fn observed_in(mut journal: List<Entry>) -> List<Exchange>
         → result ≡ observed.exchanges }
 {
     match journal.pop() {
-        Some(Entry::Seen(Observed { exchanges, end: _ })) => exchanges,
+        Some(Entry::Seen(sighting)) => {
+            let Observed { exchanges, end: _ } = sighting.into_observed();
+            exchanges
+        }
         _ => unreachable!(),
     }
 }
 
 /// What came of a run that there was no memory to begin, after an observation of these exchanges. No memory.
-fn unbegun(alloc: Global, exchanges: List<Exchange>, journal: ReservedList<Entry>) -> Ran
+fn unbegun(alloc: Global, exchanges: List<Exchange>, journal: FirstJournal) -> Ran
     requires empty { journal.items ≡ [] }
     requires room { 1 ≤ journal.spare }
     ensures journal { result.journal ≡ Entered.Seen (cut_short exchanges) ∷ [] }

@@ -21,13 +21,13 @@ ghost use Rattle.world_laws.specs.OwnSpecs.{HasOwnSpecs};
 use crate::carrying::carry_out;
 use crate::opening::{Begun, open_with};
 use crate::ran_together::{CarriedTogether, HandedTogether, RanTogether};
-use engine_types::{Aim, Declared, Entry, RunFault, RunLimits, RunOptions};
+use engine_types::{Aim, Declared, RunFault, RunLimits, RunOptions};
 use outside_api::Hand;
-use project_run::{Opening, Ran, bounded, ended, unread_limits};
+use project_run::{FirstJournal, Opening, Ran, bounded, ended, first_journal, unread_limits};
 use std::alloc::Global;
 use std::sync::Wait;
 use std::thread::Threads;
-use tree_base::{List, Memory, ReservedList, Text};
+use tree_base::{List, Memory, Text};
 
 /// Carries out for a declared set what an aim asks for, with 1 to 16 hands: the hand at place w is worker w's, and the hands come
 /// back in their order. Hand 0 observes what the Engine has; then all workers go through the plan as the run's ledger grants it,
@@ -202,16 +202,6 @@ fn unread<H: Hand>(
     (hands, unread_limits(workers, options, given))
 }
 
-/// An empty journal with room for an observation.
-fn first_journal(alloc: Global) -> Result<ReservedList<Entry>, Memory>
-    ensures empty { IfOk result (λ journal. journal.items ≡ []) }
-    ensures room { IfOk result (λ journal. 1 ≤ journal.spare) }
-{
-    let mut journal = ReservedList::new(alloc);
-    journal.reserve(1)?;
-    Ok(journal)
-}
-
 /// A run that had no room for its journal.
 fn unopened(alloc: Global, declared: Declared) -> Ran
     ensures journal { result.journal ≡ [] }
@@ -235,7 +225,7 @@ fn run<R: Threads + Wait + Sync, H: Hand + Send>(
     aim: Aim,
     options: RunOptions,
     given: Option<RunLimits>,
-    journal: ReservedList<Entry>,
+    journal: FirstJournal,
 ) -> HandedTogether<H>
     requires some { 0 < length hands }
     requires few { length hands ≤ most_workers }

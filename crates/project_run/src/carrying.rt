@@ -11,17 +11,16 @@ ghost use Rattle.project_run.specs.Whole.{IsFault, IsReport};
 ghost use Rattle.run_model.specs.Ending.{first_fault};
 ghost use Rattle.run_model.specs.Lines.{report_text};
 
-use crate::ending::{end, only_seen};
+use crate::ending::end;
+use crate::first_journal::{FirstJournal, only_seen};
 use crate::ran::{Carried, Ran};
-use engine_types::{
-    Declared, Entry, Exchange, Observed, Plan, RunFault, RunLimits, SeenEnd, SeenFault,
-};
+use engine_types::{Declared, Exchange, Observed, Plan, RunFault, RunLimits, SeenEnd, SeenFault};
 use ledger_core::Ledger;
 use ledger_run::work;
 use ledger_start::begin;
 use outside_api::Hand;
 use std::alloc::Global;
-use tree_base::{List, ReservedList, Text};
+use tree_base::{List, Text};
 
 /// Carries a plan out that was made from an observation, and tells what came of it. Where there is no memory to begin, the
 /// observation has ended for want of it, and stands in the journal that was given, which is empty and has room for it. The declared
@@ -33,7 +32,7 @@ pub(crate) fn carry_out<H: Hand>(
     observed: Observed,
     plan: Plan,
     limits: RunLimits,
-    journal: ReservedList<Entry>,
+    journal: FirstJournal,
 ) -> Carried
     requires may { MayBegin declared observed plan limits }
     requires clock { HasRoom (H.clock hand.old) }
@@ -97,7 +96,7 @@ fn work_through<H: Hand>(
 }
 
 /// What came of a run that there was no memory to begin, after an observation of these exchanges. No memory.
-fn unbegun(alloc: Global, exchanges: List<Exchange>, journal: ReservedList<Entry>) -> Ran
+fn unbegun(alloc: Global, exchanges: List<Exchange>, journal: FirstJournal) -> Ran
     requires empty { journal.items ≡ [] }
     requires room { 1 ≤ journal.spare }
     ensures journal { result.journal ≡ Entered.Seen (cut_short exchanges) ∷ [] }

@@ -11,13 +11,14 @@ ghost use Rattle.run_model.specs.Lines.{report_text};
 ghost use Rattle.run_model.specs.Runs.{Task, run_fault, run_report, unseen};
 ghost use Rattle.run_requests.specs.Setups.{of_one_worker, setup_of as setup_in};
 
+use crate::first_journal::{FirstJournal, only_seen};
 use crate::ran::Ran;
 use engine_types::{Declared, Entry, Observed, Plan, RunFault, RunLimits, Seen};
 use ledger_core::first_seen;
 use run_report::{fault, report};
 use run_requests::Run;
 use std::alloc::Global;
-use tree_base::{List, Memory, ReservedList, Text};
+use tree_base::{List, Memory, Text};
 
 /// What is told of a run beside its journal.
 #[derive(Drop)]
@@ -46,23 +47,8 @@ pub fn end(
     ran(alloc, journal, reading)
 }
 
-/// The journal that has this observation alone, of one that is empty and has room for it. No memory.
-pub fn only_seen(observed: Observed, mut journal: ReservedList<Entry>) -> List<Entry>
-    requires empty { journal.items ≡ [] }
-    requires room { 1 ≤ journal.spare }
-    ensures { result ≡ Entered.Seen observed ∷ [] }
-{
-    journal.push(Entry::Seen(observed)).unwrap();
-    journal.into_list()
-}
-
 /// What came of a run that ended with its observation. The journal is empty, and has room for it.
-pub fn ended(
-    alloc: Global,
-    declared: &Declared,
-    observed: Observed,
-    journal: ReservedList<Entry>,
-) -> Ran
+pub fn ended(alloc: Global, declared: &Declared, observed: Observed, journal: FirstJournal) -> Ran
     requires bad { HasEndedBadly observed }
     requires empty { journal.items ≡ [] }
     requires room { 1 ≤ journal.spare }

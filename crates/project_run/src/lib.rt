@@ -10,13 +10,15 @@
 
 mod carrying;
 mod ending;
+mod first_journal;
 mod laws;
 mod opening;
 mod options;
 mod ran;
 mod whole_run;
 
-pub use ending::{end, ended, only_seen};
+pub use ending::{end, ended};
+pub use first_journal::{FirstJournal, first_journal, only_seen};
 pub use laws::runs_spare_kept;
 pub use opening::{Opening, open};
 pub use options::{bounded, limits_for, unread_limits};

@@ -18,13 +18,14 @@ ghost use Rattle.world_laws.specs.OwnSpecs.{HasOwnSpecs};
 
 use crate::carrying::carry_out;
 use crate::ending::ended;
+use crate::first_journal::{FirstJournal, first_journal};
 use crate::opening::{Opening, open};
 use crate::options::{bounded, limits_for, unread_limits};
 use crate::ran::{Carried, Handed, Ran};
-use engine_types::{Aim, Declared, Entry, RunFault, RunLimits, RunOptions};
+use engine_types::{Aim, Declared, RunFault, RunLimits, RunOptions};
 use outside_api::Hand;
 use std::alloc::Global;
-use tree_base::{List, Memory, ReservedList, Text};
+use tree_base::{List, Memory, Text};
 
 /// Carries out for a declared set what an aim asks for, with one hand, which is worker 0: observes what the Engine has,
 /// plans, and goes through the plan as the run's ledger grants it, within what the options bound. A service that says so is
@@ -160,16 +161,6 @@ pub fn run_given<H: Hand>(
     }
 }
 
-/// An empty journal with room for an observation.
-fn first_journal(alloc: Global) -> Result<ReservedList<Entry>, Memory>
-    ensures empty { IfOk result (λ journal. journal.items ≡ []) }
-    ensures room { IfOk result (λ journal. 1 ≤ journal.spare) }
-{
-    let mut journal = ReservedList::new(alloc);
-    journal.reserve(1)?;
-    Ok(journal)
-}
-
 /// A run that had no room for its journal.
 fn unopened(alloc: Global, declared: Declared) -> Ran
     ensures journal { result.journal ≡ [] }
@@ -192,7 +183,7 @@ fn run<H: Hand>(
     aim: Aim,
     options: RunOptions,
     given: Option<RunLimits>,
-    journal: ReservedList<Entry>,
+    journal: FirstJournal,
 ) -> Handed
     requires whole { IsWhole declared }
     requires small { HasSmallNumbers declared }
@@ -238,7 +229,7 @@ fn run_within<H: Hand>(
     declared: Declared,
     aim: Aim,
     limits: RunLimits,
-    journal: ReservedList<Entry>,
+    journal: FirstJournal,
 ) -> Carried
     requires whole { IsWhole declared }
     requires small { HasSmallNumbers declared }

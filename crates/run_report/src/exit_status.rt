@@ -36,7 +36,7 @@ fn entry_status(run: &Run<'_>, past: &[Entry], entry: &Entry) -> u8
         (fault_of (setup_of run.now) (reverse past.now) entry.now) 0 }
 {
     match entry {
-        Entry::Seen(observed) => seen_end_status(&observed.end),
+        Entry::Seen(observed) => seen_end_status(&observed.get().end),
         Entry::Ended { worker, outcome } => end_status(run, past, *worker, outcome),
         Entry::Stop { .. } => 5,
         Entry::Late { .. } => 6,

@@ -61,7 +61,7 @@ fn fault_of(
         fault ≡ fault_of (setup_of run.now) (reverse past.now) entry.now) }
 {
     match entry {
-        Entry::Seen(observed) => seen_fault(alloc, &observed.end),
+        Entry::Seen(observed) => seen_fault(alloc, &observed.get().end),
         Entry::Ended { worker, outcome } => end_fault(alloc, run, rows, past, *worker, outcome),
         Entry::Stop { .. } => Ok(Some(RunFault::Stopped)),
         Entry::Late { why, .. } => Ok(Some(RunFault::Late(*why))),

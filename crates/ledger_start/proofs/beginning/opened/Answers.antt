@@ -5,7 +5,7 @@ use Rattle.ledger_start.proofs.beginning.opened.Goals as goal
 
 pub of-requires-clause-ledger : goal.of-requires-clause-ledger
 of-requires-clause-ledger c =
-    let pushed : c.push.new.self.items ≡ c.args.opening.journal.items ++ Entry.Seen c.args.observed ∷ [] = rw c.unwrap.ensures at c.push.ensures.ok in
+    let pushed : c.push.new.self.items ≡ c.args.opening.journal.items ++ Entry.Seen c.args.observed ∷ [] = rw (c.unwrap.ensures, c.holding.ensures) at c.push.ensures.ok in
     let items : c.push.new.self.items ≡ Entry.Seen c.args.observed ∷ [] = pushed ∙ ap (λ (js : List Entry). js ++ Entry.Seen c.args.observed ∷ []) c.requires.opening.empty in
     let room = c.requires.opening.room in
     let kept = c.push.ensures.spare in
@@ -14,6 +14,6 @@ of-requires-clause-ledger c =
 
 pub of-requires-clause-planned : goal.of-requires-clause-planned
 of-requires-clause-planned c =
-    let pushed : c.push.new.self.items ≡ c.args.opening.journal.items ++ Entry.Seen c.args.observed ∷ [] = rw c.unwrap.ensures at c.push.ensures.ok in
+    let pushed : c.push.new.self.items ≡ c.args.opening.journal.items ++ Entry.Seen c.args.observed ∷ [] = rw (c.unwrap.ensures, c.holding.ensures) at c.push.ensures.ok in
     let items : c.push.new.self.items ≡ Entry.Seen c.args.observed ∷ [] = pushed ∙ ap (λ (js : List Entry). js ++ Entry.Seen c.args.observed ∷ []) c.requires.opening.empty in
     planned c.args.declared c.args.observed c.args.plan c.args.limits c.requires.may c.args.opening.started c.requires.opening.started c.push.new.self items
