@@ -1,4 +1,5 @@
 use crate::container::ContainerSpec;
+use crate::containers::Containers;
 use crate::reply::{ImageRow, NetRow, Report};
 use crate::resource::Pairs;
 use tree_base::{Boxed, List, Text};
@@ -6,7 +7,7 @@ use tree_base::{Boxed, List, Text};
 /// What an Engine holds.
 #[derive(Drop)]
 pub struct Engine {
-    pub containers: List<ContainerRow>,
+    pub containers: Containers,
     pub networks: List<NetRow>,
     /// The names of the volumes.
     pub volumes: List<Text>,

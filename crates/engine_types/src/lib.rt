@@ -7,6 +7,7 @@
 
 mod aim;
 mod container;
+mod containers;
 mod declared;
 mod engine;
 mod exchange;
@@ -25,6 +26,7 @@ pub use container::{
     ContainerSpec, Device, Endpoint, Healthcheck, LogConfig, PortBinding, PortBindings,
     RestartPolicy, Ulimit,
 };
+pub use containers::Containers;
 pub use declared::{Attach, Condition, Declared, DeclaredService, Kind, Need, Policy, Slot};
 pub use engine::{ContainerRow, Engine};
 pub use exchange::{Exchange, Outcome, WireEnd};
