@@ -1,7 +1,7 @@
 ghost use Rattle.std.specs.Prelude.{◌≡◌, ◌<◌, [], ◌∷◌, ◌++◌, Some, length, slice_get, slice_set, OnOk, OnErr, OnSome};
 ghost use Rattle.std.specs.List.{remove};
 ghost use Rattle.std.specs.Option.{option_copied};
-ghost use Rattle.engine_types.specs.declared.ContainerRow.{ContainerRow};
+ghost use Rattle.engine_types.specs.declared.engine.ContainerRow.{ContainerRow};
 
 use crate::engine::ContainerRow;
 use crate::reply::Report;
@@ -20,7 +20,7 @@ pub struct Containers {
 
 impl Model for Containers {
     ghost use Rattle.std.specs.Prelude.{List, ◌≤◌, drop, length};
-    ghost use Rattle.engine_types.specs.declared.ContainerRow.{ContainerRow};
+    ghost use Rattle.engine_types.specs.declared.engine.ContainerRow.{ContainerRow};
 
     ghost Value = { List ContainerRow };
 

@@ -1,6 +1,6 @@
 ghost use Rattle.std.specs.Prelude.{◌≡◌, [], IfOk};
-ghost use Rattle.engine_types.specs.declared.SeenEnd.{SeenEnd as End};
-ghost use Rattle.engine_types.specs.declared.SeenFault.{SeenFault as Fault};
+ghost use Rattle.engine_types.specs.declared.seen.SeenEnd.{SeenEnd as End};
+ghost use Rattle.engine_types.specs.declared.seen.SeenFault.{SeenFault as Fault};
 
 use crate::seen::{Observed, SeenEnd, SeenFault};
 use std::alloc::Global;
@@ -14,6 +14,8 @@ pub struct Sighting {
 }
 
 impl Model for Sighting {
+    ghost use Rattle.engine_types.specs.declared.seen.Observed.{Observed};
+
     ghost Value = { Observed };
 
     ghost view = { λ s. s.place.value };
