@@ -1,14 +1,15 @@
 -- The variables that an env file gives.
-use Rattle.std.specs.Prelude.{ℕ, ◌+◌, List, [], ◌∷◌, Bool, true, false, Option, Some, None, Result, Ok, Err, min, ◌==◌, if◌then◌else◌}
+use Rattle.std.specs.Prelude.{ℕ, ◌+◌, List, [], ◌∷◌, Bool, true, false, Option, Some, None, Result, Ok, Err, length, min, nat_le, ◌==◌, if◌then◌else◌}
 use Rattle.std.specs.Str.{is_utf8, chars}
 use Rattle.std.specs.Str.Lines.{lines}
-use Rattle.tree_base.specs.Limits.{greatest_place}
+use Rattle.tree_base.specs.Limits.{greatest_place, most_text}
 use Rattle.tree_base.specs.Answers.{◌>>=◌}
 use Rattle.tree_base.specs.Answers as answers
 use Rattle.tree_base.specs.Entries.{value_at, with_entry}
 use Rattle.interpolate.specs.declared.SubstRefusal.{SubstRefusal}
 use Rattle.interpolate.specs.declared.SubstRefusal.TheVariants as causes
 use Rattle.interpolate.specs.Substitution.{substituted}
+use Rattle.dotenv.specs.declared.given.Given.{Given}
 use Rattle.dotenv.specs.declared.line.Line.{Line}
 use Rattle.dotenv.specs.declared.line.Line.TheVariants.{Nothing, Alone, Literal, Substituted}
 use Rattle.dotenv.specs.declared.refusal.LineRefusal.{LineRefusal}
@@ -38,10 +39,19 @@ abbrev pub on_line : ℕ → Result Line LineRefusal → Result Line EnvRefusal
 on_line number (Ok line) = Ok line
 on_line number (Err e) = Err (numbered number e)
 
+-- so many bytes of values more, of which there may be 16,777,216: a line that gives more is refused
+abbrev pub with_bytes : ℕ → ℕ → ℕ → Result ℕ EnvRefusal
+with_bytes number size more = if nat_le (size + more) most_text then Ok (size + more) else Err (refusals.TooMuchText number)
+
+-- a variable with the value that a line gives it, whose bytes count
+abbrev pub with_given : ℕ → Given → List ℕ → List ℕ → Result Given EnvRefusal
+with_given number given key value =
+    with_bytes number given.size (length value) >>= λ size. Ok (record { env = with_entry given.env key value; size = size })
+
 -- a variable with the value that the caller's environment has, where it has one
-abbrev pub with_outer : Entries → List ℕ → Option (List ℕ) → Entries
-with_outer env key None = env
-with_outer env key (Some value) = with_entry env key value
+abbrev pub with_outer : ℕ → Given → List ℕ → Option (List ℕ) → Result Given EnvRefusal
+with_outer number given key None = Ok given
+with_outer number given key (Some value) = with_given number given key value
 
 -- why a value isn't substituted, with its line's number: one past the limit is refused by a name of its own
 abbrev pub unsubstituted : ℕ → SubstRefusal → EnvRefusal
@@ -52,30 +62,38 @@ unsubstituted number (causes.RequiredVariable name message) = refusals.Subst num
 unsubstituted number causes.TooMuchText = refusals.TooMuchText number
 
 -- a variable with a value that is substituted
-abbrev pub with_value : ℕ → Entries → List ℕ → Result (List ℕ) SubstRefusal → Result Entries EnvRefusal
-with_value number env key (Ok value) = Ok (with_entry env key value)
-with_value number env key (Err cause) = Err (unsubstituted number cause)
+abbrev pub with_value : ℕ → Given → List ℕ → Result (List ℕ) SubstRefusal → Result Given EnvRefusal
+with_value number given key (Ok value) = with_given number given key value
+with_value number given key (Err cause) = Err (unsubstituted number cause)
 
 -- the variables after what a line says: a value sees the outer variables first, then the lines before
-abbrev pub told : Entries → ℕ → Entries → Line → Result Entries EnvRefusal
-told outer number env Nothing = Ok env
-told outer number env (Alone key) = Ok (with_outer env key (value_at outer key))
-told outer number env (Literal key text) = Ok (with_entry env key text)
-told outer number env (Substituted key text) = with_value number env key (substituted (value outer env) text)
+abbrev pub told : Entries → ℕ → Given → Line → Result Given EnvRefusal
+told outer number given Nothing = Ok given
+told outer number given (Alone key) = with_outer number given key (value_at outer key)
+told outer number given (Literal key text) = with_given number given key text
+told outer number given (Substituted key text) = with_value number given key (substituted (value outer given.env) text)
 
 -- the variables after a line, by its bytes
-abbrev pub with_line : Entries → ℕ → Entries → List ℕ → Result Entries EnvRefusal
-with_line outer number env bytes =
-    if is_utf8 bytes then (on_line number (line_of (chars bytes)) >>= told outer number env) else Err (refusals.BadLine number)
+abbrev pub with_line : Entries → ℕ → Given → List ℕ → Result Given EnvRefusal
+with_line outer number given bytes =
+    if is_utf8 bytes then (on_line number (line_of (chars bytes)) >>= told outer number given) else Err (refusals.BadLine number)
 
 -- the variables after lines, of which the first has a number
-abbrev pub with_lines : Entries → ℕ → Entries → List (List ℕ) → Result Entries EnvRefusal
-with_lines outer number env [] = Ok env
-with_lines outer number env (line ∷ more) = with_line outer (line_number number) env line >>= λ env. with_lines outer (number + 1) env more
+abbrev pub with_lines : Entries → ℕ → Given → List (List ℕ) → Result Given EnvRefusal
+with_lines outer number given [] = Ok given
+with_lines outer number given (line ∷ more) = with_line outer (line_number number) given line >>= λ given. with_lines outer (number + 1) given more
+
+-- no variable, of no line
+abbrev pub nothing_given : Given
+nothing_given = record { env = []; size = 0 }
+
+-- the variables that lines gave
+abbrev pub variables_of : Result Given EnvRefusal → Result Entries EnvRefusal
+variables_of read = read >>= λ given. Ok given.env
 
 -- the variables of an env file, whose lines end with a line feed or a carriage return and a line feed
 unfoldable pub env_file : Entries → List ℕ → Result Entries EnvRefusal
-env_file outer bytes = with_lines outer 1 [] (lines bytes)
+env_file outer bytes = variables_of (with_lines outer 1 nothing_given (lines bytes))
 
 -- a refusal for want of memory
 abbrev pub wants_memory : EnvRefusal → Bool

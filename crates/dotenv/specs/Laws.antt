@@ -4,13 +4,14 @@ use Rattle.std.specs.Str.{chars}
 use Rattle.std.specs.Str.Lines.{lines}
 use Rattle.tree_base.specs.Entries.{value_at}
 use Rattle.interpolate.specs.Substitution.{substituted}
+use Rattle.dotenv.specs.declared.given.Given.{Given}
 use Rattle.dotenv.specs.declared.line.Line.{Line}
 use Rattle.dotenv.specs.declared.line.Line.TheVariants.{Nothing, Alone, Literal, Substituted}
 use Rattle.dotenv.specs.declared.quote.Quote.TheVariants.{Double}
 use Rattle.dotenv.specs.Quotes.{quoted_of}
 use Rattle.dotenv.specs.Variables.{Entries, value}
 use Rattle.dotenv.specs.Lines.{line_of}
-use Rattle.dotenv.specs.Files.{with_lines, env_file}
+use Rattle.dotenv.specs.Files.{with_lines, nothing_given, env_file}
 
 -- the bytes of a line say this
 abbrev pub Says : List ℕ → Line → Type 0
@@ -37,8 +38,9 @@ NoneHasKey key later = All (λ bytes. (line : Line) → Says bytes line → key_
 -- the value of a later line wins: the last line of a file that has a key gives it its value
 abbrev pub LaterLineWins : Type 0
 LaterLineWins =
-    (outer before after : Entries) (file : List ℕ) (earlier later : List (List ℕ)) (bytes key text : List ℕ) (line : Line)
-    → lines file ≡ earlier ++ bytes ∷ later → with_lines outer 1 [] earlier ≡ Ok before → Says bytes line → GivesValue outer before key text line
+    (outer after : Entries) (before : Given) (file : List ℕ) (earlier later : List (List ℕ)) (bytes key text : List ℕ) (line : Line)
+    → lines file ≡ earlier ++ bytes ∷ later → with_lines outer 1 nothing_given earlier ≡ Ok before → Says bytes line
+    → GivesValue outer before.env key text line
     → NoneHasKey key later → env_file outer file ≡ Ok after → value_at after key ≡ Some text
 
 -- a character in double quotes: a quote, a backslash, a line feed, a carriage return and a tab are escaped

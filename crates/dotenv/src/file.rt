@@ -1,15 +1,16 @@
 ghost use Rattle.std.specs.Prelude.{◌≡◌, ◌≢◌, [], ◌∷◌, ◌<◌, ◌≤◌, length, OnOk, IfOk};
 ghost use Rattle.std.specs.Str.{chars};
 ghost use Rattle.std.specs.Str.Lines.{lines, strip_carriage_return};
-ghost use Rattle.tree_base.specs.Entries.{value_at, with_entry};
+ghost use Rattle.tree_base.specs.Entries.{value_at};
 ghost use Rattle.dotenv.specs.Variables.{Sees, beneath};
-ghost use Rattle.dotenv.specs.Files.{line_number, feed_len, numbered, unsubstituted, told, with_line, with_lines, env_file, result_and, Gives};
+ghost use Rattle.dotenv.specs.Files.{line_number, feed_len, numbered, unsubstituted, with_bytes, with_given, told, with_line, with_lines, env_file, result_and, Gives};
 
+use crate::given::Given;
 use crate::line::{Line, read_line};
 use crate::refusal::{EnvRefusal, LineRefusal};
 use interpolate::{SubstRefusal, subst};
 use std::alloc::Global;
-use tree_base::limits::GREATEST_PLACE;
+use tree_base::limits::{GREATEST_PLACE, MOST_TEXT};
 use tree_base::{Env, Memory, Text, TryCopy};
 
 /// The variables that an env file gives, in the order in which their keys first come.
@@ -21,21 +22,23 @@ use tree_base::{Env, Memory, Text, TryCopy};
 /// tab and is trimmed; both are substituted. They see the outer variables first, and then those of the lines before.
 ///
 /// The refusal is that of the first line that is refused: BadQuote for quotes that aren't closed on their line or have
-/// more than a comment behind them, Subst for a value without a substitution, TooMuchText for one that has more than
-/// 16,777,216 bytes once it is substituted, BadLine for anything else.
+/// more than a comment behind them, Subst for a value without a substitution, TooMuchText for one with which the values of
+/// this line and of those before it have more than 16,777,216 bytes together, once they are substituted, BadLine for anything
+/// else. A value that a later line replaces counts, too.
 pub fn read_env(alloc: Global, bytes: &[u8], outer: &Env) -> Result<Env, EnvRefusal>
     ensures { Gives result (env_file outer.now bytes.now) }
 {
     let mut seen = TryCopy::copy(outer, alloc)?;
-    let mut env = Env::new(alloc);
-    match put_lines(alloc, &mut env, &mut seen, outer, bytes) {
+    let env = Env::new(alloc);
+    let mut given = Given { env, size: 0 };
+    match put_lines(alloc, &mut given, &mut seen, outer, bytes) {
         Ok(()) => {
             drop(seen);
-            Ok(env)
+            Ok(given.env)
         }
         Err(refusal) => {
             drop(seen);
-            drop(env);
+            drop(given);
             Err(refusal)
         }
     }
@@ -44,19 +47,20 @@ pub fn read_env(alloc: Global, bytes: &[u8], outer: &Env) -> Result<Env, EnvRefu
 /// Puts the variables of lines, where `seen` has what a value sees.
 fn put_lines(
     alloc: Global,
-    env: &mut Env,
+    given: &mut Given,
     seen: &mut Env,
     outer: &Env,
     bytes: &[u8],
 ) -> Result<(), EnvRefusal>
-    requires { Sees outer.now env.old seen.old }
-    ensures { Gives (result_and result env.new) (with_lines outer.now 1 env.old (lines bytes.now)) }
+    requires { Sees outer.now given.old.env seen.old }
+    ensures { Gives (result_and result given.new)
+        (with_lines outer.now 1 given.old (lines bytes.now)) }
 {
     let mut number = 1usize;
     let mut rest = bytes;
     while !rest.is_empty() {
         let (line, more) = first_line(rest);
-        put_line(alloc, env, seen, outer, line_number(number), line)?;
+        put_line(alloc, given, seen, outer, line_number(number), line)?;
         number += 1;
         rest = more;
     }
@@ -111,21 +115,22 @@ fn without_return(line: &[u8]) -> &[u8]
 /// Puts the variable of a line.
 fn put_line(
     alloc: Global,
-    env: &mut Env,
+    given: &mut Given,
     seen: &mut Env,
     outer: &Env,
     number: u32,
     bytes: &[u8],
 ) -> Result<(), EnvRefusal>
-    requires { Sees outer.now env.old seen.old }
-    ensures is { Gives (result_and result env.new) (with_line outer.now number env.old bytes.now) }
-    ensures sees { OnOk result (Sees outer.now env.new seen.new) }
+    requires { Sees outer.now given.old.env seen.old }
+    ensures is { Gives (result_and result given.new)
+        (with_line outer.now number given.old bytes.now) }
+    ensures sees { OnOk result (Sees outer.now given.new.env seen.new) }
 {
     match str::from_utf8(bytes) {
         Ok(text) => {
             let chars = chars_of(alloc, text)?;
             match read_line(alloc, chars.as_slice()) {
-                Ok(line) => put_told(alloc, env, seen, outer, number, line),
+                Ok(line) => put_told(alloc, given, seen, outer, number, line),
                 Err(refusal) => Err(numbered(number, refusal)),
             }
         }
@@ -154,34 +159,25 @@ fn numbered(number: u32, refusal: LineRefusal) -> EnvRefusal
 /// Puts the variable that a line tells.
 fn put_told(
     alloc: Global,
-    env: &mut Env,
+    given: &mut Given,
     seen: &mut Env,
     outer: &Env,
     number: u32,
     line: Line,
 ) -> Result<(), EnvRefusal>
-    requires { Sees outer.now env.old seen.old }
-    ensures is { Gives (result_and result env.new) (told outer.now number env.old line) }
-    ensures sees { OnOk result (Sees outer.now env.new seen.new) }
+    requires { Sees outer.now given.old.env seen.old }
+    ensures is { Gives (result_and result given.new) (told outer.now number given.old line) }
+    ensures sees { OnOk result (Sees outer.now given.new.env seen.new) }
 {
     match line {
         Line::Nothing => Ok(()),
         Line::Alone { key } => match outer.value(&key) {
-            Some(value) => {
-                put(alloc, env, seen, outer, key, value.copy(alloc)?)?;
-                Ok(())
-            }
+            Some(value) => put(alloc, given, seen, outer, number, key, value.copy(alloc)?),
             None => Ok(()),
         },
-        Line::Literal { key, value } => {
-            put(alloc, env, seen, outer, key, value)?;
-            Ok(())
-        }
+        Line::Literal { key, value } => put(alloc, given, seen, outer, number, key, value),
         Line::Substituted { key, value } => match subst(alloc, &value, seen) {
-            Ok(value) => {
-                put(alloc, env, seen, outer, key, value)?;
-                Ok(())
-            }
+            Ok(value) => put(alloc, given, seen, outer, number, key, value),
             Err(cause) => Err(unsubstituted(number, cause)),
         },
     }
@@ -209,21 +205,37 @@ fn unsubstituted(number: u32, cause: SubstRefusal) -> EnvRefusal
     }
 }
 
-/// Puts a value under a key, and into what is seen unless the outer variables have one.
+/// So many bytes of values more, which a line gives.
+fn with_bytes(number: u32, size: usize, more: usize) -> Result<usize, EnvRefusal>
+    ensures { result ≡ with_bytes number size more }
+{
+    if size > MOST_TEXT as usize {
+        return Err(EnvRefusal::TooMuchText { line: number });
+    }
+    if more > MOST_TEXT as usize - size {
+        return Err(EnvRefusal::TooMuchText { line: number });
+    }
+    Ok(size + more)
+}
+
+/// Puts the value that a line gives under its key, and into what is seen unless the outer variables have one.
 fn put(
     alloc: Global,
-    env: &mut Env,
+    given: &mut Given,
     seen: &mut Env,
     outer: &Env,
+    number: u32,
     key: Text,
     value: Text,
-) -> Result<(), Memory>
-    requires { Sees outer.now env.old seen.old }
-    ensures env { OnOk result (env.new ≡ with_entry env.old key value) }
-    ensures sees { OnOk result (Sees outer.now env.new seen.new) }
+) -> Result<(), EnvRefusal>
+    requires { Sees outer.now given.old.env seen.old }
+    ensures is { Gives (result_and result given.new) (with_given number given.old key value) }
+    ensures sees { OnOk result (Sees outer.now given.new.env seen.new) }
 {
+    let size = with_bytes(number, given.size, value.len())?;
     see(alloc, seen, outer, &key, &value)?;
-    drop(env.put(key, value)?);
+    drop(given.env.put(key, value)?);
+    given.size = size;
     Ok(())
 }
 

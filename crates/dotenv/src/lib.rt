@@ -6,6 +6,7 @@
 #![tactic(auto)]
 
 mod file;
+mod given;
 mod laws;
 mod line;
 mod quote;

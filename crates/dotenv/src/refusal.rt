@@ -14,7 +14,8 @@ pub enum EnvRefusal {
     BadQuote { line: u32 },
     /// A value that can't be substituted.
     Subst { line: u32, cause: SubstRefusal },
-    /// A value that has more than 16,777,216 bytes once it is substituted, or the message of a variable that it requires.
+    /// A value with which the values of this line and of those before it have more than 16,777,216 bytes together once they are
+    /// substituted, or the message of a variable that it requires.
     TooMuchText { line: u32 },
     Memory,
 }

@@ -8,5 +8,5 @@ pub returns-clause-sees : goal.returns-clause-sees
 returns-clause-sees c =
     let a = c.args in
     λ name. ap (λ (es : Entries). value_at es name) c.in_ok-see.ensures
-    ∙ put_sees a.outer.now a.env.now a.seen.now a.key a.value c.requires name
+    ∙ put_sees a.outer.now a.given.now.env a.seen.now a.key a.value c.requires name
     ∙ ap (λ (es : Entries). value a.outer.now es name) (sym c.in_ok-put.ensures.ok)

@@ -9,7 +9,7 @@ decreases-loop-rest l = length l.rest
 
 abbrev pub invariant-loop-rest : goal.invariant-loop-rest
 invariant-loop-rest l = record {
-  sees : Sees l.outer l.env l.seen;
+  sees : Sees l.outer l.given.env l.seen;
   few : l.number + length l.rest ≤ length l.initial.rest + 1;
-  same : with_lines l.outer l.number l.env (lines l.rest) ≡ with_lines l.outer 1 l.initial.env (lines l.initial.rest);
+  same : with_lines l.outer l.number l.given (lines l.rest) ≡ with_lines l.outer 1 l.initial.given (lines l.initial.rest);
 }
