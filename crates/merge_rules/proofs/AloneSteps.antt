@@ -1,5 +1,5 @@
 -- Steps of asking whether a tree stands as it is.
-use Rattle.std.proofs.Common.{◌≡◌, ◌∙◌, ℕ, zero, suc, ◌+◌, ◌≤◌, Bool, false, cond, List, [], ◌∷◌, ◌++◌, map, drop, take, add-one, length, slice_get, None, Some, Option, Ok, refl, ap, sym, subst, arith}
+use Rattle.std.proofs.Common.{◌≡◌, ◌∙◌, ℕ, zero, suc, ◌+◌, ◌≤◌, Bool, false, cond, List, [], ◌∷◌, ◌++◌, map, drop, take, length, slice_get, None, Some, Option, Ok, refl, ap, sym, subst, arith}
 use Rattle.std.specs.Cmp.Lexicographic.{nat_list_eq_equiv}
 use Rattle.std.specs.List.{zip, AllByRecursion, IsDistinct}
 use Rattle.std.specs.Map.{keys_of, values_of}
@@ -18,11 +18,11 @@ use Rattle.merge_tables.specs.Attributes.{JoiningRules}
 use Rattle.merge_rules.specs.Overlay.{Lay, entries_over, entry_over, item_joined, items_joined, laid, layers, with_value}
 use Rattle.merge_tables.specs.Parts.{or_null}
 use Rattle.merge_tables.proofs.Answering.{goes_on}
-use Rattle.merge_tables.proofs.Taking.{none_more, take_all, take_next}
+use Rattle.merge_tables.proofs.Taking.{take_all, take_next}
 use Rattle.merge_rules.proofs.Unchanged.{map_alone, put_new}
 
 module _ {X : Type 0} where
-  none_left : {Y : Type 0} (f : X → Y) (xs : List X) (i : ℕ) → length xs ≤ i → drop i (map f xs) ≡ []
+  pub none_left : {Y : Type 0} (f : X → Y) (xs : List X) (i : ℕ) → length xs ≤ i → drop i (map f xs) ≡ []
   none_left f [] zero h = refl
   none_left f [] (suc i) h = refl
   none_left f (x ∷ xs) zero h = absurd (omega arith)

@@ -6,7 +6,7 @@ use Rattle.tree_base.specs.declared.tree.Tree.{Tree, out-Tree, the_lemmas}
 use Rattle.tree_base.specs.declared.tree.Tree.TheVariants.{Scalar}
 use Rattle.merge_tables.specs.declared.rules.EntryKind.{EntryKind}
 use Rattle.merge_tables.specs.Parts.{field}
-use Rattle.merge_rules.specs.Marks.{counted, mark_of, mark_text, part_text}
+use Rattle.merge_rules.specs.Marks.{counted, mark_of, mark_text, written}
 use Rattle.merge_rules.specs.Sameness.{same, same_items}
 use Rattle.merge_rules.specs.Uniqueness.{alone, are_one, binding, key_in, protocol_of, same_keys}
 use Rattle.merge_rules.proofs.Sames.{same_told}
@@ -38,11 +38,11 @@ unmarked kind item other none = by (key_in kind (out-Tree item)) none
     by (Some key) e = absurd (cc e)
 
 -- the part of a text
-pub scalar_part : (text : List ℕ) → part_text (Scalar text) ≡ counted text
+pub scalar_part : (text : List ℕ) → written (Scalar text) ≡ counted text
 scalar_part text = search (rules, the_lemmas)
 
 text_mark : (text : List ℕ) → mark_text (Scalar text ∷ []) ≡ counted text
-text_mark text = append-nil (part_text (Scalar text)) ∙ scalar_part text
+text_mark text = append-nil (written (Scalar text)) ∙ scalar_part text
 
 -- the mark of a key of one text
 pub marked_text : (text mark : List ℕ) (own : Option (List ℕ)) → own ≡ Some text → mark ≡ counted text → Some mark ≡ option_map mark_text (alone own)
@@ -54,13 +54,13 @@ no_text own is = ap (λ (t : Option (List ℕ)). option_map mark_text (alone t))
 
 -- the parts of a port, put one behind the other
 pub port_marked : (target : List ℕ) (entries : List (List ℕ × Tree)) (a b c d : List ℕ) → a ≡ counted target
-    → b ≡ a ++ part_text (field entries (codes "host_ip")) → c ≡ b ++ part_text (field entries (codes "published")) → d ≡ c ++ part_text (protocol_of entries)
+    → b ≡ a ++ written (field entries (codes "host_ip")) → c ≡ b ++ written (field entries (codes "published")) → d ≡ c ++ written (protocol_of entries)
     → d ≡ mark_text (Scalar target ∷ binding entries)
 port_marked target entries a b c d e f g h =
-    let first = part_text (Scalar target) in
-    let second = part_text (field entries (codes "host_ip")) in
-    let third = part_text (field entries (codes "published")) in
-    let fourth = part_text (protocol_of entries) in
+    let first = written (Scalar target) in
+    let second = written (field entries (codes "host_ip")) in
+    let third = written (field entries (codes "published")) in
+    let fourth = written (protocol_of entries) in
     let one : a ≡ first = e ∙ sym (scalar_part target) in
     let two : b ≡ first ++ second = f ∙ ap (λ (t : List ℕ). t ++ second) one in
     let three : c ≡ (first ++ second) ++ third = g ∙ ap (λ (t : List ℕ). t ++ third) two in

@@ -10,3 +10,4 @@ pub mod Unchanged
 pub mod Unmarked
 pub mod AskedSteps
 pub mod UnmarkedFiles
+pub mod WrittenSteps

@@ -1,8 +1,8 @@
 -- Marks of entries: texts by which those that are one are found.
-use Rattle.std.specs.Prelude.{◌≡◌, ℕ, ◌+◌, ◌<◌, ◌≤◌, false, List, [], ◌∷◌, ◌++◌, Option, Some, None, unwrap_or, flat_map, length, slice_get, codes, decimal}
+use Rattle.std.specs.Prelude.{◌≡◌, ℕ, ◌+◌, ◌<◌, ◌≤◌, false, List, ◌++◌, Option, Some, unwrap_or, flat_map, length, slice_get, codes, decimal}
 use Rattle.std.specs.Option.{option_map}
 use Rattle.tree_base.specs.Entries.{value_at}
-use Rattle.tree_base.specs.declared.Tree.{Tree, out-Tree}
+use Rattle.tree_base.specs.declared.Tree.{Tree, fold-Tree, out-Tree}
 use Rattle.tree_base.specs.declared.Tree.TheOpen.{Tree-F}
 use Rattle.merge_tables.specs.declared.rules.EntryKind.{EntryKind}
 use Rattle.merge_tables.specs.declared.rules.Joining.{Joining}
@@ -13,19 +13,26 @@ use Rattle.merge_rules.specs.Uniqueness.{are_one, key_in}
 abbrev pub counted : List ℕ → List ℕ
 counted text = decimal (length text) ++ (codes ":" ++ text)
 
--- a part of a key in a mark: its text behind its length, and by other signs null and what is neither
-abbrev pub part_in : Tree-F Tree → List ℕ
-part_in (Tree-F.Scalar text) = counted text
-part_in Tree-F.Null = codes "~"
-part_in other = codes "?"
+-- a value under its key in a mark: the key behind its length, and then the value
+abbrev pub entry_written : List ℕ × List ℕ → List ℕ
+entry_written entry = counted entry.0 ++ entry.1
 
--- the same of a tree that is such a part
-abbrev pub part_text : Tree → List ℕ
-part_text part = part_in (out-Tree part)
+-- a tree in a mark, where its parts are given by theirs: each kind has signs of its own, and texts stand behind their lengths
+abbrev pub written_step : Tree-F (List ℕ) → List ℕ
+written_step Tree-F.Null = codes "~"
+written_step (Tree-F.Scalar text) = counted text
+written_step (Tree-F.Map entries) = codes "{" ++ (flat_map entry_written entries ++ codes "}")
+written_step (Tree-F.Seq items) = codes "[" ++ (flat_map (λ item. item) items ++ codes "]")
+written_step Tree-F.Reset = codes "-"
+written_step (Tree-F.Override inner) = codes "!" ++ inner
+
+-- a tree in a mark, which is a part of a key
+abbrev pub written : Tree → List ℕ
+written = fold-Tree (List ℕ) written_step
 
 -- the parts of a key, one behind the other
 abbrev pub mark_text : List Tree → List ℕ
-mark_text key = flat_map part_text key
+mark_text key = flat_map written key
 
 -- the mark of an item: the parts of what it is known by. Items that are one have the same mark
 abbrev pub mark_of : EntryKind → Tree → Option (List ℕ)

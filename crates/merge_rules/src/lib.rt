@@ -11,6 +11,7 @@ mod layers;
 mod marks;
 mod places;
 mod under_extends;
+mod written;
 
 pub use laws::{files_stand, no_mark_is_left, null_leaves, trees_stand, unmarked_files_laid};
 pub use layers::{overlay, overlay_onto, service_onto};

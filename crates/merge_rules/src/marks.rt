@@ -1,11 +1,12 @@
 ghost use Rattle.std.specs.Prelude.{◌≡◌, [], ◌∷◌, ◌++◌, IfOk, OnOk, codes};
 ghost use Rattle.std.specs.Option.{option_map};
 ghost use Rattle.tree_base.specs.declared.Tree.{Tree};
-ghost use Rattle.merge_rules.specs.Marks.{counted, mark_of, mark_text, part_text};
+ghost use Rattle.merge_rules.specs.Marks.{counted, mark_of, mark_text, written};
 ghost use Rattle.merge_rules.specs.Uniqueness.{alone, binding, key_by, placed, port_key, protocol_of, seen, text_at};
 ghost use Rattle.merge_tables.specs.Parts.{field};
 
 use crate::keys::{protocol_at, seen_at, text_at};
+use crate::written::{counted, put_text, put_tree};
 use merge_tables::EntryKind;
 use std::alloc::Global;
 use tree_base::{Map, Memory, Text, Tree};
@@ -102,18 +103,9 @@ fn placed_part(alloc: Global, folder: &str, below: bool, name: &Text) -> Result<
     }
 }
 
-/// A text behind its length.
-fn counted(alloc: Global, text: &Text) -> Result<Text, Memory>
-    ensures { IfOk result (λ part. part ≡ counted text.now) }
-{
-    let length = text.len();
-    let part = format!(in alloc; "{length}:{text}")?;
-    Ok(Text::from_string(part))
-}
-
 /// Puts the part of a key last that a field is; null is as good as none.
 fn put_field(alloc: Global, mark: &mut Text, entries: &Map, name: &str) -> Result<(), Memory>
-    ensures { OnOk result (mark.new ≡ mark.old ++ part_text (field entries.now name.now)) }
+    ensures { OnOk result (mark.new ≡ mark.old ++ written (field entries.now name.now)) }
 {
     match entries.find(name) {
         Some(tree) => put_tree(alloc, mark, tree),
@@ -123,7 +115,7 @@ fn put_field(alloc: Global, mark: &mut Text, entries: &Map, name: &str) -> Resul
 
 /// Puts the part of a key last that the protocol of a port is.
 fn put_protocol(alloc: Global, mark: &mut Text, entries: &Map) -> Result<(), Memory>
-    ensures { OnOk result (mark.new ≡ mark.old ++ part_text (protocol_of entries.now)) }
+    ensures { OnOk result (mark.new ≡ mark.old ++ written (protocol_of entries.now)) }
 {
     match protocol_at(entries) {
         Some(tree) => put_tree(alloc, mark, tree),
@@ -132,21 +124,4 @@ fn put_protocol(alloc: Global, mark: &mut Text, entries: &Map) -> Result<(), Mem
             put_text(alloc, mark, &usual)
         }
     }
-}
-
-fn put_tree(alloc: Global, mark: &mut Text, tree: &Tree) -> Result<(), Memory>
-    ensures { OnOk result (mark.new ≡ mark.old ++ part_text tree.now) }
-{
-    match tree {
-        Tree::Scalar(text) => put_text(alloc, mark, text),
-        Tree::Null => mark.push_str("~"),
-        _ => mark.push_str("?"),
-    }
-}
-
-fn put_text(alloc: Global, mark: &mut Text, text: &Text) -> Result<(), Memory>
-    ensures { OnOk result (mark.new ≡ mark.old ++ counted text.now) }
-{
-    let part = counted(alloc, text)?;
-    mark.push_str(part.as_str())
 }
