@@ -64,14 +64,14 @@ module _ (told : Option Contents) where
     whole_model = model (suc most_files) places caller places.files found most_files
 
     abbrev pub as_loaded : Model → Load Loaded
-    as_loaded whole = give (record { tree = whole.tree; directory = places.directory; env = whole.env })
+    as_loaded whole = give (record { tree = whole.tree; directory = places.directory; files = places.files; env = whole.env })
 
     pub not_loaded : (e : LoadRefusal) → Gives {X = Model} told (Err e) whole_model → Gives {X = Loaded} told (Err e) (loaded_of places caller found)
     not_loaded e h = gives_out told whole_model as_loaded e h
 
     pub loaded_there : (whole : Model) → Gives told (Ok whole) whole_model
-        → Gives told (Ok (record { tree = whole.tree; directory = places.directory; env = whole.env })) (loaded_of places caller found)
-    loaded_there whole h = gives_on told whole_model as_loaded whole (Ok (record { tree = whole.tree; directory = places.directory; env = whole.env })) h (λ n. refl)
+        → Gives told (Ok (record { tree = whole.tree; directory = places.directory; files = places.files; env = whole.env })) (loaded_of places caller found)
+    loaded_there whole h = gives_on told whole_model as_loaded whole (Ok (record { tree = whole.tree; directory = places.directory; files = places.files; env = whole.env })) h (λ n. refl)
 
   -- what is loaded at the places of a request, whose files are found first
   module _ (places : Places) (caller : Variables) where

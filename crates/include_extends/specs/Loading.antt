@@ -35,11 +35,16 @@ files_found directory [] =
 files_found directory (path ∷ paths) = give (path ∷ paths, None)
 
 -- what is loaded at places whose files are known, the first of which may have been looked at before: they make one
--- model
+-- model, and what was loaded tells them and their directory
 abbrev pub loaded_of : Places → Variables → Option Seen → Load Loaded
 loaded_of places caller found =
     model (suc most_files) places caller places.files found most_files >>= λ whole.
-    give (record { tree = whole.tree; directory = places.directory; env = whole.env })
+    give (record {
+      tree = whole.tree;
+      directory = places.directory;
+      files = places.files;
+      env = whole.env;
+    })
 
 -- places with these files
 abbrev pub with_files : Places → List (List ℕ) → Places

@@ -15,7 +15,7 @@ use tree_base::limits::MOST_FILES;
 
 /// Loads the Compose files of a request, merged in their order, with all that their services extend, with the
 /// environments of their services, and with all that they include, under the variables of the caller and of the env
-/// files.
+/// files. What was loaded tells the paths of the files of the request, or of the default one, and the project directory.
 ///
 /// The refusals, in their order: `NoHome` for the path of a file, of an env file, and of the project directory;
 /// `NotFound` where no file is given and the default one isn't there. Then those of the model: `NotFound`,
@@ -98,6 +98,7 @@ fn loaded_of<F: Files>(
         Ok(whole) => Ok(Loaded {
             tree: whole.tree,
             directory: places.directory,
+            files: places.files,
             env: whole.env,
         }),
         Err(refusal) => Err(refusal),

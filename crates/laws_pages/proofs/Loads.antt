@@ -81,7 +81,7 @@ module _ (project : PlainProject) (caller : Variables) (cwd : List ℕ) (held : 
   page = There (project_page project)
 
   abbrev loaded : Loaded
-  loaded = record { tree = tree; directory = directory; env = env }
+  loaded = record { tree = tree; directory = directory; files = path ∷ []; env = env }
 
   abbrev own : Model
   own = record { tree = tree; env = env; left = 63 }
@@ -137,7 +137,7 @@ module _ (project : PlainProject) (caller : Variables) (cwd : List ℕ) (held : 
   places = record { files = path ∷ []; env_files = None; directory = directory }
 
   abbrev whole : Model → Load Loaded
-  whole made = give (record { tree = made.tree; directory = directory; env = made.env })
+  whole made = give (record { tree = made.tree; directory = directory; files = path ∷ []; env = made.env })
 
   abbrev of_files : List (List ℕ) × Option Seen → Load Loaded
   of_files found = loaded_of (record { files = found.0; env_files = None; directory = directory }) caller found.1
