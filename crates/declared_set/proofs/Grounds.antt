@@ -16,17 +16,17 @@ use Rattle.declared_set.specs.declared.slots.Common.{Common}
 use Rattle.declared_set.specs.declared.slots.Ground.{Ground}
 
 module _ (scales : List Scale) (ground : Ground) (service : Service) (is : IsGround scales ground) where
-  same_common : common_with ground.project.now ground.ranges.now ground.networks.now (is_in ground.awaited.now.keys service.key) ground.digests.now service
-      ≡ common_of ground.project.now scales ground.digests.now service
-  same_common = λ i. common_with ground.project.now (is.ranges i) (is.networks i) (is.awaited service.key i) ground.digests.now service
+  same_common : common_with ground.loaded.now.project ground.ranges.now ground.networks.now (is_in ground.awaited.now.keys service.key) ground.digests.now service
+      ≡ common_of ground.loaded.now.project scales ground.digests.now service
+  same_common = λ i. common_with ground.loaded.now.project (is.ranges i) (is.networks i) (is.awaited service.key i) ground.digests.now service
 
   -- the slots of a service, by what they have in common and by how many there are
   pub slots_put : (old new : List Slot) (common : Common) (count : ℕ)
-      → common ≡ common_with ground.project.now ground.ranges.now ground.networks.now (is_in ground.awaited.now.keys service.key) ground.digests.now service
-      → count ≡ scale_of scales service → new ≡ old ++ map (slot_with ground.project.now service common) (range_with_len 1 count)
-      → new ≡ old ++ slots_in ground.project.now scales ground.digests.now service
+      → common ≡ common_with ground.loaded.now.project ground.ranges.now ground.networks.now (is_in ground.awaited.now.keys service.key) ground.digests.now service
+      → count ≡ scale_of scales service → new ≡ old ++ map (slot_with ground.loaded.now service common) (range_with_len 1 count)
+      → new ≡ old ++ slots_in ground.loaded.now scales ground.digests.now service
   slots_put old new common count shared counts put =
-      put ∙ (λ i. old ++ map (slot_with ground.project.now service ((shared ∙ same_common) i)) (range_with_len 1 (counts i)))
+      put ∙ (λ i. old ++ map (slot_with ground.loaded.now service ((shared ∙ same_common) i)) (range_with_len 1 (counts i)))
 
 -- what one more item gives, behind what those before it give
 pub flat_more : {X Y : Type 0} (f : X → List Y) (xs : List X) (i : ℕ) (x : X) (before new : List Y) → i < length xs → x ≡ get_or xs i x

@@ -7,24 +7,24 @@ use Rattle.declared_slots.specs.Needs.{depends_on}
 use Rattle.engine_types.specs.declared.declared.Declared.{Declared}
 use Rattle.engine_types.specs.declared.declared.DeclaredService.{DeclaredService}
 use Rattle.service_hashes.specs.declared.digest.FileDigest.{FileDigest}
-use Rattle.typed_project.specs.declared.project.Project.{Project}
 use Rattle.typed_project.specs.declared.service.Service.{Service}
 use Rattle.declared_set.specs.Refusing.{refusal_of}
 use Rattle.declared_set.specs.Slots.{slots_of}
+use Rattle.declared_set.specs.declared.loaded_project.LoadedProject.{LoadedProject}
 use Rattle.declared_set.specs.declared.refusal.IdentityRefusal.{IdentityRefusal}
 
 -- what is declared of a service beside its slots
 abbrev pub service_of : Service → DeclaredService
 service_of service = record { key = service.key; depends_on = depends_on service; roll = roll_of service }
 
--- what a project declares, with these numbers of `--scale` and these digests of its files
-abbrev pub declared_of : Project → List Scale → List FileDigest → Declared
-declared_of project scales digests = record {
-  project = project.name;
-  slots = slots_of project scales digests;
-  services = map service_of project.services;
-  networks = networks_of project;
-  volumes = volumes_of project;
+-- what a project declares that was loaded so, with these numbers of `--scale` and these digests of its files
+abbrev pub declared_of : LoadedProject → List Scale → List FileDigest → Declared
+declared_of loaded scales digests = record {
+  project = loaded.project.name;
+  slots = slots_of loaded scales digests;
+  services = map service_of loaded.project.services;
+  networks = networks_of loaded.project;
+  volumes = volumes_of loaded.project;
 }
 
 -- what is declared, unless it is refused
@@ -33,9 +33,9 @@ unless_refused declared None = Ok declared
 unless_refused declared (Some refusal) = Err refusal
 
 -- the declared set of a project, or its refusal
-abbrev pub declared : Project → List Scale → List FileDigest → Result Declared IdentityRefusal
-declared project scales digests =
-    unless_refused (declared_of project scales digests) (refusal_of project scales)
+abbrev pub declared : LoadedProject → List Scale → List FileDigest → Result Declared IdentityRefusal
+declared loaded scales digests =
+    unless_refused (declared_of loaded scales digests) (refusal_of loaded.project scales)
 
 -- the refusal that comes for want of memory
 abbrev pub wants_memory : IdentityRefusal → Bool

@@ -9,7 +9,7 @@ use Rattle.declared_set.specs.declared.slots.Ground.{Ground}
 
 -- the slots, the networks and the services that are waited for are the project's
 pub record IsGround (scales : List Scale) (ground : Ground) : Type 0 where
-  pub ranges : ground.ranges.now ≡ ranges_of scales ground.project.now.services
-  pub networks : ground.networks.now ≡ networks_of ground.project.now
+  pub ranges : ground.ranges.now ≡ ranges_of scales ground.loaded.now.project.services
+  pub networks : ground.networks.now ≡ networks_of ground.loaded.now.project
   pub awaited : (key : List ℕ) → is_in ground.awaited.now.keys key
-      ≡ is_awaited scales ground.project.now.services key
+      ≡ is_awaited scales ground.loaded.now.project.services key

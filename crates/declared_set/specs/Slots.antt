@@ -16,6 +16,7 @@ use Rattle.service_hashes.specs.declared.digest.FileDigest.{FileDigest}
 use Rattle.typed_project.specs.declared.project.Project.{Project}
 use Rattle.typed_project.specs.declared.service.Service.{Service}
 use Rattle.declared_set.specs.Labels.{container_labels}
+use Rattle.declared_set.specs.declared.loaded_project.LoadedProject.{LoadedProject}
 use Rattle.declared_set.specs.declared.slots.Common.{Common}
 
 -- what all slots of a service have in common: by the slots of each service, the project's networks, and whether the service's completion
@@ -37,17 +38,17 @@ common_of project scales digests service =
     (is_awaited scales project.services service.key) digests service
 
 -- the slot of a service with a number
-abbrev pub slot_with : Project → Service → Common → ℕ → Slot
-slot_with project service common number = record {
+abbrev pub slot_with : LoadedProject → Service → Common → ℕ → Slot
+slot_with loaded service common number = record {
   service = service.key;
   number = number;
-  name = name_of project.name service number;
+  name = name_of loaded.project.name service number;
   image = common.image;
   policy = policy_of service;
   has_build = has_build service;
   hash = common.hash;
   old_hash = common.old_hash;
-  spec = container_spec project service (container_labels project.name service common.hash number) common.image;
+  spec = container_spec loaded.project service (container_labels loaded service common.hash number) common.image;
   attach = common.attach;
   needs = common.needs;
   goal = common.goal;
@@ -55,11 +56,11 @@ slot_with project service common number = record {
 }
 
 -- the slots of a service, which are numbered from one
-abbrev pub slots_in : Project → List Scale → List FileDigest → Service → List Slot
-slots_in project scales digests service =
-    map (slot_with project service (common_of project scales digests service))
+abbrev pub slots_in : LoadedProject → List Scale → List FileDigest → Service → List Slot
+slots_in loaded scales digests service =
+    map (slot_with loaded service (common_of loaded.project scales digests service))
     (range_with_len 1 (scale_of scales service))
 
 -- the slots of a project, service by service
-abbrev pub slots_of : Project → List Scale → List FileDigest → List Slot
-slots_of project scales digests = flat_map (slots_in project scales digests) project.services
+abbrev pub slots_of : LoadedProject → List Scale → List FileDigest → List Slot
+slots_of loaded scales digests = flat_map (slots_in loaded scales digests) loaded.project.services

@@ -4,6 +4,7 @@ ghost use Rattle.typed_project.specs.DistinctNames.{IsKeyed};
 ghost use Rattle.declared_set.specs.Declaring.{declared, declared_of, wants_memory};
 ghost use Rattle.declared_slots.specs.Counts.{ranges_of};
 
+use crate::loaded_project::LoadedProject;
 use crate::refusal::IdentityRefusal;
 use crate::refusing::refusal_of;
 use crate::services::services_of;
@@ -14,43 +15,45 @@ use engine_types::Declared;
 use service_hashes::FileDigest;
 use std::alloc::Global;
 use tree_base::{Memory, TextMap};
-use typed_project::Project;
 
-/// What a project declares, where services have the numbers of `--scale` and its files these digests (Compose Specification; the names
-/// and labels of Docker Compose). The refusals, in their order: `UnknownScale` for the first number that is of no service,
-/// `TooManyNeeds` for more than 4,000,000 needs of all slots, and `NameTwice` for the least name that two containers have.
+/// What a project declares that was loaded so, where services have the numbers of `--scale` and its files these digests (Compose
+/// Specification; the names and labels of Docker Compose). The refusals, in their order: `UnknownScale` for the first number that is
+/// of no service, `TooManyNeeds` for more than 4,000,000 needs of all slots, and `NameTwice` for the least name that two containers
+/// have.
 pub fn declare(
     alloc: Global,
-    project: &Project,
+    loaded: &LoadedProject,
     scales: &[Scale],
     digests: &[FileDigest],
 ) -> Result<Declared, IdentityRefusal>
-    requires { IsKeyed project.now }
-    ensures { Gives wants_memory result (declared project.now scales.now digests.now) }
+    requires { IsKeyed loaded.now.project }
+    ensures { Gives wants_memory result (declared loaded.now scales.now digests.now) }
 {
+    let project = &loaded.project;
     let ranges = ranges(alloc, scales, project.services.as_slice())?;
     match refusal_of(alloc, project, scales, &ranges)? {
         Some(refusal) => Err(refusal),
-        None => Ok(declared_of(alloc, project, scales, digests, &ranges)?),
+        None => Ok(declared_of(alloc, loaded, scales, digests, &ranges)?),
     }
 }
 
 /// What a project declares that isn't refused, where these are the slots of its services.
 fn declared_of(
     alloc: Global,
-    project: &Project,
+    loaded: &LoadedProject,
     scales: &[Scale],
     digests: &[FileDigest],
     ranges: &TextMap<Range>,
 ) -> Result<Declared, Memory>
-    requires keyed { IsKeyed project.now }
-    requires ranges { ranges.now ≡ ranges_of scales.now project.now.services }
-    ensures { IfOk result (λ declared. declared ≡ declared_of project.now scales.now digests.now) }
+    requires keyed { IsKeyed loaded.now.project }
+    requires ranges { ranges.now ≡ ranges_of scales.now loaded.now.project.services }
+    ensures { IfOk result (λ declared. declared ≡ declared_of loaded.now scales.now digests.now) }
 {
+    let project = &loaded.project;
     let awaited = awaited(alloc, scales, project.services.as_slice())?;
     let networks = networks(alloc, project)?;
     let ground = Ground {
-        project,
+        loaded,
         ranges,
         networks: networks.as_slice(),
         awaited: &awaited,

@@ -1,7 +1,9 @@
 ghost use Rattle.std.specs.Prelude.{◌≡◌, IfOk, OnOk, decimal};
-ghost use Rattle.declared_set.specs.Labels.{container_labels, with_dependencies, with_known};
+ghost use Rattle.declared_set.specs.Labels.{container_labels, with_dependencies, with_known, with_origin};
 
 use crate::dependencies::depends_on_text;
+use crate::loaded_project::LoadedProject;
+use crate::origin::config_files_text;
 use declared_resources::labels::{in_byte_order, own_labels, put_label, variables_of};
 use engine_types::{Pairs, labels};
 use std::alloc::Global;
@@ -10,22 +12,37 @@ use typed_project::Service;
 
 /// What a container's service depends on: of Docker Compose, which stops containers in that order where it reads no file.
 const DEPENDS_ON: &str = "com.docker.compose.depends_on";
+/// The Compose files of the container's project: of Docker Compose, which shows them where it lists projects.
+const CONFIG_FILES: &str = "com.docker.compose.project.config_files";
+/// The directory of the container's project: of Docker Compose.
+const WORKING_DIR: &str = "com.docker.compose.project.working_dir";
 
 /// The labels of a service's container with a number, in byte order of their names.
 pub(crate) fn container_labels(
     alloc: Global,
-    project: &Text,
+    loaded: &LoadedProject,
     service: &Service,
     hash: &Text,
     number: u32,
 ) -> Result<Pairs, Memory>
     ensures { IfOk result (λ labels. labels
-        ≡ container_labels project.now service.now hash.now number) }
+        ≡ container_labels loaded.now service.now hash.now number) }
 {
     let mut labels = own_labels(alloc, service.labels())?;
+    put_origin(alloc, &mut labels, loaded)?;
     put_dependencies(alloc, &mut labels, service)?;
-    put_known(alloc, &mut labels, project, &service.key, hash, number)?;
+    let name = &loaded.project.name;
+    put_known(alloc, &mut labels, name, &service.key, hash, number)?;
     in_byte_order(variables_of(alloc, &labels)?)
+}
+
+/// Puts the files and the directory that a project was loaded from in place of labels of their names.
+fn put_origin(alloc: Global, labels: &mut Env, loaded: &LoadedProject) -> Result<(), Memory>
+    ensures { OnOk result (labels.new ≡ with_origin loaded.now labels.old) }
+{
+    let files = config_files_text(alloc, loaded.files.as_slice())?;
+    put_label(alloc, labels, CONFIG_FILES, files.as_str())?;
+    put_label(alloc, labels, WORKING_DIR, loaded.directory.as_str())
 }
 
 /// Puts what a service depends on in place of a label of that name.

@@ -8,6 +8,7 @@ ghost use Rattle.declared_set.specs.Labels.{container_labels};
 ghost use Rattle.declared_set.specs.Slots.{common_with, slot_with, slots_in, slots_of};
 
 use crate::labels::container_labels;
+use crate::loaded_project::LoadedProject;
 use crate::refusing::number_behind;
 use container_specs::container_spec;
 use declared_slots::{
@@ -19,7 +20,7 @@ use service_attaches::attaches;
 use service_hashes::{FileDigest, hash, old_hash};
 use std::alloc::Global;
 use tree_base::{Boxed, List, Memory, Text, TextMap, TryCopy};
-use typed_project::{Project, Service};
+use typed_project::Service;
 
 /// What all slots of a service have in common.
 #[derive(Drop)]
@@ -35,7 +36,7 @@ pub struct Common {
 /// What the slots of all services are made of.
 #[derive(Clone, Copy)]
 pub(crate) struct Ground<'g> {
-    pub project: &'g Project,
+    pub loaded: &'g LoadedProject,
     /// The slots of each service.
     pub ranges: &'g TextMap<Range>,
     /// The networks that the project declares.
@@ -51,13 +52,13 @@ pub(crate) fn slots_of(
     scales: &[Scale],
     ground: &Ground,
 ) -> Result<List<Slot>, Memory>
-    requires keyed { IsKeyed ground.now.project.now }
+    requires keyed { IsKeyed ground.now.loaded.now.project }
     requires ground { IsGround scales.now ground.now }
     ensures { IfOk result (λ slots. slots
-        ≡ slots_of ground.now.project.now scales.now ground.now.digests.now) }
+        ≡ slots_of ground.now.loaded.now scales.now ground.now.digests.now) }
 {
     let mut slots = List::new(alloc);
-    let services = ground.project.services.as_slice();
+    let services = ground.loaded.project.services.as_slice();
     for service in services {
         put_slots_in(alloc, scales, ground, service, &mut slots)?;
     }
@@ -75,11 +76,11 @@ fn put_slots_in(
     requires names { HaveDistinctNames service.now.attributes }
     requires ground { IsGround scales.now ground.now }
     ensures { OnOk result (slots.new ≡ slots.old
-        ++ slots_in ground.now.project.now scales.now ground.now.digests.now service.now) }
+        ++ slots_in ground.now.loaded.now scales.now ground.now.digests.now service.now) }
 {
     let count = scale(scales, service)?;
     let common = common_of(alloc, ground, service)?;
-    put_slots(alloc, ground.project, service, &common, count, slots)?;
+    put_slots(alloc, ground.loaded, service, &common, count, slots)?;
     Ok(())
 }
 
@@ -87,15 +88,16 @@ fn put_slots_in(
 fn common_of(alloc: Global, ground: &Ground, service: &Service) -> Result<Common, Memory>
     requires names { HaveDistinctNames service.now.attributes }
     ensures { IfOk result (λ common. common ≡ common_with
-        ground.now.project.now ground.now.ranges.now ground.now.networks.now
+        ground.now.loaded.now.project ground.now.ranges.now ground.now.networks.now
         (is_in ground.now.awaited.now.keys service.now.key) ground.now.digests.now service.now) }
 {
+    let project = &ground.loaded.project;
     let awaited = ground.awaited.contains(&service.key);
     Ok(Common {
-        image: image(alloc, &ground.project.name, service)?,
+        image: image(alloc, &project.name, service)?,
         hash: hash(alloc, service, ground.digests)?,
         old_hash: old_hash(alloc, service)?,
-        attach: attaches(alloc, ground.networks, ground.project, service)?,
+        attach: attaches(alloc, ground.networks, project, service)?,
         needs: needs(alloc, ground.ranges, service)?,
         goal: goal(awaited, service),
     })
@@ -104,18 +106,18 @@ fn common_of(alloc: Global, ground: &Ground, service: &Service) -> Result<Common
 /// Puts so many slots of a service last.
 fn put_slots(
     alloc: Global,
-    project: &Project,
+    loaded: &LoadedProject,
     service: &Service,
     common: &Common,
     count: u32,
     slots: &mut List<Slot>,
 ) -> Result<(), Memory>
     ensures { OnOk result (slots.new ≡ slots.old
-        ++ map (slot_with project.now service.now common.now) (range_with_len 1 count)) }
+        ++ map (slot_with loaded.now service.now common.now) (range_with_len 1 count)) }
 {
     for before in 0..count {
         let number = number_behind(before)?;
-        slots.push(slot_with(alloc, project, service, common, number)?)?;
+        slots.push(slot_with(alloc, loaded, service, common, number)?)?;
     }
     Ok(())
 }
@@ -123,15 +125,15 @@ fn put_slots(
 /// The slot of a service with a number.
 fn slot_with(
     alloc: Global,
-    project: &Project,
+    loaded: &LoadedProject,
     service: &Service,
     common: &Common,
     number: u32,
 ) -> Result<Slot, Memory>
-    ensures { IfOk result (λ slot. slot ≡ slot_with project.now service.now common.now number) }
+    ensures { IfOk result (λ slot. slot ≡ slot_with loaded.now service.now common.now number) }
 {
-    let spec = spec_with(alloc, project, service, common, number)?;
-    let name = name(alloc, &project.name, service, number)?;
+    let spec = spec_with(alloc, loaded, service, common, number)?;
+    let name = name(alloc, &loaded.project.name, service, number)?;
     Ok(Slot {
         service: service.key.copy(alloc)?,
         number,
@@ -152,16 +154,17 @@ fn slot_with(
 /// What the Engine is sent of a service's container with a number.
 fn spec_with(
     alloc: Global,
-    project: &Project,
+    loaded: &LoadedProject,
     service: &Service,
     common: &Common,
     number: u32,
 ) -> Result<Boxed<ContainerSpec>, Memory>
-    ensures { IfOk result (λ spec. spec ≡ container_spec project.now service.now
-        (container_labels project.now.name service.now common.now.hash number) common.now.image) }
+    ensures { IfOk result (λ spec. spec ≡ container_spec loaded.now.project service.now
+        (container_labels loaded.now service.now common.now.hash number) common.now.image) }
 {
-    let labels = container_labels(alloc, &project.name, service, &common.hash, number)?;
-    let spec = container_spec(alloc, project, service, labels, common.image.as_str())?;
+    let labels = container_labels(alloc, loaded, service, &common.hash, number)?;
+    let image = common.image.as_str();
+    let spec = container_spec(alloc, &loaded.project, service, labels, image)?;
     Boxed::new(alloc, spec)
 }
 

@@ -10,7 +10,7 @@ use Rattle.declared_set.proofs.declaring.declare.Goals as goal
 pub ranges-requires : goal.ranges-requires
 ranges-requires c =
     subst (λ (services : List Service). IsDistinct bytes_eq (map (λ (service : Service). service.key) services)) (sym c.as_slice.ensures)
-    (ascending_differ (λ (service : Service). service.key) c.args.project.now.services c.requires.order.services)
+    (ascending_differ (λ (service : Service). service.key) c.args.loaded.now.project.services c.requires.order.services)
 
 pub refusal_of-requires-clause-keys : goal.refusal_of-requires-clause-keys
 refusal_of-requires-clause-keys c =
