@@ -10,7 +10,8 @@ use Rattle.std.specs.declared.cmp.Ordering.TheVariants.{Less, Equal, Greater}
 use Rattle.std.proofs.lemmas.Map.Text.{is_eq-slice_cmp}
 use Rattle.std.proofs.lemmas.Slice.Eq.{bytes_eq-Decides}
 use Rattle.declared_resources.specs.Resources.{variable_of}
-use Rattle.declared_set.specs.Labels.{container_labels, own_labels, with_dependencies, with_known}
+use Rattle.declared_set.specs.Labels.{config_files_label, config_files_text, container_labels, depends_on_label, depends_on_text, own_labels, with_dependencies, with_known, with_origin, working_dir_label}
+use Rattle.declared_set.specs.declared.LoadedProject.{LoadedProject}
 use Rattle.engine_types.specs.Labels as the
 use Rattle.engine_types.specs.Labels.{label}
 use Rattle.engine_types.specs.declared.Slot.{Slot}
@@ -22,6 +23,7 @@ use Rattle.tree_base.specs.Entries.{value_at, with_entry}
 use Rattle.tree_base.specs.declared.Var.{Var}
 use Rattle.typed_project.specs.declared.service.Service.{Service}
 use Rattle.declared_laws.proofs.Firsts.{not_same, same_text}
+use Rattle.declared_laws.specs.Laws.{SayOrigin}
 
 -- no text stands before itself
 pub not_before_itself : (t : List ℕ) → is_before t t ≡ false
@@ -92,21 +94,27 @@ put_seen (entry ∷ entries) key value name = at (bytes_eq key entry.0) refl (pu
         twice (bytes_eq name entry.0) ∙ sym (ap (λ t. cond (bytes_eq name t) (Some value) (cond (bytes_eq name entry.0) (Some entry.1) (value_at entries name))) same)
     at false e rest = ap (λ o. cond (bytes_eq name entry.0) (Some entry.1) o) rest ∙ swapped e (bytes_eq name entry.0) (bytes_eq name key) refl refl
 
-module _ (project : List ℕ) (service : Service) (hash : List ℕ) (number : ℕ) where
+module _ (loaded : LoadedProject) (service : Service) (hash : List ℕ) (number : ℕ) where
+  abbrev filed : List (List ℕ × List ℕ)
+  filed = with_entry (own_labels service) config_files_label (config_files_text loaded.files)
+
+  abbrev homed : List (List ℕ × List ℕ)
+  homed = with_origin loaded (own_labels service)
+
   abbrev given : List (List ℕ × List ℕ)
-  given = with_dependencies service (own_labels service)
+  given = with_dependencies service homed
 
   abbrev all : List (List ℕ × List ℕ)
-  all = with_known project service.key hash number given
+  all = with_known loaded.project.name service.key hash number given
 
   abbrev labels : List Var
-  labels = container_labels project service hash number
+  labels = container_labels loaded service hash number
 
   seen : (name : List ℕ) → label labels name ≡ value_at all name
   seen name = ap (option_map (λ (pair : Var). pair.value)) (find-by_key (λ (v : Var). v.name) name (map variable_of all)) ∙ label_of all name
 
   abbrev first : List (List ℕ × List ℕ)
-  first = with_entry given the.project_label project
+  first = with_entry given the.project_label loaded.project.name
 
   abbrev second : List (List ℕ × List ℕ)
   second = with_entry first the.service_label service.key
@@ -142,11 +150,26 @@ module _ (project : List ℕ) (service : Service) (hash : List ℕ) (number : �
       ∙ put_seen third the.hash_label hash the.service_label ∙ put_seen second the.number_label (decimal number) the.service_label
       ∙ put_seen first the.service_label service.key the.service_label
 
-  project_is : label labels the.project_label ≡ Some project
+  project_is : label labels the.project_label ≡ Some loaded.project.name
   project_is =
       seen the.project_label ∙ put_seen fifth the.oneoff_label the.not_oneoff the.project_label ∙ put_seen fourth the.version_label the.hash_version the.project_label
       ∙ put_seen third the.hash_label hash the.project_label ∙ put_seen second the.number_label (decimal number) the.project_label
-      ∙ put_seen first the.service_label service.key the.project_label ∙ put_seen given the.project_label project the.project_label
+      ∙ put_seen first the.service_label service.key the.project_label ∙ put_seen given the.project_label loaded.project.name the.project_label
+
+  config_files_is : label labels config_files_label ≡ Some (config_files_text loaded.files)
+  config_files_is =
+      seen config_files_label ∙ put_seen fifth the.oneoff_label the.not_oneoff config_files_label ∙ put_seen fourth the.version_label the.hash_version config_files_label
+      ∙ put_seen third the.hash_label hash config_files_label ∙ put_seen second the.number_label (decimal number) config_files_label
+      ∙ put_seen first the.service_label service.key config_files_label ∙ put_seen given the.project_label loaded.project.name config_files_label
+      ∙ put_seen homed depends_on_label (depends_on_text service) config_files_label ∙ put_seen filed working_dir_label loaded.directory config_files_label
+      ∙ put_seen (own_labels service) config_files_label (config_files_text loaded.files) config_files_label
+
+  working_dir_is : label labels working_dir_label ≡ Some loaded.directory
+  working_dir_is =
+      seen working_dir_label ∙ put_seen fifth the.oneoff_label the.not_oneoff working_dir_label ∙ put_seen fourth the.version_label the.hash_version working_dir_label
+      ∙ put_seen third the.hash_label hash working_dir_label ∙ put_seen second the.number_label (decimal number) working_dir_label
+      ∙ put_seen first the.service_label service.key working_dir_label ∙ put_seen given the.project_label loaded.project.name working_dir_label
+      ∙ put_seen homed depends_on_label (depends_on_text service) working_dir_label ∙ put_seen filed working_dir_label loaded.directory working_dir_label
 
   has_value : (name value : List ℕ) → label labels name ≡ Some value → has_label labels name value ≡ true
   has_value name value e = ap (λ o. option_map_or (bytes_eq value) o false) e ∙ same_text value
@@ -156,12 +179,12 @@ module _ (project : List ℕ) (service : Service) (hash : List ℕ) (number : �
   both false c e f = absurd (cc e)
 
   -- the labels are those of a slot of this service and number
-  pub labels_of_slot : (slot : Slot) → slot.service ≡ service.key → slot.number ≡ number → is_of_slot project slot labels ≡ true
+  pub labels_of_slot : (slot : Slot) → slot.service ≡ service.key → slot.number ≡ number → is_of_slot loaded.project.name slot labels ≡ true
   labels_of_slot slot e f =
-      both (has_label labels the.project_label project && has_label labels the.oneoff_label the.not_oneoff)
+      both (has_label labels the.project_label loaded.project.name && has_label labels the.oneoff_label the.not_oneoff)
       (has_label labels the.service_label slot.service && has_label labels the.number_label (decimal slot.number))
-      (both (has_label labels the.project_label project) (has_label labels the.oneoff_label the.not_oneoff)
-      (has_value the.project_label project project_is) (has_value the.oneoff_label the.not_oneoff oneoff_is))
+      (both (has_label labels the.project_label loaded.project.name) (has_label labels the.oneoff_label the.not_oneoff)
+      (has_value the.project_label loaded.project.name project_is) (has_value the.oneoff_label the.not_oneoff oneoff_is))
       (both (has_label labels the.service_label slot.service) (has_label labels the.number_label (decimal slot.number))
       (has_value the.service_label slot.service (service_is ∙ ap Some (sym e)))
       (has_value the.number_label (decimal slot.number) (number_is ∙ ap (λ n. Some (decimal n)) (sym f))))
@@ -171,3 +194,10 @@ module _ (project : List ℕ) (service : Service) (hash : List ℕ) (number : �
   labels_have_hash slot e =
       ap (λ b. has_label labels the.hash_label (cond b slot.hash slot.old_hash)) (has_value the.version_label the.hash_version version_is)
       ∙ has_value the.hash_label slot.hash (hash_is ∙ ap Some (sym e))
+
+  -- and they say the files and the directory of the project
+  pub labels_say_origin : SayOrigin loaded labels
+  labels_say_origin = (
+    has_value config_files_label (config_files_text loaded.files) config_files_is,
+    has_value working_dir_label loaded.directory working_dir_is,
+  )

@@ -10,6 +10,7 @@ use Rattle.compose_words.specs.declared.options.Scale.{Scale}
 use Rattle.declared_set.specs.Declaring.{declared, declared_of, unless_refused}
 use Rattle.declared_set.specs.Refusing.{names_in, names_of, refusal_of, too_many}
 use Rattle.declared_set.specs.Slots.{slots_in, slots_of}
+use Rattle.declared_set.specs.declared.LoadedProject.{LoadedProject}
 use Rattle.declared_set.specs.declared.refusal.IdentityRefusal.{IdentityRefusal}
 use Rattle.declared_slots.specs.Counts.{ranges_of, scale_of}
 use Rattle.declared_slots.specs.Named.{name_of}
@@ -45,27 +46,27 @@ given_is : (all given : Declared) (refusal : Option IdentityRefusal) → unless_
 given_is all given None e = (refl, cc e)
 given_is all given (Some refusal) e = absurd (cc e)
 
-module _ (project : Project) (scales : List Scale) (digests : List FileDigest) where
-  names_on : (service : Service) (numbers : List ℕ) → map (λ (slot : Slot). slot.name) (map (slot_of project scales digests service) numbers) ≡ map (name_of project.name service) numbers
+module _ (loaded : LoadedProject) (scales : List Scale) (digests : List FileDigest) where
+  names_on : (service : Service) (numbers : List ℕ) → map (λ (slot : Slot). slot.name) (map (slot_of loaded scales digests service) numbers) ≡ map (name_of loaded.project.name service) numbers
   names_on service [] = refl
-  names_on service (n ∷ numbers) = ap (λ (names : List (List ℕ)). name_of project.name service n ∷ names) (names_on service numbers)
+  names_on service (n ∷ numbers) = ap (λ (names : List (List ℕ)). name_of loaded.project.name service n ∷ names) (names_on service numbers)
 
   -- the names of the slots are the names that are looked at
-  names_are : (services : List Service) → map (λ (slot : Slot). slot.name) (flat_map (slots_in project scales digests) services) ≡ flat_map (names_in project scales) services
+  names_are : (services : List Service) → map (λ (slot : Slot). slot.name) (flat_map (slots_in loaded scales digests) services) ≡ flat_map (names_in loaded.project scales) services
   names_are [] = refl
   names_are (service ∷ services) =
-      map-append (λ (slot : Slot). slot.name) (slots_in project scales digests service) (flat_map (slots_in project scales digests) services)
-      ∙ ap (λ (names : List (List ℕ)). names ++ map (λ (slot : Slot). slot.name) (flat_map (slots_in project scales digests) services)) (names_on service (range_with_len 1 (scale_of scales service)))
-      ∙ ap (λ (names : List (List ℕ)). names_in project scales service ++ names) (names_are services)
+      map-append (λ (slot : Slot). slot.name) (slots_in loaded scales digests service) (flat_map (slots_in loaded scales digests) services)
+      ∙ ap (λ (names : List (List ℕ)). names ++ map (λ (slot : Slot). slot.name) (flat_map (slots_in loaded scales digests) services)) (names_on service (range_with_len 1 (scale_of scales service)))
+      ∙ ap (λ (names : List (List ℕ)). names_in loaded.project scales service ++ names) (names_are services)
 
-  pub given_names_differ : (given : Declared) → declared project scales digests ≡ Ok given → IsDistinct bytes_eq (map (λ slot. slot.name) given.slots)
+  pub given_names_differ : (given : Declared) → declared loaded scales digests ≡ Ok given → IsDistinct bytes_eq (map (λ slot. slot.name) given.slots)
   given_names_differ given e =
-      let r = given_is (declared_of project scales digests) given (refusal_of project scales) e in
-      let later = second_none (option_map IdentityRefusal.UnknownScale (unknown_scale scales (map (λ (s : Service). s.key) project.services))) _ r.0 in
-      let last = second_none (too_many (need_count (ranges_of scales project.services) project.services)) _ later in
-      let none = none_mapped IdentityRefusal.NameTwice (twice_named (names_of project scales)) last in
+      let r = given_is (declared_of loaded scales digests) given (refusal_of loaded.project scales) e in
+      let later = second_none (option_map IdentityRefusal.UnknownScale (unknown_scale scales (map (λ (s : Service). s.key) loaded.project.services))) _ r.0 in
+      let last = second_none (too_many (need_count (ranges_of scales loaded.project.services) loaded.project.services)) _ later in
+      let none = none_mapped IdentityRefusal.NameTwice (twice_named (names_of loaded.project scales)) last in
       subst (λ (d : Declared). IsDistinct bytes_eq (map (λ (slot : Slot). slot.name) d.slots)) r.1
-      (up_is_distinct (map (λ (slot : Slot). slot.name) (slots_of project scales digests)) (subst (λ (names : List (List ℕ)). Up (differ (λ t. t)) names) (sym (names_are project.services)) (none_twice (names_of project scales) none)))
+      (up_is_distinct (map (λ (slot : Slot). slot.name) (slots_of loaded scales digests)) (subst (λ (names : List (List ℕ)). Up (differ (λ t. t)) names) (sym (names_are loaded.project.services)) (none_twice (names_of loaded.project scales) none)))
 
 module _ (project : Project) (scales : List Scale) (few : AreNumbered scales project.services)
     (unnamed : (service : Service) → Among project.services service → IsUnnamed service) where

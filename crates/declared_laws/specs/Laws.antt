@@ -1,18 +1,22 @@
 -- What holds of the declared set of each project.
-use Rattle.std.specs.Prelude.{◌≡◌, ◌↔◌, ℕ, ◌<◌, ◌^◌, List, None, Ok, codes, map}
+use Rattle.std.specs.Prelude.{◌≡◌, ◌↔◌, ℕ, ◌<◌, ◌^◌, true, List, None, Ok, codes, map}
 use Rattle.std.specs.List.{IsDistinct}
 use Rattle.std.specs.Str.{bytes_eq}
 use Rattle.attribute_types.specs.Lookups.{text_at}
 use Rattle.compose_words.specs.declared.options.Scale.{Scale}
 use Rattle.declared_set.specs.Declaring.{declared, declared_of}
+use Rattle.declared_set.specs.Labels.{config_files_label, config_files_text, working_dir_label}
 use Rattle.declared_set.specs.Refusing.{names_of}
+use Rattle.declared_set.specs.declared.LoadedProject.{LoadedProject}
 use Rattle.declared_slots.specs.Counts.{scale_of}
 use Rattle.declared_slots.specs.Named.{name_of}
 use Rattle.declared_slots.specs.Refusing.{twice_named}
 use Rattle.engine_types.specs.declared.declared.Declared.{Declared}
-use Rattle.run_model.specs.EngineRules.{Among}
+use Rattle.engine_types.specs.declared.declared.Slot.{Slot}
+use Rattle.run_model.specs.EngineRules.{Among, has_label}
 use Rattle.run_model.specs.Plans.{IsWhole}
 use Rattle.service_hashes.specs.declared.digest.FileDigest.{FileDigest}
+use Rattle.tree_base.specs.declared.Var.{Var}
 use Rattle.typed_project.specs.Projects.{IsInOrder}
 use Rattle.typed_project.specs.declared.project.Project.{Project}
 use Rattle.typed_project.specs.declared.service.Service.{Service}
@@ -21,8 +25,8 @@ use Rattle.world_laws.specs.OwnSpecs.{HasOwnSpecs}
 -- what a project declares whose services stand in byte order of their keys is a whole declared set
 abbrev pub DeclaredSetsAreWhole : Type 0
 DeclaredSetsAreWhole =
-    (project : Project) (scales : List Scale) (digests : List FileDigest)
-    → IsInOrder project.services → IsWhole (declared_of project scales digests)
+    (loaded : LoadedProject) (scales : List Scale) (digests : List FileDigest)
+    → IsInOrder loaded.project.services → IsWhole (declared_of loaded scales digests)
 
 -- 32 bits number the containers of each service
 abbrev pub AreNumbered : List Scale → List Service → Type 0
@@ -32,8 +36,20 @@ AreNumbered scales services =
 -- what the Engine is sent for each slot is made for it: it has the slot's labels, its hash and its image, and begins on its first network
 abbrev pub SpecsAreTheirSlots : Type 0
 SpecsAreTheirSlots =
-    (project : Project) (scales : List Scale) (digests : List FileDigest)
-    → AreNumbered scales project.services → HasOwnSpecs (declared_of project scales digests)
+    (loaded : LoadedProject) (scales : List Scale) (digests : List FileDigest)
+    → AreNumbered scales loaded.project.services → HasOwnSpecs (declared_of loaded scales digests)
+
+-- labels say from which Compose files and in which directory a project was loaded, by the names that Docker Compose gives these
+abbrev pub SayOrigin : LoadedProject → List Var → Type 0
+SayOrigin loaded labels =
+    (has_label labels config_files_label (config_files_text loaded.files) ≡ true)
+    × (has_label labels working_dir_label loaded.directory ≡ true)
+
+-- the container of each slot says so, whatever labels its service has
+abbrev pub SlotsSayTheirOrigin : Type 0
+SlotsSayTheirOrigin =
+    (loaded : LoadedProject) (scales : List Scale) (digests : List FileDigest) (slot : Slot)
+    → Among (declared_of loaded scales digests).slots slot → SayOrigin loaded slot.spec.labels
 
 -- a service gives its containers no name of its own (the Compose Specification, `container_name`)
 abbrev pub IsUnnamed : Service → Type 0
@@ -50,8 +66,8 @@ NamesTellSlots =
 -- the names of all slots differ, in each declared set that isn't refused
 abbrev pub DeclaredNamesDiffer : Type 0
 DeclaredNamesDiffer =
-    (project : Project) (scales : List Scale) (digests : List FileDigest) (given : Declared)
-    → declared project scales digests ≡ Ok given
+    (loaded : LoadedProject) (scales : List Scale) (digests : List FileDigest) (given : Declared)
+    → declared loaded scales digests ≡ Ok given
     → IsDistinct bytes_eq (map (λ slot. slot.name) given.slots)
 
 -- no name is told to stand twice exactly where all names differ

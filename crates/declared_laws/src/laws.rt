@@ -1,4 +1,4 @@
-ghost use Rattle.declared_laws.specs.Laws.{DeclaredNamesDiffer, DeclaredSetsAreWhole, NamesTellSlots, SpecsAreTheirSlots, TwiceIsToldOfTwins, UnnamedAreNotRefused};
+ghost use Rattle.declared_laws.specs.Laws.{DeclaredNamesDiffer, DeclaredSetsAreWhole, NamesTellSlots, SlotsSayTheirOrigin, SpecsAreTheirSlots, TwiceIsToldOfTwins, UnnamedAreNotRefused};
 
 /// The law that what a project declares is a whole declared set: slots, services, networks and volumes stand in their order, each slot
 /// is of a declared service, what it attaches to and needs is there, and it waits for no other one to run. Nothing runs.
@@ -10,6 +10,12 @@ pub fn declared_sets_are_whole()
 /// 32 bits number the containers of each service. Nothing runs.
 pub fn specs_are_their_slots()
     ensures { SpecsAreTheirSlots }
+{}
+
+/// The law that what the Engine is sent for a slot says by labels from which Compose files and in which directory the project was loaded,
+/// whatever labels its service has. Nothing runs.
+pub fn slots_say_their_origin()
+    ensures { SlotsSayTheirOrigin }
 {}
 
 /// The law that a name of project, service and number tells the service and the number. Nothing runs.

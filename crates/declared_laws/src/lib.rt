@@ -8,7 +8,7 @@ mod laws;
 mod numbers;
 
 pub use laws::{
-    declared_names_differ, declared_sets_are_whole, names_tell_slots, specs_are_their_slots,
-    twice_is_told_of_twins, unnamed_are_not_refused,
+    declared_names_differ, declared_sets_are_whole, names_tell_slots, slots_say_their_origin,
+    specs_are_their_slots, twice_is_told_of_twins, unnamed_are_not_refused,
 };
 pub use numbers::numbered;
