@@ -6,7 +6,7 @@ use Rattle.declared_orders.proofs.Places.{needs_dependencies}
 use Rattle.declared_orders.proofs.laws.projects_can_be_run.Goals as goal
 
 pub returns : goal.returns
-returns c project scales digests seen orphans volumes order numbered none =
-    c.runs_are_orderly.ensures (declared_of project scales digests) seen orphans volumes (declares_whole project scales digests order)
-    (λ slot m. (declares_own project scales digests numbered slot m).number) (none_declared project scales digests order none)
-    (needs_dependencies project scales digests)
+returns c loaded scales digests seen orphans volumes order numbered none =
+    c.runs_are_orderly.ensures (declared_of loaded scales digests) seen orphans volumes (declares_whole loaded scales digests order)
+    (λ slot m. (declares_own loaded scales digests numbered slot m).number) (none_declared loaded scales digests order none)
+    (needs_dependencies loaded scales digests)
