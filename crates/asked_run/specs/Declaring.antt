@@ -6,6 +6,7 @@ use Rattle.compose_words.specs.declared.Command.{Command}
 use Rattle.compose_words.specs.declared.options.Scale.{Scale}
 use Rattle.declared_set.specs.Declaring.{declared}
 use Rattle.declared_set.specs.declared.IdentityRefusal.{IdentityRefusal}
+use Rattle.declared_set.specs.declared.LoadedProject.{LoadedProject}
 use Rattle.engine_types.specs.declared.Declared.{Declared}
 use Rattle.file_digests.specs.Digests.{AreDigested, Given, empty_digests}
 use Rattle.file_digests.specs.declared.DigestRefusal.{DigestRefusal}
@@ -33,18 +34,18 @@ abbrev pub declared_or_refused : Result Declared IdentityRefusal → Result Decl
 declared_or_refused (Ok declared) = Ok declared
 declared_or_refused (Err refusal) = Err (identity_refusal refusal)
 
--- what a project declares with these numbers of `--scale` and these digests of its files
-abbrev pub declared_in : List Scale → Project → List FileDigest → Result Declared Refusal
-declared_in scales project digests =
-    declared_or_refused (declared project scales digests)
+-- what a project declares that was loaded so, with these numbers of `--scale` and these digests of its files
+abbrev pub declared_in : List Scale → LoadedProject → List FileDigest → Result Declared Refusal
+declared_in scales loaded digests =
+    declared_or_refused (declared loaded scales digests)
 
 -- what it declares for a command
-abbrev pub declared_with : Command → Project → List FileDigest → Result Declared Refusal
-declared_with command project digests = declared_in (scales_of command) project digests
+abbrev pub declared_with : Command → LoadedProject → List FileDigest → Result Declared Refusal
+declared_with command loaded digests = declared_in (scales_of command) loaded digests
 
 -- what it declares by what is given of the digests: a refusal of these comes first
-abbrev pub declared_by : Command → Project → Given → Result Declared Refusal
-declared_by command project given = digests_or_refused given >>= declared_with command project
+abbrev pub declared_by : Command → LoadedProject → Given → Result Declared Refusal
+declared_by command loaded given = digests_or_refused given >>= declared_with command loaded
 
 -- whether the files of configs and secrets are read for a command: `up` alone needs their digests
 abbrev pub reads_digests : Command → Bool
@@ -59,21 +60,21 @@ AreDigests told (Command.Up orphans wait seconds scale) project given =
 AreDigests told command project given = given ≡ Ok (empty_digests project)
 
 -- some answers of reads give this: what the project declares, or the refusal; the answers are the files' where these are told
-abbrev pub Declares : Option Contents → Command → Project → Result Declared Refusal → Type 0
-Declares told command project result =
-    (given : Given) × AreDigests told command project given
-    × (result ≡ declared_by command project given)
+abbrev pub Declares : Option Contents → Command → LoadedProject → Result Declared Refusal → Type 0
+Declares told command loaded result =
+    (given : Given) × AreDigests told command loaded.project given
+    × (result ≡ declared_by command loaded given)
 
 -- some answers of reads give digests by which the project declares this
-abbrev pub IsDeclared : Option Contents → Command → Project → Declared → Type 0
-IsDeclared told command project declared =
-    (digests : List FileDigest) × AreDigests told command project (Ok digests)
-    × (declared_with command project digests ≡ Ok declared)
+abbrev pub IsDeclared : Option Contents → Command → LoadedProject → Declared → Type 0
+IsDeclared told command loaded declared =
+    (digests : List FileDigest) × AreDigests told command loaded.project (Ok digests)
+    × (declared_with command loaded digests ≡ Ok declared)
 
--- what a project declares for a command where its files hold these bytes, or the first refusal
-abbrev pub declared_from : Contents → Command → Project → Result Declared Refusal
-declared_from files command project =
-    declared_by command project (digests_for files command project)
+-- what a project that was loaded so declares for a command where its files hold these bytes, or the first refusal
+abbrev pub declared_from : Contents → Command → LoadedProject → Result Declared Refusal
+declared_from files command loaded =
+    declared_by command loaded (digests_for files command loaded.project)
 
 -- an answer is what is declared, or its refusal; a read that failed and a want of memory may stand in its place
 abbrev pub DeclaresAs : Result Declared Refusal → Result Declared Refusal → Type 0
@@ -87,8 +88,8 @@ IsFailedDigest told command project old new path =
 
 -- a fact on what a call declares: on the set that its files give where they are told, else on one that some digests give
 abbrev pub ForDeclared :
-    Option Contents → Command → Project → (Declared → Type 0) → Type 0
-ForDeclared None command project Fact =
-    (declared : Declared) × IsDeclared None command project declared × Fact declared
-ForDeclared (Some files) command project Fact =
-    (declared : Declared) × (declared_from files command project ≡ Ok declared) × Fact declared
+    Option Contents → Command → LoadedProject → (Declared → Type 0) → Type 0
+ForDeclared None command loaded Fact =
+    (declared : Declared) × IsDeclared None command loaded declared × Fact declared
+ForDeclared (Some files) command loaded Fact =
+    (declared : Declared) × (declared_from files command loaded ≡ Ok declared) × Fact declared

@@ -17,34 +17,33 @@ ghost use Rattle.world_laws.specs.OwnSpecs.{HasOwnSpecs};
 use crate::digests::digests_for;
 use compose_words::{Command, Scale};
 use declared_laws::numbered;
-use declared_set::declare;
+use declared_set::{LoadedProject, declare};
 use engine_types::Declared;
 use outside_files::Files;
 use refusals::Refusal;
 use service_hashes::FileDigest;
 use std::alloc::Global;
 use tree_base::Memory;
-use typed_project::Project;
 
-/// What a project declares of the Engine for a command: by the numbers of `--scale`, and by the digests of the files of
-/// its configs and secrets, which `up` reads. The refusals, in their order: those of digests; and those of what is declared,
+/// What a project that was loaded so declares of the Engine for a command: by the numbers of `--scale`, and by the digests of the
+/// files of its configs and secrets, which `up` reads. The refusals, in their order: those of digests; and those of what is declared,
 /// `UnknownScale`, `TooManyNeeds` and `NameTwice`. The project's services don't depend on one another in a circle.
 pub fn declared_asked<F: Files>(
     alloc: Global,
     command: &Command,
-    project: &Project,
+    loaded: &LoadedProject,
     files: &mut F,
 ) -> Result<Declared, Refusal>
-    requires keyed { IsKeyed project.now }
-    requires acyclic { cycle project.now.services ≡ None }
+    requires keyed { IsKeyed loaded.now.project }
+    requires acyclic { cycle loaded.now.project.services ≡ None }
 
     // It is what the project declares by the digests that some answers of reads give, or the refusal that these give.
     ensures given { (result ≡ Err Refusal.Memory → ⊥)
-        → Declares (F.told files.old) command.now project.now result }
+        → Declares (F.told files.old) command.now loaded.now result }
     ensures told { IfSome (F.told files.old) (λ contents.
-        DeclaresAs (declared_from contents command.now project.now) result) }
+        DeclaresAs (declared_from contents command.now loaded.now) result) }
     ensures declared { IfOk result (λ declared.
-        IsDeclared (F.told files.old) command.now project.now declared) }
+        IsDeclared (F.told files.old) command.now loaded.now declared) }
 
     // It is whole, what is sent for each slot is made for it, slots need only slots of services that their own service depends
     // on, and neither slots nor services need one another in a circle.
@@ -55,7 +54,7 @@ pub fn declared_asked<F: Files>(
 
     // A read that failed is one that the command asks a digest of, and was counted.
     ensures read { (path : List ℕ) → result ≡ Err (Refusal.Digest (DigestRefusal.ReadFault path))
-        → IsFailedDigest (F.told files.old) command.now project.now
+        → IsFailedDigest (F.told files.old) command.now loaded.now.project
         (F.faults files.old) (F.faults files.new) path }
     ensures kind { IfErr result IsOfDeclaring }
 
@@ -65,9 +64,9 @@ pub fn declared_asked<F: Files>(
     ensures counted { F.faults files.old ≤ F.faults files.new }
     ensures kept { F.told files.new ≡ F.told files.old }
 {
-    match digests_for(alloc, command, project, files) {
+    match digests_for(alloc, command, &loaded.project, files) {
         Ok(digests) => {
-            let declared = declared_with(alloc, command, project, digests.as_slice());
+            let declared = declared_with(alloc, command, loaded, digests.as_slice());
             // By a call: else the drop of each digest would be proved at this place.
             drop(digests);
             declared
@@ -80,12 +79,12 @@ pub fn declared_asked<F: Files>(
 fn declared_with(
     alloc: Global,
     command: &Command,
-    project: &Project,
+    loaded: &LoadedProject,
     digests: &[FileDigest],
 ) -> Result<Declared, Refusal>
-    requires keyed { IsKeyed project.now }
-    requires acyclic { cycle project.now.services ≡ None }
-    ensures told { Gives wants_memory result (declared_with command.now project.now digests.now) }
+    requires keyed { IsKeyed loaded.now.project }
+    requires acyclic { cycle loaded.now.project.services ≡ None }
+    ensures told { Gives wants_memory result (declared_with command.now loaded.now digests.now) }
     ensures whole { IfOk result IsWhole }
     ensures own { IfOk result HasOwnSpecs }
     ensures needs { IfOk result NeedsDependencies }
@@ -94,8 +93,8 @@ fn declared_with(
     ensures kind { IfErr result IsOfDeclaring }
 {
     let scales = scales_of(command);
-    match numbered(scales, project.services.as_slice()) {
-        Ok(()) => declared_in(alloc, scales, project, digests),
+    match numbered(scales, loaded.project.services.as_slice()) {
+        Ok(()) => declared_in(alloc, scales, loaded, digests),
         Err(Memory) => Err(Refusal::Memory),
     }
 }
@@ -105,13 +104,13 @@ fn declared_with(
 fn declared_in(
     alloc: Global,
     scales: &[Scale],
-    project: &Project,
+    loaded: &LoadedProject,
     digests: &[FileDigest],
 ) -> Result<Declared, Refusal>
-    requires keyed { IsKeyed project.now }
-    requires acyclic { cycle project.now.services ≡ None }
-    requires numbered { AreNumbered scales.now project.now.services }
-    ensures told { Gives wants_memory result (declared_in scales.now project.now digests.now) }
+    requires keyed { IsKeyed loaded.now.project }
+    requires acyclic { cycle loaded.now.project.services ≡ None }
+    requires numbered { AreNumbered scales.now loaded.now.project.services }
+    ensures told { Gives wants_memory result (declared_in scales.now loaded.now digests.now) }
     ensures whole { IfOk result IsWhole }
     ensures own { IfOk result HasOwnSpecs }
     ensures needs { IfOk result NeedsDependencies }
@@ -119,7 +118,7 @@ fn declared_in(
     ensures read { IfErr result (λ refusal. is_failed_digest refusal ≡ false) }
     ensures kind { IfErr result IsOfDeclaring }
 {
-    match declare(alloc, project, scales, digests) {
+    match declare(alloc, loaded, scales, digests) {
         Ok(declared) => Ok(declared),
         Err(refusal) => Err(Refusal::from(refusal)),
     }
