@@ -7,6 +7,7 @@ use Rattle.asked_project.specs.Parts.{IsOfProject, MeansFor, asked_with}
 use Rattle.asked_project.specs.declared.asking.Asked.{Asked}
 use Rattle.asked_project.proofs.Refusing.{words_no_memory}
 use Rattle.compose_words.specs.declared.Options.{Options}
+use Rattle.declared_set.specs.declared.LoadedProject.{LoadedProject}
 use Rattle.loaded_files.proofs.Runs.{ran_told}
 use Rattle.loaded_files.specs.Reads.{Load, Ran, loaded_from}
 use Rattle.loaded_files.specs.Reads as reads
@@ -21,7 +22,6 @@ use Rattle.refusals.specs.Went.{ends_as, refused_as}
 use Rattle.outside_files.specs.Reads.{Well}
 use Rattle.refusals.specs.declared.Refusal.{Refusal}
 use Rattle.typed_project.specs.DistinctNames.{IsKeyed}
-use Rattle.typed_project.specs.declared.project.Project.{Project}
 use Rattle.tree_base.specs.Answers.{◌>>=◌, Fails, Gives, Unless}
 
 pub IfSome-map : {A : Type 0} (o : Option A) (P Q : A → Type 0) → IfSome o P → ((x : A) → P x → Q x) → IfSome o Q
@@ -64,13 +64,13 @@ module _ (options : Options) (env : Variables) (cwd : List ℕ) where
         at (inl e) = ap (λ (r : Result Loaded LoadRefusal). loaded_or_refused r >>= project_loaded options) (sym e)
         at (inr failed) = absurd (cc (failed.1))
 
-    as_asked : (meant project : Result Project Refusal) → Gives wants_memory project meant → MeansAs meant (asked_with options project)
+    as_asked : (meant project : Result LoadedProject Refusal) → Gives wants_memory project meant → MeansAs meant (asked_with options project)
     as_asked meant (Ok project) h = h
     as_asked meant (Err refusal) h = unless_free refusal (meant ≡ Err refusal) (meant ≡ Err refusal) h (λ e. e)
 
-    means_project : (loaded : Loaded) (project : Result Project Refusal) → reads.Gives (Some files) (Ok loaded) load → Gives wants_memory project (project_loaded options loaded) → MeansFor options env cwd files (asked_with options project)
+    means_project : (loaded : Loaded) (project : Result LoadedProject Refusal) → reads.Gives (Some files) (Ok loaded) load → Gives wants_memory project (project_loaded options loaded) → MeansFor options env cwd files (asked_with options project)
     means_project loaded project h k =
-        subst (λ (meant : Result Project Refusal). MeansAs meant (asked_with options project)) (sym (loaded_means loaded (ran_loaded (Some files) load loaded h))) (as_asked (project_loaded options loaded) project k)
+        subst (λ (meant : Result LoadedProject Refusal). MeansAs meant (asked_with options project)) (sym (loaded_means loaded (ran_loaded (Some files) load loaded h))) (as_asked (project_loaded options loaded) project k)
 
     -- a refusal of loading means what a call is refused with
     refused_means : (refusal : LoadRefusal) → (refusal ≡ LoadRefusal.Memory → ⊥) → ((path : List ℕ) → refusal ≡ LoadRefusal.ReadFault path → ⊥) → reads.Gives (Some files) (unloaded refusal) load
@@ -101,7 +101,7 @@ module _ (options : Options) (env : Variables) (cwd : List ℕ) where
 
   module _ (told : Option Contents) where
     -- the same where files tell what they hold
-    pub loads_project : (loaded : Loaded) (project : Result Project Refusal) → reads.Gives told (Ok loaded) load → Gives wants_memory project (project_loaded options loaded)
+    pub loads_project : (loaded : Loaded) (project : Result LoadedProject Refusal) → reads.Gives told (Ok loaded) load → Gives wants_memory project (project_loaded options loaded)
         → IfSome told (λ contents. MeansFor options env cwd contents (asked_with options project))
     loads_project loaded project h k = at told h
       where
@@ -117,8 +117,8 @@ module _ (options : Options) (env : Variables) (cwd : List ℕ) where
         at (Some contents) h = means_refusal contents refusal h
 
     -- a project that was loaded is one that some answers of reads give
-    pub is_loaded : (loaded : Loaded) (project : Result Project Refusal) → reads.Gives told (Ok loaded) load → Gives wants_memory project (project_loaded options loaded)
-        → IfOk (asked_with options project) (λ asked. IsLoaded options env cwd told asked.project)
+    pub is_loaded : (loaded : Loaded) (project : Result LoadedProject Refusal) → reads.Gives told (Ok loaded) load → Gives wants_memory project (project_loaded options loaded)
+        → IfOk (asked_with options project) (λ asked. IsLoaded options env cwd told asked.loaded)
     is_loaded loaded (Err refusal) h k = tt
     is_loaded loaded (Ok project) h k = (loaded, ran_loaded told load loaded h, k)
 
@@ -202,40 +202,40 @@ project_of_asking Refusal.Memory k = tt
 
 module _ (options : Options) where
   -- how a project that was loaded, or its refusal, answers
-  pub with_keyed : (project : Result Project Refusal) → IfOk project IsKeyed → IfOk (asked_with options project) (λ asked. IsKeyed asked.project)
+  pub with_keyed : (project : Result LoadedProject Refusal) → IfOk project (λ p. IsKeyed p.project) → IfOk (asked_with options project) (λ asked. IsKeyed asked.loaded.project)
   with_keyed (Ok project) h = h
   with_keyed (Err refusal) h = tt
 
-  pub with_options : (project : Result Project Refusal) → IfOk (asked_with options project) (λ asked. asked.options ≡ options)
+  pub with_options : (project : Result LoadedProject Refusal) → IfOk (asked_with options project) (λ asked. asked.options ≡ options)
   with_options (Ok project) = refl
   with_options (Err refusal) = tt
 
-  pub with_kind : (project : Result Project Refusal) → IfErr project IsOfProject → IfErr (asked_with options project) IsOfAsking
+  pub with_kind : (project : Result LoadedProject Refusal) → IfErr project IsOfProject → IfErr (asked_with options project) IsOfAsking
   with_kind (Ok project) h = tt
   with_kind (Err refusal) h = project_of_asking refusal h
 
-  pub with_no_words : (project : Result Project Refusal) → IfErr project IsOfProject → IfErr (asked_with options project) (λ refusal. IsTrue (is_of_words refusal) → ⊥)
+  pub with_no_words : (project : Result LoadedProject Refusal) → IfErr project IsOfProject → IfErr (asked_with options project) (λ refusal. IsTrue (is_of_words refusal) → ⊥)
   with_no_words (Ok project) h = tt
   with_no_words (Err refusal) h = project_no_words refusal h
 
-  pub with_went : (project : Result Project Refusal) (asked : Result Asked Refusal) → asked ≡ asked_with options project → IfErr project IsOfProject → ends_as asked ≡ Well
+  pub with_went : (project : Result LoadedProject Refusal) (asked : Result Asked Refusal) → asked ≡ asked_with options project → IfErr project IsOfProject → ends_as asked ≡ Well
   with_went project asked is h = ap (λ (a : Result Asked Refusal). ends_as a) is ∙ at project h
     where
-      at : (project : Result Project Refusal) → IfErr project IsOfProject → ends_as (asked_with options project) ≡ Well
+      at : (project : Result LoadedProject Refusal) → IfErr project IsOfProject → ends_as (asked_with options project) ≡ Well
       at (Ok project) h = refl
       at (Err refusal) h = project_went refusal h
 
-  pub with_no_read : (project : Result Project Refusal) (path : List ℕ) → IfErr project IsOfProject → asked_with options project ≡ Err (Refusal.Load (LoadRefusal.ReadFault path)) → ⊥
+  pub with_no_read : (project : Result LoadedProject Refusal) (path : List ℕ) → IfErr project IsOfProject → asked_with options project ≡ Err (Refusal.Load (LoadRefusal.ReadFault path)) → ⊥
   with_no_read (Ok project) path h e = cc e
   with_no_read (Err refusal) path h e = let same : refusal ≡ Refusal.Load (LoadRefusal.ReadFault path) = cc e in subst IsOfProject same h
 
-abbrev next : Variables → List ℕ → Contents → Result Options Refusal → Result Project Refusal
+abbrev next : Variables → List ℕ → Contents → Result Options Refusal → Result LoadedProject Refusal
 next env cwd files asked = asked >>= λ options. project_for options env cwd files
 
 module _ (words : List (List ℕ)) (env : Variables) where
   -- words that are built mean what their options mean
   pub means_loaded : (cwd : List ℕ) (files : Contents) (options : Options) (result : Result Asked Refusal) → options_asked words env ≡ Ok options → MeansFor options env cwd files result → MeansAs (meaning words env cwd files) result
-  means_loaded cwd files options result e h = subst (λ (m : Result Project Refusal). MeansAs m result) (sym (ap (next env cwd files) e)) h
+  means_loaded cwd files options result e h = subst (λ (m : Result LoadedProject Refusal). MeansAs m result) (sym (ap (next env cwd files) e)) h
 
   -- words that are refused mean that refusal
   pub means_refused : (cwd : List ℕ) (files : Contents) (refusal : Refusal) → Fails wants_memory refusal (options_asked words env) → MeansAs (meaning words env cwd files) (Err refusal)
@@ -268,8 +268,8 @@ module _ (words : List (List ℕ)) (env : Variables) where
   same_options options (Ok asked) e h = e ∙ ap (λ (o : Options). Ok o) (sym h)
 
   -- a project that was loaded for the options of words is spelled by them
-  pub is_spelled : (cwd : List ℕ) (told : Option Contents) (options : Options) (result : Result Asked Refusal) → options_asked words env ≡ Ok options → IfOk result (λ asked. IsLoaded options env cwd told asked.project)
-      → IfOk result (λ asked. IsSpelled words env cwd told asked.project)
+  pub is_spelled : (cwd : List ℕ) (told : Option Contents) (options : Options) (result : Result Asked Refusal) → options_asked words env ≡ Ok options → IfOk result (λ asked. IsLoaded options env cwd told asked.loaded)
+      → IfOk result (λ asked. IsSpelled words env cwd told asked.loaded)
   is_spelled cwd told options (Err refusal) e h = tt
   is_spelled cwd told options (Ok asked) e h = (options, e, h)
 

@@ -1,2 +1,3 @@
 pub mod Answered
+mod Origins
 pub mod Refusing

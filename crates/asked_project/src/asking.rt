@@ -15,25 +15,24 @@ ghost use Rattle.tree_base.specs.Answers.{Gives};
 use crate::loaded::project_loaded;
 use crate::words::options_asked;
 use compose_words::Options;
+use declared_set::LoadedProject;
 use include_extends::{LoadRefusal, LoadRequest, Loaded, load};
 use outside_files::Files;
 use refusals::Refusal;
 use std::alloc::Global;
-use std::mem::forget;
 use tree_base::{Env, List, Memory, Text, TryCopy};
-use typed_project::Project;
 
-/// What a call is asked: its command with all options, and the project that it is for.
+/// What a call is asked: its command with all options, and the project that it is for, with what that was loaded from.
 #[derive(Drop)]
 pub struct Asked {
     pub options: Options,
-    pub project: Project,
+    pub loaded: LoadedProject,
 }
 
 /// The command with its options that words ask for, and the project that the variables, the working directory `cwd`
-/// and the files give. The refusals, in their order: `Words` where the words are none; `NotBuilt(Words)` where they
-/// ask for what isn't built yet; `Words(BadHost)` where they use `DOCKER_HOST`, and that names no Engine; those of loading; and those of the project: of its name, of its active services, and of
-/// what stands in it.
+/// and the files give, with its files and its directory. The refusals, in their order: `Words` where the words are none;
+/// `NotBuilt(Words)` where they ask for what isn't built yet; `Words(BadHost)` where they use `DOCKER_HOST`, and that names no
+/// Engine; those of loading; and those of the project: of its name, of its active services, and of what stands in it.
 pub fn project_asked<F: Files>(
     alloc: Global,
     words: &List<Text>,
@@ -54,8 +53,8 @@ pub fn project_asked<F: Files>(
 
     // Some answers of reads give the project, and what it declares is in order.
     ensures text { IfOk result (λ asked.
-        IsSpelled words.now env.now cwd.now (F.told files.old) asked.project) }
-    ensures keyed { IfOk result (λ asked. IsKeyed asked.project) }
+        IsSpelled words.now env.now cwd.now (F.told files.old) asked.loaded) }
+    ensures keyed { IfOk result (λ asked. IsKeyed asked.loaded.project) }
 
     // A read that failed is one that words that are built come to, and was counted.
     ensures read { (path : _) → result ≡ Err (Refusal.Load (LoadRefusal.ReadFault path))
@@ -85,8 +84,8 @@ fn project_for<F: Files>(
     ensures words { IfErr result (λ refusal. IsTrue (is_of_words refusal) → ⊥) }
     ensures options { IfOk result (λ asked. asked.options ≡ options) }
     ensures text { IfOk result (λ asked.
-        IsLoaded options env.now cwd.now (F.told files.old) asked.project) }
-    ensures keyed { IfOk result (λ asked. IsKeyed asked.project) }
+        IsLoaded options env.now cwd.now (F.told files.old) asked.loaded) }
+    ensures keyed { IfOk result (λ asked. IsKeyed asked.loaded.project) }
     ensures read { (path : _) → result ≡ Err (Refusal.Load (LoadRefusal.ReadFault path))
         → IsFailedLoad options env.now cwd.now (F.told files.old)
         (F.faults files.old) (F.faults files.new) path }
@@ -97,10 +96,7 @@ fn project_for<F: Files>(
 {
     match load_for(alloc, &options, env, cwd, files) {
         Ok(loaded) => {
-            let project = project_loaded(alloc, &options, &loaded);
-            // A call loads once, and its memory goes with it: to give back what was loaded piece by piece takes a tenth
-            // of the time that `config` takes.
-            forget(loaded);
+            let project = project_loaded(alloc, &options, loaded);
             asked_with(options, project)
         }
         Err(refusal) => {
@@ -155,11 +151,11 @@ fn request_for(
 }
 
 /// What a call is asked, where a project was loaded for its options.
-fn asked_with(options: Options, project: Result<Project, Refusal>) -> Result<Asked, Refusal>
+fn asked_with(options: Options, project: Result<LoadedProject, Refusal>) -> Result<Asked, Refusal>
     ensures { result ≡ asked_with options project }
 {
     match project {
-        Ok(project) => Ok(Asked { options, project }),
+        Ok(loaded) => Ok(Asked { options, loaded }),
         Err(refusal) => {
             drop(options);
             Err(refusal)

@@ -24,11 +24,11 @@ returns-in-Ok-clause-options g c = subst (λ (r : Result Asked Refusal). IfOk r 
 
 pub returns-in-Ok-clause-text : goal.returns-in-Ok-clause-text
 returns-in-Ok-clause-text g c =
-    subst (λ (r : Result Asked Refusal). IfOk r (λ asked. IsLoaded c.args.options c.args.env.now c.args.cwd.now (g.F.Files.told c.args.files.now) asked.project)) (sym c.asked_with.ensures)
+    subst (λ (r : Result Asked Refusal). IfOk r (λ asked. IsLoaded c.args.options c.args.env.now c.args.cwd.now (g.F.Files.told c.args.files.now) asked.loaded)) (sym c.asked_with.ensures)
     (is_loaded c.args.options c.args.env.now c.args.cwd.now (g.F.Files.told c.args.files.now) c.in-Ok.loaded c.project_loaded-project.result c.in-Ok.ensures.given c.project_loaded-project.ensures.told)
 
 pub returns-in-Ok-clause-keyed : goal.returns-in-Ok-clause-keyed
-returns-in-Ok-clause-keyed g c = subst (λ (r : Result Asked Refusal). IfOk r (λ asked. IsKeyed asked.project)) (sym c.asked_with.ensures) (with_keyed c.args.options c.project_loaded-project.result c.project_loaded-project.ensures.keyed)
+returns-in-Ok-clause-keyed g c = subst (λ (r : Result Asked Refusal). IfOk r (λ asked. IsKeyed asked.loaded.project)) (sym c.asked_with.ensures) (with_keyed c.args.options c.project_loaded-project.result c.project_loaded-project.ensures.keyed)
 
 pub returns-in-Ok-clause-kind : goal.returns-in-Ok-clause-kind
 returns-in-Ok-clause-kind g c = subst (λ (r : Result Asked Refusal). IfErr r IsOfAsking) (sym c.asked_with.ensures) (with_kind c.args.options c.project_loaded-project.result c.project_loaded-project.ensures.kind)
