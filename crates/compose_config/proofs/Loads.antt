@@ -6,6 +6,7 @@ use Rattle.asked_project.specs.Meaning.{IsFailedRead, IsSpelled, MeansAs, meanin
 use Rattle.asked_project.specs.declared.Asked.{Asked}
 use Rattle.compose_config.specs.Commands.{ForProject, IfLoads, IsOfConfig, IsReadFault, OnlyOutsideFails}
 use Rattle.compose_words.specs.declared.Options.{Options}
+use Rattle.declared_set.specs.declared.LoadedProject.{LoadedProject}
 use Rattle.loaded_files.specs.declared.LoadRefusal.{LoadRefusal}
 use Rattle.outside_files.specs.Files.{Contents}
 use Rattle.refusals.proofs.Said.{said}
@@ -13,7 +14,6 @@ use Rattle.refusals.specs.Origins.{IsOfAsking, is_of_words}
 use Rattle.refusals.specs.Refused.{IsRefusal, is_free, wants_memory}
 use Rattle.refusals.specs.Saying.{IsSaid}
 use Rattle.refusals.specs.declared.Refusal.{Refusal}
-use Rattle.typed_project.specs.declared.project.Project.{Project}
 use Rattle.tree_base.specs.Answers.{Gives, Unless}
 
 -- a fact that follows from another one, of what may be there
@@ -28,30 +28,30 @@ abbrev pub given : Asked → Result Asked Refusal
 given asked = Ok asked
 
 -- where something is meant to be refused, a call is refused so
-abbrev pub IsRefusedAs : Result Project Refusal → Option Refusal → Type 0
+abbrev pub IsRefusedAs : Result LoadedProject Refusal → Option Refusal → Type 0
 IsRefusedAs meant found = IfErr meant (λ refusal. IsRefusal refusal found)
 
-pub free_memory : (meant : Result Project Refusal) → IsRefusedAs meant (Some Refusal.Memory)
+pub free_memory : (meant : Result LoadedProject Refusal) → IsRefusedAs meant (Some Refusal.Memory)
 free_memory (Ok project) = tt
 free_memory (Err refusal) = tt
 
 -- what was answered is what is meant
-pub means_refusal : (meant : Result Project Refusal) (refusal : Refusal) → MeansAs meant (answered refusal) → IsRefusedAs meant (Some refusal)
+pub means_refusal : (meant : Result LoadedProject Refusal) (refusal : Refusal) → MeansAs meant (answered refusal) → IsRefusedAs meant (Some refusal)
 means_refusal meant refusal h = at (is_free refusal) meant h
   where
-    at : (free : Bool) (meant : Result Project Refusal) → Unless free (meant ≡ Err refusal) → IfErr meant (λ expected. Unless free (refusal ≡ expected))
+    at : (free : Bool) (meant : Result LoadedProject Refusal) → Unless free (meant ≡ Err refusal) → IfErr meant (λ expected. Unless free (refusal ≡ expected))
     at true (Ok project) h = tt
     at true (Err expected) h = tt
     at false (Ok project) h = tt
     at false (Err expected) h = let same : expected ≡ refusal = cc h in sym same
 
 -- the same of what is said
-pub said_refusal : (meant : Result Project Refusal) (refusal : Refusal) (found : Option Refusal) → MeansAs meant (answered refusal) → IsSaid refusal found → IsRefusedAs meant found
+pub said_refusal : (meant : Result LoadedProject Refusal) (refusal : Refusal) (found : Option Refusal) → MeansAs meant (answered refusal) → IsSaid refusal found → IsRefusedAs meant found
 said_refusal meant refusal found h is_said = said refusal found is_said (IsRefusedAs meant) (free_memory meant) (means_refusal meant refusal h)
 
 -- a project that is meant isn't refused
-pub means_unrefused : (Fact : Refusal → Type 0) (meant : Result Project Refusal) (asked : Asked) → MeansAs meant (given asked) → IfErr meant Fact
-means_unrefused Fact meant asked h = subst (λ (m : Result Project Refusal). IfErr m Fact) (sym h) tt
+pub means_unrefused : (Fact : Refusal → Type 0) (meant : Result LoadedProject Refusal) (asked : Asked) → MeansAs meant (given asked) → IfErr meant Fact
+means_unrefused Fact meant asked h = subst (λ (m : Result LoadedProject Refusal). IfErr m Fact) (sym h) tt
 
 -- a want of memory that was said stands in the place of any refusal
 memory_said : (refusal expected : Refusal) (found : Option Refusal) → wants_memory refusal ≡ true → IsSaid refusal found → IsSaid expected found
@@ -115,18 +115,18 @@ module _ (words : List (List ℕ)) (env : Variables) where
 
   module _ (cwd : List ℕ) (told : Option Contents) where
     -- a fact on the project that was answered is one on the project that is meant
-    pub for_project : (asked : Asked) (Fact : Project → Type 0) → IfSome told (λ contents. MeansAs (meaning words env cwd contents) (given asked)) → IsSpelled words env cwd told asked.project → Fact asked.project → ForProject words env cwd told Fact
+    pub for_project : (asked : Asked) (Fact : LoadedProject → Type 0) → IfSome told (λ contents. MeansAs (meaning words env cwd contents) (given asked)) → IsSpelled words env cwd told asked.loaded → Fact asked.loaded → ForProject words env cwd told Fact
     for_project asked Fact means spelled fact = at told means spelled
       where
-        at : (told : Option Contents) → IfSome told (λ contents. MeansAs (meaning words env cwd contents) (given asked)) → IsSpelled words env cwd told asked.project → ForProject words env cwd told Fact
-        at None h is = (asked.project, is, fact)
-        at (Some contents) h is = (asked.project, h, fact)
+        at : (told : Option Contents) → IfSome told (λ contents. MeansAs (meaning words env cwd contents) (given asked)) → IsSpelled words env cwd told asked.loaded → ForProject words env cwd told Fact
+        at None h is = (asked.loaded, is, fact)
+        at (Some contents) h is = (asked.loaded, h, fact)
 
     -- a fact holds also where a project is meant
     pub if_loads : (Fact : Type 0) → Fact → IfLoads words env cwd told Fact
     if_loads Fact fact = at told
       where
-        one : (meant : Result Project Refusal) → IfOk meant (λ _. Fact)
+        one : (meant : Result LoadedProject Refusal) → IfOk meant (λ _. Fact)
         one (Ok project) = fact
         one (Err refusal) = tt
 
@@ -137,7 +137,7 @@ module _ (words : List (List ℕ)) (env : Variables) where
     pub loads_weaker : (First Second : Type 0) → IfLoads words env cwd told First → (First → Second) → IfLoads words env cwd told Second
     loads_weaker First Second h k = at told h
       where
-        one : (meant : Result Project Refusal) → IfOk meant (λ _. First) → IfOk meant (λ _. Second)
+        one : (meant : Result LoadedProject Refusal) → IfOk meant (λ _. First) → IfOk meant (λ _. Second)
         one (Ok project) fact = k fact
         one (Err refusal) fact = tt
 
@@ -181,7 +181,7 @@ module _ (words : List (List ℕ)) (env : Variables) where
         free (Refusal.Late why) e read = absurd (cc e)
         free (Refusal.Outside part) e read = absurd (cc e)
 
-        one : (is : Bool) (meant : Result Project Refusal) → is_free refusal ≡ is → Unless is (meant ≡ Err refusal) → IfOk meant (λ _. Fact refusal)
+        one : (is : Bool) (meant : Result LoadedProject Refusal) → is_free refusal ≡ is → Unless is (meant ≡ Err refusal) → IfOk meant (λ _. Fact refusal)
         one is (Err expected) e h = tt
         one true (Ok project) e h = free refusal e read
         one false (Ok project) e h = absurd (cc h)

@@ -5,6 +5,7 @@ use Rattle.asked_project.specs.Meaning.{IsFailedRead, IsSpelled, meaning}
 use Rattle.compose_words.specs.declared.Command.{Command}
 use Rattle.compose_words.specs.declared.Options.{Options}
 use Rattle.compose_words.specs.declared.WordsRefusal.{WordsRefusal}
+use Rattle.declared_set.specs.declared.LoadedProject.{LoadedProject}
 use Rattle.loaded_files.specs.declared.LoadRefusal.{LoadRefusal}
 use Rattle.project_pages.specs.AttributePages.{page, page_json}
 use Rattle.outside_files.specs.Counts.{Rose}
@@ -48,14 +49,14 @@ abbrev pub page_asked : Option Command → Project → List ℕ
 page_asked None project = []
 page_asked (Some command) project = page_for command project
 
--- a fact on the project that a call loads: the one that its words, variables and files mean where the files are told,
--- else one that some answers of reads give
+-- a fact on the project that a call loads, with what it is loaded from: the one that its words, variables and files mean
+-- where the files are told, else one that some answers of reads give
 abbrev pub ForProject :
-    List (List ℕ) → Variables → List ℕ → Option Contents → (Project → Type 0) → Type 0
+    List (List ℕ) → Variables → List ℕ → Option Contents → (LoadedProject → Type 0) → Type 0
 ForProject words env cwd None Fact =
-    (project : Project) × IsSpelled words env cwd None project × Fact project
+    (loaded : LoadedProject) × IsSpelled words env cwd None loaded × Fact loaded
 ForProject words env cwd (Some contents) Fact =
-    (project : Project) × (meaning words env cwd contents ≡ Ok project) × Fact project
+    (loaded : LoadedProject) × (meaning words env cwd contents ≡ Ok loaded) × Fact loaded
 
 -- a fact that holds where the files are told and a project is meant
 abbrev pub IfLoads : List (List ℕ) → Variables → List ℕ → Option Contents → Type 0 → Type 0

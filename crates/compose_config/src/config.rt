@@ -74,13 +74,13 @@ pub fn config_run<F: Files, O: Sink, G: Sink>(
     // At status 0 the page of the project was written whole, or nothing with `--quiet`; and else nothing, or a prefix
     // of it.
     ensures page { result.status ≡ 0
-        → ForProject words.now env.now cwd.now (F.told files.old) (λ project.
+        → ForProject words.now env.now cwd.now (F.told files.old) (λ loaded.
         GrewBy (O.written out.old)
-        (page_asked (command_of words.now env.now) project) (O.written out.new)) }
+        (page_asked (command_of words.now env.now) loaded.project) (O.written out.new)) }
     ensures prefix { (O.written out.new ≡ O.written out.old)
-        ⊎ ForProject words.now env.now cwd.now (F.told files.old) (λ project.
+        ⊎ ForProject words.now env.now cwd.now (F.told files.old) (λ loaded.
         GrewByPrefix (O.written out.old) (O.written out.new)
-        (page_asked (command_of words.now env.now) project)) }
+        (page_asked (command_of words.now env.now) loaded.project)) }
     ensures quiet { IsOfLoading result.refusal → O.written out.new ≡ O.written out.old }
 
     // A project that loading gives is printed, unless memory is wanted or something outside fails.
@@ -125,8 +125,8 @@ pub fn print_asked<O: Sink, G: Sink>(
     out: &mut O,
     err: &mut G,
 ) -> ConfigEnd
-    requires keyed { IsKeyed asked.now.project }
-    ensures printed { PrintsPage (page_for asked.now.options.command asked.now.project)
+    requires keyed { IsKeyed asked.now.loaded.project }
+    ensures printed { PrintsPage (page_for asked.now.options.command asked.now.loaded.project)
         result.refusal
         (O.written out.old) (O.written out.new) (O.faults out.old) (O.faults out.new) }
     ensures status { result.status ≡ status_of result.refusal }
@@ -140,14 +140,14 @@ pub fn print_asked<O: Sink, G: Sink>(
 
 /// Writes what a command prints of a project.
 fn write_asked<O: Sink>(alloc: Global, asked: &Asked, out: &mut O) -> Option<Refusal>
-    requires keyed { IsKeyed asked.now.project }
-    ensures { PrintsPage (page_for asked.now.options.command asked.now.project) result
+    requires keyed { IsKeyed asked.now.loaded.project }
+    ensures { PrintsPage (page_for asked.now.options.command asked.now.loaded.project) result
         (O.written out.old) (O.written out.new) (O.faults out.old) (O.faults out.new) }
 {
     if is_quiet(&asked.options.command) {
         None
     } else {
-        write_page(alloc, &asked.options.command, &asked.project, out)
+        write_page(alloc, &asked.options.command, &asked.loaded.project, out)
     }
 }
 

@@ -13,39 +13,39 @@ pub returns-in-Ok-clause-words : goal.returns-in-Ok-clause-words
 returns-in-Ok-clause-words g c = no_words_refused c.args.words.now c.args.env.now _ c.in-Ok.asked.options c.in-Ok.ensures.options
 
 pub returns-in-Ok-clause-words_only : goal.returns-in-Ok-clause-words_only
-returns-in-Ok-clause-words_only g c = λ refusal h e. absurd (page_no_words (page_for c.in-Ok.asked.options.command c.in-Ok.asked.project) (g.O.Sink.written c.args.out.now) (g.O.Sink.written c.print_asked.new.out) (g.O.Sink.faults c.args.out.now) (g.O.Sink.faults c.print_asked.new.out) c.print_asked.result.refusal refusal c.print_asked.ensures.printed h e)
+returns-in-Ok-clause-words_only g c = λ refusal h e. absurd (page_no_words (page_for c.in-Ok.asked.options.command c.in-Ok.asked.loaded.project) (g.O.Sink.written c.args.out.now) (g.O.Sink.written c.print_asked.new.out) (g.O.Sink.faults c.args.out.now) (g.O.Sink.faults c.print_asked.new.out) c.print_asked.result.refusal refusal c.print_asked.ensures.printed h e)
 
 pub returns-in-Ok-clause-loading : goal.returns-in-Ok-clause-loading
 returns-in-Ok-clause-loading g c = IfSome-map (g.F.Files.told c.args.files.now) _ _ c.in-Ok.ensures.told (λ contents means. means_unrefused _ (meaning c.args.words.now c.args.env.now c.args.cwd.now contents) c.in-Ok.asked means)
 
 pub returns-in-Ok-clause-kind : goal.returns-in-Ok-clause-kind
-returns-in-Ok-clause-kind g c = page_kind (page_for c.in-Ok.asked.options.command c.in-Ok.asked.project) (g.O.Sink.written c.args.out.now) (g.O.Sink.written c.print_asked.new.out) (g.O.Sink.faults c.args.out.now) (g.O.Sink.faults c.print_asked.new.out) c.print_asked.result.refusal c.print_asked.ensures.printed
+returns-in-Ok-clause-kind g c = page_kind (page_for c.in-Ok.asked.options.command c.in-Ok.asked.loaded.project) (g.O.Sink.written c.args.out.now) (g.O.Sink.written c.print_asked.new.out) (g.O.Sink.faults c.args.out.now) (g.O.Sink.faults c.print_asked.new.out) c.print_asked.result.refusal c.print_asked.ensures.printed
 
 pub returns-in-Ok-clause-read_fault : goal.returns-in-Ok-clause-read_fault
-returns-in-Ok-clause-read_fault g c = λ path e. absurd (page_no_read (page_for c.in-Ok.asked.options.command c.in-Ok.asked.project) (g.O.Sink.written c.args.out.now) (g.O.Sink.written c.print_asked.new.out) (g.O.Sink.faults c.args.out.now) (g.O.Sink.faults c.print_asked.new.out) c.print_asked.result.refusal path c.print_asked.ensures.printed e)
+returns-in-Ok-clause-read_fault g c = λ path e. absurd (page_no_read (page_for c.in-Ok.asked.options.command c.in-Ok.asked.loaded.project) (g.O.Sink.written c.args.out.now) (g.O.Sink.written c.print_asked.new.out) (g.O.Sink.faults c.args.out.now) (g.O.Sink.faults c.print_asked.new.out) c.print_asked.result.refusal path c.print_asked.ensures.printed e)
 
 pub returns-in-Ok-clause-output_fault : goal.returns-in-Ok-clause-output_fault
-returns-in-Ok-clause-output_fault g c = page_fault (page_for c.in-Ok.asked.options.command c.in-Ok.asked.project) (g.O.Sink.written c.args.out.now) (g.O.Sink.written c.print_asked.new.out) (g.O.Sink.faults c.args.out.now) (g.O.Sink.faults c.print_asked.new.out) c.print_asked.result.refusal c.print_asked.ensures.printed
+returns-in-Ok-clause-output_fault g c = page_fault (page_for c.in-Ok.asked.options.command c.in-Ok.asked.loaded.project) (g.O.Sink.written c.args.out.now) (g.O.Sink.written c.print_asked.new.out) (g.O.Sink.faults c.args.out.now) (g.O.Sink.faults c.print_asked.new.out) c.print_asked.result.refusal c.print_asked.ensures.printed
 
 pub returns-in-Ok-clause-page : goal.returns-in-Ok-clause-page
 returns-in-Ok-clause-page g c = λ zero.
-    for_project c.args.words.now c.args.env.now c.args.cwd.now (g.F.Files.told c.args.files.now) c.in-Ok.asked (λ project. GrewBy (g.O.Sink.written c.args.out.now) (page_asked (command_of c.args.words.now c.args.env.now) project) (g.O.Sink.written c.print_asked.new.out)) c.in-Ok.ensures.told c.in-Ok.ensures.text
-    (asked_whole (g.O.Sink.written c.args.out.now) (g.O.Sink.written c.print_asked.new.out) (g.O.Sink.faults c.args.out.now) (g.O.Sink.faults c.print_asked.new.out) (command_of c.args.words.now c.args.env.now) c.in-Ok.asked.options.command c.in-Ok.asked.project (command_is c.args.words.now c.args.env.now c.in-Ok.asked.options c.in-Ok.ensures.options) c.print_asked.result.refusal (c.print_asked.ensures.none.1 zero) c.print_asked.ensures.printed)
+    for_project c.args.words.now c.args.env.now c.args.cwd.now (g.F.Files.told c.args.files.now) c.in-Ok.asked (λ loaded. GrewBy (g.O.Sink.written c.args.out.now) (page_asked (command_of c.args.words.now c.args.env.now) loaded.project) (g.O.Sink.written c.print_asked.new.out)) c.in-Ok.ensures.told c.in-Ok.ensures.text
+    (asked_whole (g.O.Sink.written c.args.out.now) (g.O.Sink.written c.print_asked.new.out) (g.O.Sink.faults c.args.out.now) (g.O.Sink.faults c.print_asked.new.out) (command_of c.args.words.now c.args.env.now) c.in-Ok.asked.options.command c.in-Ok.asked.loaded.project (command_is c.args.words.now c.args.env.now c.in-Ok.asked.options c.in-Ok.ensures.options) c.print_asked.result.refusal (c.print_asked.ensures.none.1 zero) c.print_asked.ensures.printed)
 
 pub returns-in-Ok-clause-prefix : goal.returns-in-Ok-clause-prefix
 returns-in-Ok-clause-prefix g c = inr (
-    for_project c.args.words.now c.args.env.now c.args.cwd.now (g.F.Files.told c.args.files.now) c.in-Ok.asked (λ project. GrewByPrefix (g.O.Sink.written c.args.out.now) (g.O.Sink.written c.print_asked.new.out) (page_asked (command_of c.args.words.now c.args.env.now) project)) c.in-Ok.ensures.told c.in-Ok.ensures.text
-    (asked_prefix (g.O.Sink.written c.args.out.now) (g.O.Sink.written c.print_asked.new.out) (g.O.Sink.faults c.args.out.now) (g.O.Sink.faults c.print_asked.new.out) (command_of c.args.words.now c.args.env.now) c.in-Ok.asked.options.command c.in-Ok.asked.project (command_is c.args.words.now c.args.env.now c.in-Ok.asked.options c.in-Ok.ensures.options) c.print_asked.result.refusal c.print_asked.ensures.printed))
+    for_project c.args.words.now c.args.env.now c.args.cwd.now (g.F.Files.told c.args.files.now) c.in-Ok.asked (λ loaded. GrewByPrefix (g.O.Sink.written c.args.out.now) (g.O.Sink.written c.print_asked.new.out) (page_asked (command_of c.args.words.now c.args.env.now) loaded.project)) c.in-Ok.ensures.told c.in-Ok.ensures.text
+    (asked_prefix (g.O.Sink.written c.args.out.now) (g.O.Sink.written c.print_asked.new.out) (g.O.Sink.faults c.args.out.now) (g.O.Sink.faults c.print_asked.new.out) (command_of c.args.words.now c.args.env.now) c.in-Ok.asked.options.command c.in-Ok.asked.loaded.project (command_is c.args.words.now c.args.env.now c.in-Ok.asked.options c.in-Ok.ensures.options) c.print_asked.result.refusal c.print_asked.ensures.printed))
 
 pub returns-in-Ok-clause-quiet : goal.returns-in-Ok-clause-quiet
-returns-in-Ok-clause-quiet g c = λ loading. absurd (page_no_loading (page_for c.in-Ok.asked.options.command c.in-Ok.asked.project) (g.O.Sink.written c.args.out.now) (g.O.Sink.written c.print_asked.new.out) (g.O.Sink.faults c.args.out.now) (g.O.Sink.faults c.print_asked.new.out) c.print_asked.result.refusal c.print_asked.ensures.printed loading)
+returns-in-Ok-clause-quiet g c = λ loading. absurd (page_no_loading (page_for c.in-Ok.asked.options.command c.in-Ok.asked.loaded.project) (g.O.Sink.written c.args.out.now) (g.O.Sink.written c.print_asked.new.out) (g.O.Sink.faults c.args.out.now) (g.O.Sink.faults c.print_asked.new.out) c.print_asked.result.refusal c.print_asked.ensures.printed loading)
 
 pub returns-in-Ok-clause-reads : goal.returns-in-Ok-clause-reads
 returns-in-Ok-clause-reads g c = ends_loaded (g.F.Files.reads c.args.files.now) (g.F.Files.reads c.project_asked.new.files) c.print_asked.result.refusal
-    (page_no_loading (page_for c.in-Ok.asked.options.command c.in-Ok.asked.project) (g.O.Sink.written c.args.out.now) (g.O.Sink.written c.print_asked.new.out) (g.O.Sink.faults c.args.out.now) (g.O.Sink.faults c.print_asked.new.out) c.print_asked.result.refusal c.print_asked.ensures.printed) c.in-Ok.ensures.reads
+    (page_no_loading (page_for c.in-Ok.asked.options.command c.in-Ok.asked.loaded.project) (g.O.Sink.written c.args.out.now) (g.O.Sink.written c.print_asked.new.out) (g.O.Sink.faults c.args.out.now) (g.O.Sink.faults c.print_asked.new.out) c.print_asked.result.refusal c.print_asked.ensures.printed) c.in-Ok.ensures.reads
 
 pub returns-in-Ok-clause-complete : goal.returns-in-Ok-clause-complete
-returns-in-Ok-clause-complete g c = if_loads c.args.words.now c.args.env.now c.args.cwd.now (g.F.Files.told c.args.files.now) _ (page_complete (page_for c.in-Ok.asked.options.command c.in-Ok.asked.project) (g.O.Sink.written c.args.out.now) (g.O.Sink.written c.print_asked.new.out) (g.O.Sink.faults c.args.out.now) (g.O.Sink.faults c.print_asked.new.out) (IsReadFault c.args.words.now c.args.env.now c.args.cwd.now (g.F.Files.told c.args.files.now) (g.F.Files.faults c.args.files.now) (g.F.Files.faults c.project_asked.new.files)) c.print_asked.result.refusal c.print_asked.ensures.printed)
+returns-in-Ok-clause-complete g c = if_loads c.args.words.now c.args.env.now c.args.cwd.now (g.F.Files.told c.args.files.now) _ (page_complete (page_for c.in-Ok.asked.options.command c.in-Ok.asked.loaded.project) (g.O.Sink.written c.args.out.now) (g.O.Sink.written c.print_asked.new.out) (g.O.Sink.faults c.args.out.now) (g.O.Sink.faults c.print_asked.new.out) (IsReadFault c.args.words.now c.args.env.now c.args.cwd.now (g.F.Files.told c.args.files.now) (g.F.Files.faults c.args.files.now) (g.F.Files.faults c.project_asked.new.files)) c.print_asked.result.refusal c.print_asked.ensures.printed)
 
 pub returns-in-Err-clause-words : goal.returns-in-Err-clause-words
 returns-in-Err-clause-words g c = said_words c.args.words.now c.args.env.now c.in-Err.refusal c.ended.result.refusal c.in-Err.ensures.words c.ended.ensures.refusal
