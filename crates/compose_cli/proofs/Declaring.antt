@@ -15,6 +15,7 @@ use Rattle.compose_config.proofs.Loads.{answered, not_loaded}
 use Rattle.compose_config.specs.Commands.{IfLoads, IsReadFault}
 use Rattle.compose_words.specs.declared.Command.{Command}
 use Rattle.compose_words.specs.declared.Options.{Options}
+use Rattle.declared_set.specs.declared.LoadedProject.{LoadedProject}
 use Rattle.engine_types.specs.declared.Declared.{Declared}
 use Rattle.declared_set.specs.declared.IdentityRefusal.{IdentityRefusal}
 use Rattle.file_digests.specs.declared.DigestRefusal.{DigestRefusal}
@@ -37,16 +38,16 @@ abbrev pub declares : Declared → Result Declared Refusal
 declares declared = Ok declared
 
 -- a fact on what was declared is one on what is declared
-for_declared : (told : Option Contents) (command : Command) (project : Project) (declared : Declared) (Fact : Declared → Type 0)
-    → IfSome told (λ contents. DeclaresAs (declared_from contents command project) (declares declared)) → IsDeclared told command project declared → Fact declared → ForDeclared told command project Fact
-for_declared None command project declared Fact means is fact = (declared, is, fact)
-for_declared (Some contents) command project declared Fact means is fact = (declared, means, fact)
+for_declared : (told : Option Contents) (command : Command) (loaded : LoadedProject) (declared : Declared) (Fact : Declared → Type 0)
+    → IfSome told (λ contents. DeclaresAs (declared_from contents command loaded) (declares declared)) → IsDeclared told command loaded declared → Fact declared → ForDeclared told command loaded Fact
+for_declared None command loaded declared Fact means is fact = (declared, is, fact)
+for_declared (Some contents) command loaded declared Fact means is fact = (declared, means, fact)
 
 -- the same, of a fact on these options too, found by others that are equal
-pub for_declared_by : (told : Option Contents) (command : Command) (project : Project) (declared : Declared) (found expected : RunOptions) (Fact : Declared → RunOptions → Type 0) → found ≡ expected
-    → IfSome told (λ contents. DeclaresAs (declared_from contents command project) (declares declared)) → IsDeclared told command project declared → Fact declared found → ForDeclared told command project (λ d. Fact d expected)
-for_declared_by told command project declared found expected Fact same means is fact =
-    for_declared told command project declared (λ d. Fact d expected) means is (subst (Fact declared) same fact)
+pub for_declared_by : (told : Option Contents) (command : Command) (loaded : LoadedProject) (declared : Declared) (found expected : RunOptions) (Fact : Declared → RunOptions → Type 0) → found ≡ expected
+    → IfSome told (λ contents. DeclaresAs (declared_from contents command loaded) (declares declared)) → IsDeclared told command loaded declared → Fact declared found → ForDeclared told command loaded (λ d. Fact d expected)
+for_declared_by told command loaded declared found expected Fact same means is fact =
+    for_declared told command loaded declared (λ d. Fact d expected) means is (subst (Fact declared) same fact)
 
 -- what is declared isn't refused
 pub declared_unrefused : (Fact : Refusal → Type 0) (meant : Result Declared Refusal) (declared : Declared) → DeclaresAs meant (declares declared) → IfErr meant Fact
@@ -178,16 +179,16 @@ Free r = (expected : Refusal) → IsUndeclared expected (Some r)
 module _ (words : List (List ℕ)) (env : Variables) (cwd : List ℕ) (told : Option Contents) where
   -- a fact on what is declared of the project that was asked for, as the files tell it later
   pub if_declared : (later : Option Contents) (asked : Asked) (Fact : Result Declared Refusal → Type 0) → later ≡ told → IfSome told (λ contents. MeansAs (meaning words env cwd contents) (Ok asked))
-      → command_of words env ≡ Some asked.options.command → IfSome later (λ contents. Fact (declared_from contents asked.options.command asked.project)) → IfDeclared words env cwd told Fact
-  if_declared later asked Fact same means is fact = at told means (subst (λ (t : Option Contents). IfSome t (λ contents. Fact (declared_from contents asked.options.command asked.project))) same fact)
+      → command_of words env ≡ Some asked.options.command → IfSome later (λ contents. Fact (declared_from contents asked.options.command asked.loaded)) → IfDeclared words env cwd told Fact
+  if_declared later asked Fact same means is fact = at told means (subst (λ (t : Option Contents). IfSome t (λ contents. Fact (declared_from contents asked.options.command asked.loaded))) same fact)
     where
       if_aim : (aim : Option Aim) (A : Type 0) → A → IfSome aim (λ _. A)
       if_aim None A a = tt
       if_aim (Some aim) A a = a
 
-      at : (told : Option Contents) → IfSome told (λ contents. MeansAs (meaning words env cwd contents) (Ok asked)) → IfSome told (λ contents. Fact (declared_from contents asked.options.command asked.project)) → IfDeclared words env cwd told Fact
+      at : (told : Option Contents) → IfSome told (λ contents. MeansAs (meaning words env cwd contents) (Ok asked)) → IfSome told (λ contents. Fact (declared_from contents asked.options.command asked.loaded)) → IfDeclared words env cwd told Fact
       at None means fact = tt
-      at (Some contents) means fact = rw (means, is) (if_aim (aim_for asked.options.command) (Fact (declared_from contents asked.options.command asked.project)) fact)
+      at (Some contents) means fact = rw (means, is) (if_aim (aim_for asked.options.command) (Fact (declared_from contents asked.options.command asked.loaded)) fact)
 
   -- nothing is declared by words that run nothing
   pub if_declared_idle : (Fact : Result Declared Refusal → Type 0) → aim_asked (command_of words env) ≡ None → IfDeclared words env cwd told Fact
@@ -200,8 +201,8 @@ module _ (words : List (List ℕ)) (env : Variables) (cwd : List ℕ) (told : Op
       by None F e = tt
       by (Some command) F e = unaimed (aim_for command) (F command) e
 
-      one : (contents : Contents) (meant : Result Project Refusal) → IfOk meant (λ project. IfSome (command_of words env) (λ command. IfSome (aim_for command) (λ _. Fact (declared_from contents command project))))
-      one contents (Ok project) = by (command_of words env) (λ command. Fact (declared_from contents command project)) none
+      one : (contents : Contents) (meant : Result LoadedProject Refusal) → IfOk meant (λ loaded. IfSome (command_of words env) (λ command. IfSome (aim_for command) (λ _. Fact (declared_from contents command loaded))))
+      one contents (Ok loaded) = by (command_of words env) (λ command. Fact (declared_from contents command loaded)) none
       one contents (Err refusal) = tt
 
       at : (told : Option Contents) → IfDeclared words env cwd told Fact
@@ -216,12 +217,12 @@ module _ (words : List (List ℕ)) (env : Variables) (cwd : List ℕ) (told : Op
       if_aim None B b = tt
       if_aim (Some aim) B b = b
 
-      by : (contents : Contents) (project : Project) (command : Option Command) → A → IfSome command (λ c. IfSome (aim_for c) (λ _. Fact (declared_from contents c project)))
-      by contents project None a = tt
-      by contents project (Some command) a = if_aim (aim_for command) (Fact (declared_from contents command project)) (k (declared_from contents command project) a)
+      by : (contents : Contents) (loaded : LoadedProject) (command : Option Command) → A → IfSome command (λ c. IfSome (aim_for c) (λ _. Fact (declared_from contents c loaded)))
+      by contents loaded None a = tt
+      by contents loaded (Some command) a = if_aim (aim_for command) (Fact (declared_from contents command loaded)) (k (declared_from contents command loaded) a)
 
-      one : (contents : Contents) (meant : Result Project Refusal) → IfOk meant (λ _. A) → IfOk meant (λ project. IfSome (command_of words env) (λ command. IfSome (aim_for command) (λ _. Fact (declared_from contents command project))))
-      one contents (Ok project) a = by contents project (command_of words env) a
+      one : (contents : Contents) (meant : Result LoadedProject Refusal) → IfOk meant (λ _. A) → IfOk meant (λ loaded. IfSome (command_of words env) (λ command. IfSome (aim_for command) (λ _. Fact (declared_from contents command loaded))))
+      one contents (Ok loaded) a = by contents loaded (command_of words env) a
       one contents (Err refusal) a = tt
 
       at : (told : Option Contents) → IfLoads words env cwd told A → IfDeclared words env cwd told Fact
@@ -251,23 +252,23 @@ module _ (words : List (List ℕ)) (env : Variables) (cwd : List ℕ) (told : Op
         all (Err refusal) fault = tt
 
     -- a read for a digest that failed is one of the call: after it loaded the project, as the files tell it then
-    pub digest_read : (later : Option Contents) (asked : Asked) (between : ℕ) (path : List ℕ) → later ≡ told → options_asked words env ≡ Ok asked.options → IsSpelled words env cwd told asked.project → old ≤ between → between ≤ new
-        → IsFailedDigest later asked.options.command asked.project between new path → IsFailedDigestRead words env cwd told old new path
+    pub digest_read : (later : Option Contents) (asked : Asked) (between : ℕ) (path : List ℕ) → later ≡ told → options_asked words env ≡ Ok asked.options → IsSpelled words env cwd told asked.loaded → old ≤ between → between ≤ new
+        → IsFailedDigest later asked.options.command asked.loaded.project between new path → IsFailedDigestRead words env cwd told old new path
     digest_read later asked between path same is spelled first second failed =
         let both : Ok spelled.0 ≡ given asked.options = sym spelled.1 ∙ is in
         let options : spelled.0 ≡ asked.options = cc both in (
           asked.options,
           is,
-          asked.project,
-          subst (λ (o : Options). IsLoaded o env cwd told asked.project) options spelled.2,
+          asked.loaded,
+          subst (λ (o : Options). IsLoaded o env cwd told asked.loaded) options spelled.2,
           (
-            subst (λ (t : Option Contents). AreDigests t asked.options.command asked.project (Err (DigestRefusal.ReadFault path))) same failed.0,
+            subst (λ (t : Option Contents). AreDigests t asked.options.command asked.loaded.project (Err (DigestRefusal.ReadFault path))) same failed.0,
             rose_before old between new first second failed.1,
           ),
         )
 
-    pub digest_faults : (later : Option Contents) (asked : Asked) (between : ℕ) (found : Option Refusal) → later ≡ told → options_asked words env ≡ Ok asked.options → IsSpelled words env cwd told asked.project → old ≤ between → between ≤ new
-        → (meant : Result Declared Refusal) → IfOk meant (λ _. IsDigestOf asked.options.command asked.project later between new found) → IfOk meant (λ _. IsFaultOfReads words env cwd told old new found)
+    pub digest_faults : (later : Option Contents) (asked : Asked) (between : ℕ) (found : Option Refusal) → later ≡ told → options_asked words env ≡ Ok asked.options → IsSpelled words env cwd told asked.loaded → old ≤ between → between ≤ new
+        → (meant : Result Declared Refusal) → IfOk meant (λ _. IsDigestOf asked.options.command asked.loaded.project later between new found) → IfOk meant (λ _. IsFaultOfReads words env cwd told old new found)
     digest_faults later asked between found same is spelled first second (Ok declared) fault =
         inr (fault.0, fault.1, digest_read later asked between fault.0 same is spelled first second fault.2)
     digest_faults later asked between found same is spelled first second (Err refusal) fault = tt

@@ -18,7 +18,7 @@ use Rattle.refusals.specs.Origins.{IsOfAsking, IsOfLoading, is_of_words}
 use Rattle.refusals.specs.Refused.{IsRefusal}
 use Rattle.refusals.specs.Saying.{IsSaid}
 use Rattle.refusals.specs.declared.Refusal.{Refusal}
-use Rattle.typed_project.specs.declared.project.Project.{Project}
+use Rattle.declared_set.specs.declared.LoadedProject.{LoadedProject}
 
 -- a fact beside others
 pub beside : {X Y : Type 0} {A : Type 0} (meant : Result X Y) (P : Y → Type 0) → A → IfErr meant P → IfErr meant (λ refusal. A × P refusal)
@@ -26,7 +26,7 @@ beside (Ok x) P a h = tt
 beside (Err refusal) P a h = (a, h)
 
 -- what is meant to be refused is what the call is refused with, and nothing was sent
-pub refused_with : {H : Type 0} (meant : Result Project Refusal) (refusal : Refusal) (ended : Ended H) → SendsNothing ended → MeansAs meant (answered refusal) → IsSaid refusal ended.refusal → IfErr meant (λ r. IsRefusedWith r ended)
+pub refused_with : {H : Type 0} (meant : Result LoadedProject Refusal) (refusal : Refusal) (ended : Ended H) → SendsNothing ended → MeansAs meant (answered refusal) → IsSaid refusal ended.refusal → IfErr meant (λ r. IsRefusedWith r ended)
 refused_with meant refusal ended nothing means is_said = beside meant (λ r. IsRefusal r ended.refusal) nothing (said_refusal meant refusal ended.refusal means is_said)
 
 where_it_runs : (aim : Option Aim) (Fact : Type 0) → Fact → IfSome aim (λ _. Fact)

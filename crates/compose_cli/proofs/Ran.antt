@@ -307,11 +307,11 @@ said_not_zero refusal found status h e z =
 -- a fact on what the project that was asked for declares, as the files tell it later, is one on the task that the words ask for
 pub task_by : (words : List (List ℕ)) (env : Variables) (cwd : List ℕ) (told later : Option Contents) (workers first : ℕ) (aim : Aim) (asked : Asked) (Fact : Task → Type 0) → later ≡ told
     → command_of words env ≡ Some asked.options.command → aim_for asked.options.command ≡ Some aim
-    → IfSome told (λ contents. MeansAs (meaning words env cwd contents) (Ok asked)) → IsSpelled words env cwd told asked.project
-    → ForDeclared later asked.options.command asked.project (λ declared. Fact (task_of declared aim (limits_of workers (options_for asked.options.command) first))) → ForTask workers words env cwd told first Fact
+    → IfSome told (λ contents. MeansAs (meaning words env cwd contents) (Ok asked)) → IsSpelled words env cwd told asked.loaded
+    → ForDeclared later asked.options.command asked.loaded (λ declared. Fact (task_of declared aim (limits_of workers (options_for asked.options.command) first))) → ForTask workers words env cwd told first Fact
 task_by words env cwd told later workers first aim asked Fact same is runs means spelled fact =
     rw is (rw runs (for_project words env cwd told asked (λ p. ForDeclared told asked.options.command p (λ declared. Fact (task_of declared aim (limits_of workers (options_for asked.options.command) first)))) means spelled
-    (subst (λ (t : Option Contents). ForDeclared t asked.options.command asked.project (λ declared. Fact (task_of declared aim (limits_of workers (options_for asked.options.command) first)))) same fact)))
+    (subst (λ (t : Option Contents). ForDeclared t asked.options.command asked.loaded (λ declared. Fact (task_of declared aim (limits_of workers (options_for asked.options.command) first)))) same fact)))
 
 -- what a command's run is for, by the call that found it
 pub aims : (command : Command) (found : Option Aim) (aim : Aim) → found ≡ aim_for command → found ≡ Some aim → aim_for command ≡ Some aim

@@ -46,7 +46,7 @@ abbrev pub WritesPage :
     → Type 0
 WritesPage words env cwd told old new =
     ForProject words env cwd told
-    (λ project. GrewBy old (page_asked (command_of words env) project) new)
+    (λ loaded. GrewBy old (page_asked (command_of words env) loaded.project) new)
 
 -- the output grew by a prefix of that page
 abbrev pub WritesPrefix :
@@ -54,4 +54,4 @@ abbrev pub WritesPrefix :
     → Type 0
 WritesPrefix words env cwd told old new =
     ForProject words env cwd told
-    (λ project. GrewByPrefix old new (page_asked (command_of words env) project))
+    (λ loaded. GrewByPrefix old new (page_asked (command_of words env) loaded.project))

@@ -21,6 +21,7 @@ use Rattle.outside_api.specs.Hands.{Heard, HeardNothing}
 use Rattle.outside_files.specs.Sinks.{GrewBy}
 use Rattle.compose_words.specs.declared.Command.{Command}
 use Rattle.compose_words.specs.declared.Options.{Options}
+use Rattle.declared_set.specs.declared.LoadedProject.{LoadedProject}
 use Rattle.file_digests.specs.declared.DigestRefusal.{DigestRefusal}
 use Rattle.typed_project.specs.declared.project.Project.{Project}
 use Rattle.project_run.specs.Timing.{IsTimed, ReadsFirst}
@@ -71,13 +72,13 @@ abbrev pub first_reading : {H : Type 0} → (H → Clock) → List H → ℕ
 first_reading clock [] = 0
 first_reading clock (hand ∷ others) = (clock hand).first
 
--- a fact on what words declare, with the command that they are, what it runs for and the project that they load: on the set that
--- the files give where these are told, else on one that some answers of reads give
+-- a fact on what words declare, with the command that they are, what it runs for and the project that they load, with its files and
+-- its directory: on the set that the files give where these are told, else on one that some answers of reads give
 abbrev pub ForAsked :
     List (List ℕ) → Variables → List ℕ → Option Contents → (Command → Aim → Declared → Type 0) → Type 0
 ForAsked words env cwd told Fact =
     IfSome (command_of words env) (λ command. IfSome (aim_for command) (λ aim.
-    ForProject words env cwd told (λ project. ForDeclared told command project (Fact command aim))))
+    ForProject words env cwd told (λ loaded. ForDeclared told command loaded (Fact command aim))))
 
 -- a fact on the task that a call runs: what its words ask for, within the limits that its options, so many workers and the first
 -- reading of hand 0's clock set, of what one project declares
@@ -91,9 +92,9 @@ ForTask workers words env cwd told first Fact =
 abbrev pub IfDeclared :
     List (List ℕ) → Variables → List ℕ → Option Contents → (Result Declared Refusal → Type 0) → Type 0
 IfDeclared words env cwd told Fact =
-    IfSome told (λ contents. IfOk (meaning words env cwd contents) (λ project.
+    IfSome told (λ contents. IfOk (meaning words env cwd contents) (λ loaded.
     IfSome (command_of words env) (λ command. IfSome (aim_for command) (λ aim.
-    Fact (declared_from contents command project)))))
+    Fact (declared_from contents command loaded)))))
 
 -- the refusal is the one of what is declared; reads that failed and a want of memory may stand in its place
 abbrev pub IsUndeclared : Refusal → Option Refusal → Type 0
@@ -113,8 +114,8 @@ abbrev pub IsFailedDigestRead :
     List (List ℕ) → Variables → List ℕ → Option Contents → ℕ → ℕ → List ℕ → Type 0
 IsFailedDigestRead words env cwd told old new path =
     (options : Options) × (options_asked words env ≡ Ok options)
-    × (project : Project) × IsLoaded options env cwd told project
-    × IsFailedDigest told options.command project old new path
+    × (loaded : LoadedProject) × IsLoaded options env cwd told loaded
+    × IsFailedDigest told options.command loaded.project old new path
 
 -- a call is refused since the read of a file for its digest failed
 abbrev pub IsDigestFault :

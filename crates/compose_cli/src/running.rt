@@ -48,21 +48,21 @@ pub(crate) fn run_asked<F: Files, P: Plug, O: Sink, G: Sink>(
     err: &mut G,
 ) -> Ended<P::Hand>
     requires dialled { ForSome (P.dialled plug.old) (λ n. n < 2 ^ 61) }
-    requires keyed { IsKeyed asked.project }
-    requires acyclic { cycle asked.project.services ≡ None }
+    requires keyed { IsKeyed asked.loaded.project }
+    requires acyclic { cycle asked.loaded.project.services ≡ None }
     requires reachable { IsReachable asked.options env.now cwd.now }
 
     // What can't be declared is what the call is refused with; and nothing else is, but for reads that failed.
     ensures declaring { IfSome (F.told files.old) (λ contents.
-        IfErr (declared_from contents asked.options.command asked.project) (λ refusal.
+        IfErr (declared_from contents asked.options.command asked.loaded) (λ refusal.
         SendsNothing result × IsUndeclared refusal result.refusal)) }
     ensures complete { IsOfLoading result.refusal → IfSome (F.told files.old) (λ contents.
-        IfOk (declared_from contents asked.options.command asked.project) (λ declared.
-        IsDigestOf asked.options.command asked.project (F.told files.old)
+        IfOk (declared_from contents asked.options.command asked.loaded) (λ declared.
+        IsDigestOf asked.options.command asked.loaded.project (F.told files.old)
         (F.faults files.old) (F.faults files.new) result.refusal)) }
     ensures digest { (path : _)
         → result.refusal ≡ Some (Refusal.Digest (DigestRefusal.ReadFault path))
-        → IsFailedDigest (F.told files.old) asked.options.command asked.project
+        → IsFailedDigest (F.told files.old) asked.options.command asked.loaded.project
         (F.faults files.old) (F.faults files.new) path }
     ensures words { (refusal : _) → IsTrue (is_of_words refusal)
         → result.refusal ≡ Some refusal → ⊥ }
@@ -83,7 +83,7 @@ pub(crate) fn run_asked<F: Files, P: Plug, O: Sink, G: Sink>(
     ensures unsent { result.journal ≡ [] → (hand : P.Hand) → Among result.hands hand
         → P.Hand.log hand ≡ [] }
     ensures ran { IfBegun result.journal (ForDeclared (F.told files.old)
-        asked.options.command asked.project (λ declared. RanAlone
+        asked.options.command asked.loaded (λ declared. RanAlone
         (λ h. telling (P.Hand.log h) (P.Hand.heard h) (P.Hand.faults h) (P.Hand.clock h)
         (P.Hand.engine h)) (P.engine plug.old) (task_of declared aim
         (limits_of 1 (options_for asked.options.command)
@@ -96,7 +96,7 @@ pub(crate) fn run_asked<F: Files, P: Plug, O: Sink, G: Sink>(
         → O.written out.new ≡ O.written out.old }
 {
     let options = options_for(&asked.options.command);
-    match declared_asked(alloc, &asked.options.command, &asked.project, files) {
+    match declared_asked(alloc, &asked.options.command, &asked.loaded, files) {
         Ok(declared) => {
             let place = place_asked(alloc, &asked.options, env, cwd);
             // The call ends, and all its memory with it: the project isn't given back piece by piece.

@@ -16,7 +16,7 @@ use Rattle.refusals.proofs.AfterReads.{ends_loaded, ends_said}
 use Rattle.compose_cli.proofs.running.run_asked.Goals as goal
 
 pub returns-in-Ok-clause-declaring : goal.returns-in-Ok-clause-declaring
-returns-in-Ok-clause-declaring g c = IfSome-map (g.F.Files.told c.args.files.now) _ _ c.in-Ok.ensures.told (λ contents means. declared_unrefused _ (declared_from contents c.args.asked.options.command c.args.asked.project) c.in-Ok.declared means)
+returns-in-Ok-clause-declaring g c = IfSome-map (g.F.Files.told c.args.files.now) _ _ c.in-Ok.ensures.told (λ contents means. declared_unrefused _ (declared_from contents c.args.asked.options.command c.args.asked.loaded) c.in-Ok.declared means)
 
 pub returns-in-Ok-clause-complete : goal.returns-in-Ok-clause-complete
 returns-in-Ok-clause-complete g c = λ loading. absurd (c.run_declared.ensures.origin loading)
@@ -38,7 +38,7 @@ returns-in-Ok-clause-quiet_loading g c = λ loading. absurd (c.run_declared.ensu
 
 pub returns-in-Ok-clause-ran : goal.returns-in-Ok-clause-ran
 returns-in-Ok-clause-ran g c = if_begun c.run_declared.result.journal c.run_declared.ensures.ran (λ ran.
-    for_declared_by (g.F.Files.told c.args.files.now) c.args.asked.options.command c.args.asked.project c.in-Ok.declared c.options_for-options.result (options_for c.args.asked.options.command) (λ declared bounds. RanAlone
+    for_declared_by (g.F.Files.told c.args.files.now) c.args.asked.options.command c.args.asked.loaded c.in-Ok.declared c.options_for-options.result (options_for c.args.asked.options.command) (λ declared bounds. RanAlone
     (λ h. telling (g.P.Hand.Hand.log h) (g.P.Hand.Hand.heard h) (g.P.Hand.Hand.faults h) (g.P.Hand.Hand.clock h) (g.P.Hand.Hand.engine h)) (g.P.Plug.engine c.args.plug.now)
     (task_of declared c.args.aim (limits_of 1 bounds (first_reading (λ h. g.P.Hand.Hand.clock h) c.run_declared.result.hands))) c.run_declared.result
     (g.O.Sink.written c.args.out.now) (g.O.Sink.written c.run_declared.new.out) (g.O.Sink.faults c.args.out.now) (g.O.Sink.faults c.run_declared.new.out))
@@ -53,12 +53,12 @@ returns-in-Err-clause-dials g c = undialled (IsDialFor c.args.asked.options c.ar
     (λ e. declaring_no_outside c.in-Err.refusal c.refused.result.refusal Part.Plug c.in-Err.ensures.kind c.refused.ensures.refusal e)
 
 pub returns-in-Err-clause-declaring : goal.returns-in-Err-clause-declaring
-returns-in-Err-clause-declaring g c = IfSome-map (g.F.Files.told c.args.files.now) _ _ c.in-Err.ensures.told (λ contents means. refused_undeclared (declared_from contents c.args.asked.options.command c.args.asked.project) c.in-Err.refusal c.refused.result c.refused.ensures.nothing means c.refused.ensures.refusal)
+returns-in-Err-clause-declaring g c = IfSome-map (g.F.Files.told c.args.files.now) _ _ c.in-Err.ensures.told (λ contents means. refused_undeclared (declared_from contents c.args.asked.options.command c.args.asked.loaded) c.in-Err.refusal c.refused.result c.refused.ensures.nothing means c.refused.ensures.refusal)
 
 pub returns-in-Err-clause-complete : goal.returns-in-Err-clause-complete
 returns-in-Err-clause-complete g c = λ loading. IfSome-map (g.F.Files.told c.args.files.now) _ _ c.in-Err.ensures.told (λ contents means.
-    only_digests c.args.asked.options.command c.args.asked.project (g.F.Files.told c.args.files.now) (g.F.Files.faults c.args.files.now) (g.F.Files.faults c.declared_asked.new.files)
-    (declared_from contents c.args.asked.options.command c.args.asked.project) c.in-Err.refusal c.refused.result.refusal c.in-Err.ensures.kind means c.in-Err.ensures.read c.refused.ensures.refusal loading)
+    only_digests c.args.asked.options.command c.args.asked.loaded.project (g.F.Files.told c.args.files.now) (g.F.Files.faults c.args.files.now) (g.F.Files.faults c.declared_asked.new.files)
+    (declared_from contents c.args.asked.options.command c.args.asked.loaded) c.in-Err.refusal c.refused.result.refusal c.in-Err.ensures.kind means c.in-Err.ensures.read c.refused.ensures.refusal loading)
 
 pub returns-in-Err-clause-digest : goal.returns-in-Err-clause-digest
 returns-in-Err-clause-digest g c = λ path e. c.in-Err.ensures.read path (ap Err (said_digest c.in-Err.refusal c.refused.result.refusal path c.refused.ensures.refusal e))
