@@ -22,11 +22,11 @@ use Rattle.run_model.specs.Runs.{Task}
 
 module _ {H : Type 0} (tell : H → Telling) (words : List (List ℕ)) (env : Variables) (cwd : List ℕ) (told later : Option Contents) (aim : Aim) (asked : Asked) (attempts : Attempts H) (old new : Moment)
     (kept : later ≡ told) (options : options_asked words env ≡ Ok asked.options) (command : command_of words env ≡ Some asked.options.command) (aimed : aim_for asked.options.command ≡ Some aim)
-    (means : IfSome told (λ contents. MeansAs (meaning words env cwd contents) (Ok asked))) (spelled : IsSpelled words env cwd told asked.project) where
+    (means : IfSome told (λ contents. MeansAs (meaning words env cwd contents) (Ok asked))) (spelled : IsSpelled words env cwd told asked.loaded) where
   many : asked.options.parallel ≡ workers_asked words env
   many = sym (workers_are words env asked.options options)
 
-  asked_so : RunsProject tell (IsDialFor asked.options env cwd) asked.options.parallel later asked.options.command asked.project aim attempts old new
+  asked_so : RunsProject tell (IsDialFor asked.options env cwd) asked.options.parallel later asked.options.command asked.loaded aim attempts old new
       → RunsAsked tell (workers_asked words env) words env cwd told attempts old new
   asked_so r = (
     r.0,
@@ -37,7 +37,7 @@ module _ {H : Type 0} (tell : H → Telling) (words : List (List ℕ)) (env : Va
   )
 
   -- what was run of a project that words ask for was run of what they ask for
-  pub runs_asked : {A : Type 0} → A ⊎ RunsProject tell (IsDialFor asked.options env cwd) asked.options.parallel later asked.options.command asked.project aim attempts old new
+  pub runs_asked : {A : Type 0} → A ⊎ RunsProject tell (IsDialFor asked.options env cwd) asked.options.parallel later asked.options.command asked.loaded aim attempts old new
       → A ⊎ RunsAsked tell (workers_asked words env) words env cwd told attempts old new
   runs_asked (inl none) = inl none
   runs_asked (inr ran) = inr (asked_so ran)

@@ -6,6 +6,7 @@ use Rattle.compose_cli.specs.Dialling.{IsDialAsked}
 use Rattle.compose_cli.specs.Ends.{SendsNothing}
 use Rattle.compose_cli.specs.Runs.{ForTask, first_reading, options_for}
 use Rattle.compose_words.specs.declared.Command.{Command}
+use Rattle.declared_set.specs.declared.LoadedProject.{LoadedProject}
 use Rattle.engine_types.specs.declared.Aim.{Aim}
 use Rattle.ledger_run.specs.Tellings.{Telling}
 use Rattle.outside_api.specs.declared.dial.Dial.{Dial}
@@ -17,7 +18,6 @@ use Rattle.repeated_runs.specs.Attempts.{AreAttempts, RanOnce, first_hands}
 use Rattle.repeated_runs.specs.Moments.{Moment}
 use Rattle.repeated_runs.specs.declared.attempt.Attempts.{Attempts}
 use Rattle.run_model.specs.Runs.{Task, limits_of}
-use Rattle.typed_project.specs.declared.project.Project.{Project}
 
 -- a call asked its plug for no hand
 pub record AsksNothing {H : Type 0} (attempts : Attempts H) (dials_old dials_new : List Dial)
@@ -46,9 +46,9 @@ first_reading_of tell attempts =
 -- a call ran one task, as often as `AreAttempts` says: what an aim asks for of what a project declares, within the limits that its
 -- command, so many workers and the first reading of its first run set
 abbrev pub RunsProject : {H : Type 0} → (H → Telling) → (ℕ → Dial → Type 0) → ℕ → Option Contents
-    → Command → Project → Aim → Attempts H → Moment → Moment → Type 0
-RunsProject tell Place workers told command project aim attempts old new =
-    (task : Task) × ForDeclared told command project (λ declared. task ≡ task_of declared aim
+    → Command → LoadedProject → Aim → Attempts H → Moment → Moment → Type 0
+RunsProject tell Place workers told command loaded aim attempts old new =
+    (task : Task) × ForDeclared told command loaded (λ declared. task ≡ task_of declared aim
     (limits_of workers (options_for command) (first_reading_of tell attempts)))
     × AreAttempts tell Place workers task attempts old new
 

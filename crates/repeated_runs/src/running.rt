@@ -59,21 +59,21 @@ where
     requires dialled { ForSome (P.dialled plug.old) (λ n. n < 2 ^ 61) }
     requires some { 1 ≤ asked.options.parallel }
     requires few { asked.options.parallel ≤ most_workers }
-    requires keyed { IsKeyed asked.project }
-    requires acyclic { cycle asked.project.services ≡ None }
+    requires keyed { IsKeyed asked.loaded.project }
+    requires acyclic { cycle asked.loaded.project.services ≡ None }
     requires reachable { IsReachable asked.options env.now cwd.now }
 
     // What can't be declared is what the call is refused with; and nothing else is, but for reads that failed.
     ensures declaring { IfSome (F.told files.old) (λ contents.
-        IfErr (declared_from contents asked.options.command asked.project) (λ refusal.
+        IfErr (declared_from contents asked.options.command asked.loaded) (λ refusal.
         SendsNothing result.last × IsUndeclared refusal result.last.refusal)) }
     ensures complete { IsOfLoading result.last.refusal → IfSome (F.told files.old) (λ contents.
-        IfOk (declared_from contents asked.options.command asked.project) (λ declared.
-        IsDigestOf asked.options.command asked.project (F.told files.old)
+        IfOk (declared_from contents asked.options.command asked.loaded) (λ declared.
+        IsDigestOf asked.options.command asked.loaded.project (F.told files.old)
         (F.faults files.old) (F.faults files.new) result.last.refusal)) }
     ensures digest { (path : _)
         → result.last.refusal ≡ Some (Refusal.Digest (DigestRefusal.ReadFault path))
-        → IsFailedDigest (F.told files.old) asked.options.command asked.project
+        → IsFailedDigest (F.told files.old) asked.options.command asked.loaded.project
         (F.faults files.old) (F.faults files.new) path }
     ensures words { (refusal : _) → IsTrue (is_of_words refusal)
         → result.last.refusal ≡ Some refusal → ⊥ }
@@ -93,7 +93,7 @@ where
         (O.written out.new) (O.faults out.new))
         ⊎ RunsProject (λ h. telling (P.Hand.log h) (P.Hand.heard h) (P.Hand.faults h)
         (P.Hand.clock h) (P.Hand.engine h)) (IsDialFor asked.options env.now cwd.now)
-        asked.options.parallel (F.told files.old) asked.options.command asked.project aim result
+        asked.options.parallel (F.told files.old) asked.options.command asked.loaded aim result
         (moment (P.dials plug.old) (P.dialled plug.old) (P.faults plug.old)
         (O.written out.old) (O.faults out.old))
         (moment (P.dials plug.new) (P.dialled plug.new) (P.faults plug.new)
@@ -104,7 +104,7 @@ where
 {
     let options = options_for(&asked.options.command);
     let workers = asked.options.parallel;
-    match declared_asked(alloc, &asked.options.command, &asked.project, files) {
+    match declared_asked(alloc, &asked.options.command, &asked.loaded, files) {
         Ok(declared) => {
             let place = place_asked(alloc, &asked.options, env, cwd);
             // The call ends, and all its memory with it: the project isn't given back piece by piece.

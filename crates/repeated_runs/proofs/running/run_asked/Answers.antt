@@ -20,7 +20,7 @@ use Rattle.run_model.specs.Runs.{limits_of}
 use Rattle.repeated_runs.proofs.running.run_asked.Goals as goal
 
 pub returns-in-Ok-clause-declaring : goal.returns-in-Ok-clause-declaring
-returns-in-Ok-clause-declaring g c = IfSome-map (g.F.Files.told c.args.files.now) _ _ c.in-Ok.ensures.told (λ contents means. declared_unrefused _ (declared_from contents c.args.asked.options.command c.args.asked.project) c.in-Ok.declared means)
+returns-in-Ok-clause-declaring g c = IfSome-map (g.F.Files.told c.args.files.now) _ _ c.in-Ok.ensures.told (λ contents means. declared_unrefused _ (declared_from contents c.args.asked.options.command c.args.asked.loaded) c.in-Ok.declared means)
 
 pub returns-in-Ok-clause-complete : goal.returns-in-Ok-clause-complete
 returns-in-Ok-clause-complete g c = λ loading. absurd (c.run_declared.ensures.attempts.last.origin loading)
@@ -41,12 +41,12 @@ pub returns-in-Ok-clause-quiet_loading : goal.returns-in-Ok-clause-quiet_loading
 returns-in-Ok-clause-quiet_loading g c = λ loading. absurd (c.run_declared.ensures.attempts.last.origin loading)
 
 pub returns-in-Err-clause-declaring : goal.returns-in-Err-clause-declaring
-returns-in-Err-clause-declaring g c = IfSome-map (g.F.Files.told c.args.files.now) _ _ c.in-Err.ensures.told (λ contents means. refused_undeclared (declared_from contents c.args.asked.options.command c.args.asked.project) c.in-Err.refusal c.refused.result c.refused.ensures.nothing means c.refused.ensures.refusal)
+returns-in-Err-clause-declaring g c = IfSome-map (g.F.Files.told c.args.files.now) _ _ c.in-Err.ensures.told (λ contents means. refused_undeclared (declared_from contents c.args.asked.options.command c.args.asked.loaded) c.in-Err.refusal c.refused.result c.refused.ensures.nothing means c.refused.ensures.refusal)
 
 pub returns-in-Err-clause-complete : goal.returns-in-Err-clause-complete
 returns-in-Err-clause-complete g c = λ loading. IfSome-map (g.F.Files.told c.args.files.now) _ _ c.in-Err.ensures.told (λ contents means.
-    only_digests c.args.asked.options.command c.args.asked.project (g.F.Files.told c.args.files.now) (g.F.Files.faults c.args.files.now) (g.F.Files.faults c.declared_asked.new.files)
-    (declared_from contents c.args.asked.options.command c.args.asked.project) c.in-Err.refusal c.refused.result.refusal c.in-Err.ensures.kind means c.in-Err.ensures.read c.refused.ensures.refusal loading)
+    only_digests c.args.asked.options.command c.args.asked.loaded.project (g.F.Files.told c.args.files.now) (g.F.Files.faults c.args.files.now) (g.F.Files.faults c.declared_asked.new.files)
+    (declared_from contents c.args.asked.options.command c.args.asked.loaded) c.in-Err.refusal c.refused.result.refusal c.in-Err.ensures.kind means c.in-Err.ensures.read c.refused.ensures.refusal loading)
 
 pub returns-in-Err-clause-digest : goal.returns-in-Err-clause-digest
 returns-in-Err-clause-digest g c = λ path e. c.in-Err.ensures.read path (ap Err (said_digest c.in-Err.refusal c.refused.result.refusal path c.refused.ensures.refusal e))
@@ -76,7 +76,7 @@ returns-in-Err-clause-attempts g c = inl (record {
 pub returns-in-Ok-clause-attempts : goal.returns-in-Ok-clause-attempts
 returns-in-Ok-clause-attempts g c = inr (
   (task_by (λ h. telling (g.P.Hand.Hand.log h) (g.P.Hand.Hand.heard h) (g.P.Hand.Hand.faults h) (g.P.Hand.Hand.clock h) (g.P.Hand.Hand.engine h)) c.in-Ok.declared c.args.aim c.options_for-options.result c.args.asked.options.parallel c.run_declared.result.earlier c.run_declared.result.last),
-  for_declared_by (g.F.Files.told c.args.files.now) c.args.asked.options.command c.args.asked.project c.in-Ok.declared c.options_for-options.result (options_for c.args.asked.options.command)
+  for_declared_by (g.F.Files.told c.args.files.now) c.args.asked.options.command c.args.asked.loaded c.in-Ok.declared c.options_for-options.result (options_for c.args.asked.options.command)
       (λ declared bounds. (task_by (λ h. telling (g.P.Hand.Hand.log h) (g.P.Hand.Hand.heard h) (g.P.Hand.Hand.faults h) (g.P.Hand.Hand.clock h) (g.P.Hand.Hand.engine h)) c.in-Ok.declared c.args.aim c.options_for-options.result c.args.asked.options.parallel c.run_declared.result.earlier c.run_declared.result.last) ≡ task_of declared c.args.aim (limits_of c.args.asked.options.parallel bounds (first_reading_of (λ h. telling (g.P.Hand.Hand.log h) (g.P.Hand.Hand.heard h) (g.P.Hand.Hand.faults h) (g.P.Hand.Hand.clock h) (g.P.Hand.Hand.engine h)) c.run_declared.result)))
       c.options_for-options.ensures c.in-Ok.ensures.told c.in-Ok.ensures.declared refl,
   attempts_at (λ h. telling (g.P.Hand.Hand.log h) (g.P.Hand.Hand.heard h) (g.P.Hand.Hand.faults h) (g.P.Hand.Hand.clock h) (g.P.Hand.Hand.engine h)) (IsDialAt c.place_asked-place.result) (IsDialFor c.args.asked.options c.args.env.now c.args.cwd.now)

@@ -55,38 +55,38 @@ pub returns-in-None-clause-words : goal.returns-in-None-clause-words
 returns-in-None-clause-words g c = no_words_refused c.args.words.now c.args.env.now _ c.in-Ok.asked.options c.in-Ok.ensures.options
 
 pub returns-in-None-clause-words_only : goal.returns-in-None-clause-words_only
-returns-in-None-clause-words_only g c = λ refusal h e. absurd (page_no_words (page_for c.in-Ok.asked.options.command c.in-Ok.asked.project) (g.O.Sink.written c.args.out.now) (g.O.Sink.written c.print_page.new.out) (g.O.Sink.faults c.args.out.now) (g.O.Sink.faults c.print_page.new.out) c.print_page.result.refusal refusal c.print_page.ensures.printed h e)
+returns-in-None-clause-words_only g c = λ refusal h e. absurd (page_no_words (page_for c.in-Ok.asked.options.command c.in-Ok.asked.loaded.project) (g.O.Sink.written c.args.out.now) (g.O.Sink.written c.print_page.new.out) (g.O.Sink.faults c.args.out.now) (g.O.Sink.faults c.print_page.new.out) c.print_page.result.refusal refusal c.print_page.ensures.printed h e)
 
 pub returns-in-None-clause-loading : goal.returns-in-None-clause-loading
 returns-in-None-clause-loading g c = IfSome-map (g.F.Files.told c.args.files.now) _ _ c.in-Ok.ensures.told (λ contents means. means_unrefused _ (meaning c.args.words.now c.args.env.now c.args.cwd.now contents) c.in-Ok.asked means)
 
 pub returns-in-None-clause-read_fault : goal.returns-in-None-clause-read_fault
-returns-in-None-clause-read_fault g c = λ path e. absurd (page_no_read (page_for c.in-Ok.asked.options.command c.in-Ok.asked.project) (g.O.Sink.written c.args.out.now) (g.O.Sink.written c.print_page.new.out) (g.O.Sink.faults c.args.out.now) (g.O.Sink.faults c.print_page.new.out) c.print_page.result.refusal path c.print_page.ensures.printed e)
+returns-in-None-clause-read_fault g c = λ path e. absurd (page_no_read (page_for c.in-Ok.asked.options.command c.in-Ok.asked.loaded.project) (g.O.Sink.written c.args.out.now) (g.O.Sink.written c.print_page.new.out) (g.O.Sink.faults c.args.out.now) (g.O.Sink.faults c.print_page.new.out) c.print_page.result.refusal path c.print_page.ensures.printed e)
 
 pub returns-in-None-clause-page : goal.returns-in-None-clause-page
 returns-in-None-clause-page g c = λ config zero.
-    for_project c.args.words.now c.args.env.now c.args.cwd.now (g.F.Files.told c.args.files.now) c.in-Ok.asked (λ project. GrewBy (g.O.Sink.written c.args.out.now) (page_asked (command_of c.args.words.now c.args.env.now) project) (g.O.Sink.written c.print_page.new.out)) c.in-Ok.ensures.told c.in-Ok.ensures.text
-    (asked_whole (g.O.Sink.written c.args.out.now) (g.O.Sink.written c.print_page.new.out) (g.O.Sink.faults c.args.out.now) (g.O.Sink.faults c.print_page.new.out) (command_of c.args.words.now c.args.env.now) c.in-Ok.asked.options.command c.in-Ok.asked.project (command_is c.args.words.now c.args.env.now c.in-Ok.asked.options c.in-Ok.ensures.options) c.print_page.result.refusal (c.print_page.ensures.none.1 zero) c.print_page.ensures.printed)
+    for_project c.args.words.now c.args.env.now c.args.cwd.now (g.F.Files.told c.args.files.now) c.in-Ok.asked (λ loaded. GrewBy (g.O.Sink.written c.args.out.now) (page_asked (command_of c.args.words.now c.args.env.now) loaded.project) (g.O.Sink.written c.print_page.new.out)) c.in-Ok.ensures.told c.in-Ok.ensures.text
+    (asked_whole (g.O.Sink.written c.args.out.now) (g.O.Sink.written c.print_page.new.out) (g.O.Sink.faults c.args.out.now) (g.O.Sink.faults c.print_page.new.out) (command_of c.args.words.now c.args.env.now) c.in-Ok.asked.options.command c.in-Ok.asked.loaded.project (command_is c.args.words.now c.args.env.now c.in-Ok.asked.options c.in-Ok.ensures.options) c.print_page.result.refusal (c.print_page.ensures.none.1 zero) c.print_page.ensures.printed)
 
 pub returns-in-None-clause-page_prefix : goal.returns-in-None-clause-page_prefix
 returns-in-None-clause-page_prefix g c = λ config. inr (
-    for_project c.args.words.now c.args.env.now c.args.cwd.now (g.F.Files.told c.args.files.now) c.in-Ok.asked (λ project. GrewByPrefix (g.O.Sink.written c.args.out.now) (g.O.Sink.written c.print_page.new.out) (page_asked (command_of c.args.words.now c.args.env.now) project)) c.in-Ok.ensures.told c.in-Ok.ensures.text
-    (asked_prefix (g.O.Sink.written c.args.out.now) (g.O.Sink.written c.print_page.new.out) (g.O.Sink.faults c.args.out.now) (g.O.Sink.faults c.print_page.new.out) (command_of c.args.words.now c.args.env.now) c.in-Ok.asked.options.command c.in-Ok.asked.project (command_is c.args.words.now c.args.env.now c.in-Ok.asked.options c.in-Ok.ensures.options) c.print_page.result.refusal c.print_page.ensures.printed))
+    for_project c.args.words.now c.args.env.now c.args.cwd.now (g.F.Files.told c.args.files.now) c.in-Ok.asked (λ loaded. GrewByPrefix (g.O.Sink.written c.args.out.now) (g.O.Sink.written c.print_page.new.out) (page_asked (command_of c.args.words.now c.args.env.now) loaded.project)) c.in-Ok.ensures.told c.in-Ok.ensures.text
+    (asked_prefix (g.O.Sink.written c.args.out.now) (g.O.Sink.written c.print_page.new.out) (g.O.Sink.faults c.args.out.now) (g.O.Sink.faults c.print_page.new.out) (command_of c.args.words.now c.args.env.now) c.in-Ok.asked.options.command c.in-Ok.asked.loaded.project (command_is c.args.words.now c.args.env.now c.in-Ok.asked.options c.in-Ok.ensures.options) c.print_page.result.refusal c.print_page.ensures.printed))
 
 pub returns-in-None-clause-page_fault : goal.returns-in-None-clause-page_fault
-returns-in-None-clause-page_fault g c = λ config e. page_fault (page_for c.in-Ok.asked.options.command c.in-Ok.asked.project) (g.O.Sink.written c.args.out.now) (g.O.Sink.written c.print_page.new.out) (g.O.Sink.faults c.args.out.now) (g.O.Sink.faults c.print_page.new.out) c.print_page.result.refusal c.print_page.ensures.printed e
+returns-in-None-clause-page_fault g c = λ config e. page_fault (page_for c.in-Ok.asked.options.command c.in-Ok.asked.loaded.project) (g.O.Sink.written c.args.out.now) (g.O.Sink.written c.print_page.new.out) (g.O.Sink.faults c.args.out.now) (g.O.Sink.faults c.print_page.new.out) c.print_page.result.refusal c.print_page.ensures.printed e
 
 pub returns-in-None-clause-page_kind : goal.returns-in-None-clause-page_kind
-returns-in-None-clause-page_kind g c = λ config. page_kind (page_for c.in-Ok.asked.options.command c.in-Ok.asked.project) (g.O.Sink.written c.args.out.now) (g.O.Sink.written c.print_page.new.out) (g.O.Sink.faults c.args.out.now) (g.O.Sink.faults c.print_page.new.out) c.print_page.result.refusal c.print_page.ensures.printed
+returns-in-None-clause-page_kind g c = λ config. page_kind (page_for c.in-Ok.asked.options.command c.in-Ok.asked.loaded.project) (g.O.Sink.written c.args.out.now) (g.O.Sink.written c.print_page.new.out) (g.O.Sink.faults c.args.out.now) (g.O.Sink.faults c.print_page.new.out) c.print_page.result.refusal c.print_page.ensures.printed
 
 pub returns-in-None-clause-page_complete : goal.returns-in-None-clause-page_complete
-returns-in-None-clause-page_complete g c = λ config. if_loads c.args.words.now c.args.env.now c.args.cwd.now (g.F.Files.told c.args.files.now) _ (page_complete (page_for c.in-Ok.asked.options.command c.in-Ok.asked.project) (g.O.Sink.written c.args.out.now) (g.O.Sink.written c.print_page.new.out) (g.O.Sink.faults c.args.out.now) (g.O.Sink.faults c.print_page.new.out) (IsReadFault c.args.words.now c.args.env.now c.args.cwd.now (g.F.Files.told c.args.files.now) (g.F.Files.faults c.args.files.now) (g.F.Files.faults c.project_asked.new.files)) c.print_page.result.refusal c.print_page.ensures.printed)
+returns-in-None-clause-page_complete g c = λ config. if_loads c.args.words.now c.args.env.now c.args.cwd.now (g.F.Files.told c.args.files.now) _ (page_complete (page_for c.in-Ok.asked.options.command c.in-Ok.asked.loaded.project) (g.O.Sink.written c.args.out.now) (g.O.Sink.written c.print_page.new.out) (g.O.Sink.faults c.args.out.now) (g.O.Sink.faults c.print_page.new.out) (IsReadFault c.args.words.now c.args.env.now c.args.cwd.now (g.F.Files.told c.args.files.now) (g.F.Files.faults c.args.files.now) (g.F.Files.faults c.project_asked.new.files)) c.print_page.result.refusal c.print_page.ensures.printed)
 
 pub returns-in-None-clause-run_complete : goal.returns-in-None-clause-run_complete
-returns-in-None-clause-run_complete g c = λ loading. absurd (page_no_loading (page_for c.in-Ok.asked.options.command c.in-Ok.asked.project) (g.O.Sink.written c.args.out.now) (g.O.Sink.written c.print_page.new.out) (g.O.Sink.faults c.args.out.now) (g.O.Sink.faults c.print_page.new.out) c.print_page.result.refusal c.print_page.ensures.printed loading)
+returns-in-None-clause-run_complete g c = λ loading. absurd (page_no_loading (page_for c.in-Ok.asked.options.command c.in-Ok.asked.loaded.project) (g.O.Sink.written c.args.out.now) (g.O.Sink.written c.print_page.new.out) (g.O.Sink.faults c.args.out.now) (g.O.Sink.faults c.print_page.new.out) c.print_page.result.refusal c.print_page.ensures.printed loading)
 
 pub returns-in-None-clause-quiet : goal.returns-in-None-clause-quiet
-returns-in-None-clause-quiet g c = λ loading. absurd (page_no_loading (page_for c.in-Ok.asked.options.command c.in-Ok.asked.project) (g.O.Sink.written c.args.out.now) (g.O.Sink.written c.print_page.new.out) (g.O.Sink.faults c.args.out.now) (g.O.Sink.faults c.print_page.new.out) c.print_page.result.refusal c.print_page.ensures.printed loading)
+returns-in-None-clause-quiet g c = λ loading. absurd (page_no_loading (page_for c.in-Ok.asked.options.command c.in-Ok.asked.loaded.project) (g.O.Sink.written c.args.out.now) (g.O.Sink.written c.print_page.new.out) (g.O.Sink.faults c.args.out.now) (g.O.Sink.faults c.print_page.new.out) c.print_page.result.refusal c.print_page.ensures.printed loading)
 
 pub returns-in-Err-clause-words : goal.returns-in-Err-clause-words
 returns-in-Err-clause-words g c = beside (options_asked c.args.words.now c.args.env.now) (λ refusal. IsSaid refusal c.refused.result.refusal) c.refused.ensures.nothing (said_words c.args.words.now c.args.env.now c.in-Err.refusal c.refused.result.refusal c.in-Err.ensures.words c.refused.ensures.refusal)
@@ -134,7 +134,7 @@ returns-in-Some-clause-run_complete g c = λ loading. if_declared c.args.words.n
     (λ meant. IfOk meant (λ declared. IsFaultOfReads c.args.words.now c.args.env.now c.args.cwd.now (g.F.Files.told c.args.files.now) (g.F.Files.faults c.args.files.now) (g.F.Files.faults c.run_asked.new.files) c.run_asked.result.last.refusal))
     c.project_asked.ensures.kept c.in-Ok.ensures.told (command_is c.args.words.now c.args.env.now c.in-Ok.asked.options c.in-Ok.ensures.options)
     (IfSome-map (g.F.Files.told c.project_asked.new.files) _ _ (c.run_asked.ensures.complete loading) (λ contents. digest_faults c.args.words.now c.args.env.now c.args.cwd.now (g.F.Files.told c.args.files.now) (g.F.Files.faults c.args.files.now) (g.F.Files.faults c.run_asked.new.files) (g.F.Files.told c.project_asked.new.files) c.in-Ok.asked (g.F.Files.faults c.project_asked.new.files) c.run_asked.result.last.refusal
-    c.project_asked.ensures.kept c.in-Ok.ensures.options c.in-Ok.ensures.text c.project_asked.ensures.counted c.run_asked.ensures.counted (declared_from contents c.in-Ok.asked.options.command c.in-Ok.asked.project)))
+    c.project_asked.ensures.kept c.in-Ok.ensures.options c.in-Ok.ensures.text c.project_asked.ensures.counted c.run_asked.ensures.counted (declared_from contents c.in-Ok.asked.options.command c.in-Ok.asked.loaded)))
 
 pub returns-in-None-clause-declaring : goal.returns-in-None-clause-declaring
 returns-in-None-clause-declaring g c = if_declared_idle c.args.words.now c.args.env.now c.args.cwd.now (g.F.Files.told c.args.files.now) (λ meant. IfErr meant (λ refusal. SendsNothing c.print_page.result × IsUndeclared refusal c.print_page.result.refusal)) (unasked c.args.words.now c.args.env.now c.in-Ok.asked.options.command c.aim_for.result (command_is c.args.words.now c.args.env.now c.in-Ok.asked.options c.in-Ok.ensures.options) c.aim_for.ensures c.in-None.is)
@@ -146,13 +146,13 @@ pub returns-in-Err-clause-digest_fault : goal.returns-in-Err-clause-digest_fault
 returns-in-Err-clause-digest_fault g c = λ path e. absurd (asking_no_digest c.in-Err.refusal c.refused.result.refusal (DigestRefusal.ReadFault path) c.in-Err.ensures.kind c.refused.ensures.refusal e)
 
 pub returns-in-None-clause-digest_fault : goal.returns-in-None-clause-digest_fault
-returns-in-None-clause-digest_fault g c = λ path e. absurd (page_no_loading (page_for c.in-Ok.asked.options.command c.in-Ok.asked.project) (g.O.Sink.written c.args.out.now) (g.O.Sink.written c.print_page.new.out) (g.O.Sink.faults c.args.out.now) (g.O.Sink.faults c.print_page.new.out) c.print_page.result.refusal c.print_page.ensures.printed (subst IsOfLoading (sym e) tt))
+returns-in-None-clause-digest_fault g c = λ path e. absurd (page_no_loading (page_for c.in-Ok.asked.options.command c.in-Ok.asked.loaded.project) (g.O.Sink.written c.args.out.now) (g.O.Sink.written c.print_page.new.out) (g.O.Sink.faults c.args.out.now) (g.O.Sink.faults c.print_page.new.out) c.print_page.result.refusal c.print_page.ensures.printed (subst IsOfLoading (sym e) tt))
 
 pub run_asked-requires-clause-reachable : goal.run_asked-requires-clause-reachable
 run_asked-requires-clause-reachable g c κs within = reachable c.args.env.now c.args.words.now c.in-Ok.asked.options c.args.cwd.now c.in-Some.aim c.in-Ok.ensures.options (aims c.in-Ok.asked.options.command c.aim_for.result c.in-Some.aim c.aim_for.ensures c.in-Some.is)
 
 pub run_asked-requires-clause-acyclic : goal.run_asked-requires-clause-acyclic
-run_asked-requires-clause-acyclic g c κs within = spelled_acyclic c.args.words.now c.args.env.now c.args.cwd.now (g.F.Files.told c.args.files.now) c.in-Ok.asked.project c.in-Ok.ensures.text
+run_asked-requires-clause-acyclic g c κs within = spelled_acyclic c.args.words.now c.args.env.now c.args.cwd.now (g.F.Files.told c.args.files.now) c.in-Ok.asked.loaded c.in-Ok.ensures.text
 
 pub run_asked-requires-clause-some : goal.run_asked-requires-clause-some
 run_asked-requires-clause-some g c κs within = (bounded c.args.env.now c.args.words.now c.in-Ok.asked.options c.in-Ok.ensures.options).workers.0
@@ -165,13 +165,13 @@ returns-in-Some-clause-reads g c = ends_after (g.F.Files.reads c.project_asked.n
 
 pub returns-in-None-clause-reads : goal.returns-in-None-clause-reads
 returns-in-None-clause-reads g c = ends_loaded (g.F.Files.reads c.args.files.now) (g.F.Files.reads c.project_asked.new.files) c.print_page.result.refusal
-    (page_no_loading (page_for c.in-Ok.asked.options.command c.in-Ok.asked.project) (g.O.Sink.written c.args.out.now) (g.O.Sink.written c.print_page.new.out) (g.O.Sink.faults c.args.out.now) (g.O.Sink.faults c.print_page.new.out) c.print_page.result.refusal c.print_page.ensures.printed) c.in-Ok.ensures.reads
+    (page_no_loading (page_for c.in-Ok.asked.options.command c.in-Ok.asked.loaded.project) (g.O.Sink.written c.args.out.now) (g.O.Sink.written c.print_page.new.out) (g.O.Sink.faults c.args.out.now) (g.O.Sink.faults c.print_page.new.out) c.print_page.result.refusal c.print_page.ensures.printed) c.in-Ok.ensures.reads
 
 pub returns-in-Err-clause-reads : goal.returns-in-Err-clause-reads
 returns-in-Err-clause-reads g c = ends_said (g.F.Files.reads c.args.files.now) (g.F.Files.reads c.project_asked.new.files) c.in-Err.refusal c.refused.result.refusal c.refused.ensures.refusal c.in-Err.ensures.reads
 
 pub returns-in-None-clause-nothing_sent : goal.returns-in-None-clause-nothing_sent
-returns-in-None-clause-nothing_sent g c = λ loading. absurd (page_no_loading (page_for c.in-Ok.asked.options.command c.in-Ok.asked.project) (g.O.Sink.written c.args.out.now) (g.O.Sink.written c.print_page.new.out) (g.O.Sink.faults c.args.out.now) (g.O.Sink.faults c.print_page.new.out) c.print_page.result.refusal c.print_page.ensures.printed loading)
+returns-in-None-clause-nothing_sent g c = λ loading. absurd (page_no_loading (page_for c.in-Ok.asked.options.command c.in-Ok.asked.loaded.project) (g.O.Sink.written c.args.out.now) (g.O.Sink.written c.print_page.new.out) (g.O.Sink.faults c.args.out.now) (g.O.Sink.faults c.print_page.new.out) c.print_page.result.refusal c.print_page.ensures.printed loading)
 
 pub returns-in-Err-clause-nothing_sent : goal.returns-in-Err-clause-nothing_sent
 returns-in-Err-clause-nothing_sent g c = λ loading. (c.refused.ensures.nothing, (c.new-in-Err.ensures, refl))
