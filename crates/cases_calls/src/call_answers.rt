@@ -112,11 +112,11 @@ fn wanted_of(alloc: Global, scene: &Scene, files: &mut MemoryFiles) -> Option<Wa
 }
 
 fn wanted_for(alloc: Global, asked: &Asked, files: &mut MemoryFiles) -> Option<Wanted>
-    requires keyed { IsKeyed asked.now.project }
-    requires acyclic { cycle asked.now.project.services ≡ None }
+    requires keyed { IsKeyed asked.now.loaded.project }
+    requires acyclic { cycle asked.now.loaded.project.services ≡ None }
 {
     let command = &asked.options.command;
-    match declared_asked(alloc, command, &asked.project, files) {
+    match declared_asked(alloc, command, &asked.loaded, files) {
         Ok(declared) => Some(Wanted {
             declared,
             orphans: goes_for_orphans(command),

@@ -72,7 +72,8 @@ pub(crate) fn directory_at(reading: &mut Reading, fields: &Fields) -> Text {
     reading.text_or(fields, "directory", "/w/shop")
 }
 
-fn texts_copy(reading: &mut Reading, texts: &List<Text>) -> List<Text> {
+/// A copy of texts; none, which is kept, where there is no memory.
+pub(crate) fn texts_copy(reading: &mut Reading, texts: &List<Text>) -> List<Text> {
     let copy = texts.copy(reading.alloc);
     reading.given(copy, List::new(reading.alloc))
 }

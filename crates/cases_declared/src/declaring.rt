@@ -1,7 +1,7 @@
 ghost use Rattle.std.specs.Prelude.{IfOk};
 ghost use Rattle.typed_project.specs.DistinctNames.{IsKeyed};
 
-use crate::asked::{directory_at, options_at, reads_files, request_of, scales_of};
+use crate::asked::{directory_at, options_at, reads_files, request_of, scales_of, texts_copy};
 use crate::files::files_of;
 use crate::refusing::{refuse_declared, refuse_digests, refuse_loaded, refuse_project};
 use crate::resources::{put_networks, put_volumes};
@@ -11,7 +11,7 @@ use crate::words::digest_lines;
 use active_services::profiles_given;
 use case_files::{Answers, Fields};
 use compose_words::Options;
-use declared_set::{FileDigest, IdentityRefusal, declare};
+use declared_set::{FileDigest, IdentityRefusal, LoadedProject, declare};
 use engine_types::Declared;
 use file_digests::{DigestRefusal, digests, empty_digests};
 use include_extends::{LoadRefusal, Loaded, load};
@@ -69,36 +69,56 @@ fn put_project_in(
     let profiles = answers.reading.given(given, List::new(alloc));
     let project = project_of(alloc, options.project.as_ref(), &profiles, loaded);
     drop(profiles);
-    put_project(&project, options, files, fields, answers);
-    drop(project);
+    put_project(project, loaded, options, files, fields, answers);
 }
 
 fn put_project(
-    project: &Result<Project, TreeRefusal>,
+    project: Result<Project, TreeRefusal>,
+    loaded: &Loaded,
     options: &Options,
     files: &mut MemoryFiles,
     fields: &Fields,
     answers: &mut Answers,
 )
-    requires keyed { IfOk project.now IsKeyed }
+    requires keyed { IfOk project IsKeyed }
 {
     match project {
-        Ok(project) => put_digests_of(project, options, files, fields, answers),
-        Err(refusal) => refuse_project(refusal, answers),
+        Ok(project) => {
+            let whole = with_origin(project, loaded, answers);
+            put_digests_of(&whole, options, files, fields, answers);
+            drop(whole);
+        }
+        Err(refusal) => {
+            refuse_project(&refusal, answers);
+            drop(refusal);
+        }
+    }
+}
+
+/// A project with the files and the directory that were loaded.
+fn with_origin(project: Project, loaded: &Loaded, answers: &mut Answers) -> LoadedProject
+    ensures { result.project ≡ project }
+{
+    let files = texts_copy(&mut answers.reading, &loaded.files);
+    let directory = answers.reading.text(loaded.directory.as_str());
+    LoadedProject {
+        project,
+        files,
+        directory,
     }
 }
 
 fn put_digests_of(
-    project: &Project,
+    loaded: &LoadedProject,
     options: &Options,
     files: &mut MemoryFiles,
     fields: &Fields,
     answers: &mut Answers,
 )
-    requires keyed { IsKeyed project.now }
+    requires keyed { IsKeyed loaded.now.project }
 {
-    let read = digests_for(answers.reading.alloc, options, files, project);
-    put_digests(&read, project, options, fields, answers);
+    let read = digests_for(answers.reading.alloc, options, files, &loaded.project);
+    put_digests(&read, loaded, options, fields, answers);
     drop(read);
 }
 
@@ -120,33 +140,33 @@ fn digests_for(
 
 fn put_digests(
     read: &Result<List<FileDigest>, DigestRefusal>,
-    project: &Project,
+    loaded: &LoadedProject,
     options: &Options,
     fields: &Fields,
     answers: &mut Answers,
 )
-    requires keyed { IsKeyed project.now }
+    requires keyed { IsKeyed loaded.now.project }
 {
     match read {
         Ok(digests) => {
             let lines = digest_lines(answers.reading.alloc, digests.as_slice());
             answers.put_lines("digests", lines);
-            put_declared_by(project, options, digests.as_slice(), fields, answers);
+            put_declared_by(loaded, options, digests.as_slice(), fields, answers);
         }
         Err(refusal) => refuse_digests(refusal, answers),
     }
 }
 
 fn put_declared_by(
-    project: &Project,
+    loaded: &LoadedProject,
     options: &Options,
     digests: &[FileDigest],
     fields: &Fields,
     answers: &mut Answers,
 )
-    requires keyed { IsKeyed project.now }
+    requires keyed { IsKeyed loaded.now.project }
 {
-    let declared = declare(answers.reading.alloc, project, scales_of(options), digests);
+    let declared = declare(answers.reading.alloc, loaded, scales_of(options), digests);
     put_declared(&declared, fields, answers);
     drop(declared);
 }
