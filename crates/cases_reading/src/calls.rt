@@ -8,7 +8,7 @@ pub fn inputs_of(call: &str) -> Option<&'static [&'static str]> {
     match call {
         "substitute" | "substitute_tree" => Some(&["variables"]),
         "env_file" => Some(&["outer"]),
-        "command_line" | "question" | "page" | "page_scalar" => Some(&[]),
+        "command_line" | "question" | "made_project" | "page" | "page_scalar" => Some(&[]),
         "usage" => Some(&["pieces", "beginning"]),
         "duration" | "size" | "decimal" | "key_value" | "shell_words" | "port" | "mount" => {
             Some(&[])
@@ -32,6 +32,7 @@ pub fn answer(call: &str, fields: &Fields, answers: &mut Answers) {
         "command_line" => words::command_line(fields, answers),
         "question" => words::question(fields, answers),
         "usage" => words::usage(fields, answers),
+        "made_project" => words::made_project(fields, answers),
         "page" => pages::page(fields, answers),
         "page_scalar" => pages::page_scalar(fields, answers),
         "active" => active::active(fields, answers),

@@ -1,3 +1,6 @@
+ghost use Rattle.std.specs.Prelude.{◌≤◌};
+ghost use Rattle.tree_base.specs.Limits.{most_simulated};
+
 use crate::options::options_line;
 use crate::refusing::refuse;
 use case_files::{Answers, Fields, Reading};
@@ -5,6 +8,8 @@ use cases_ground::is_word;
 use compose_words::{
     Notice, Options, WordsRefusal, help_text, notice_of, read_words, version_text,
 };
+use load_maker::make;
+use tree_base::limits::MOST_SIMULATED;
 use tree_base::{List, Memory, Text, Tree};
 
 /// How many words a case may have.
@@ -59,6 +64,30 @@ pub(crate) fn question(fields: &Fields, answers: &mut Answers) {
         Some(Notice::Help) => answers.put_text("notice", "Help"),
         Some(Notice::Version) => answers.put_text("notice", "Version"),
         None => answers.put_null("notice"),
+    }
+}
+
+/// `made_project: NUMBER`: the `text` of a project of so many services, and as `lose_at` the exchange of a run whose reply is lost.
+pub(crate) fn made_project(fields: &Fields, answers: &mut Answers) {
+    let number = answers.reading.small_at(fields, "made_project");
+    if number >= 1 && number <= MOST_SIMULATED {
+        put_made(number, answers);
+    } else {
+        answers
+            .reading
+            .wants("made_project", "a number from 1 to 1000");
+    }
+}
+
+fn put_made(number: u32, answers: &mut Answers)
+    requires least { 1 ≤ number }
+    requires most { number ≤ most_simulated }
+{
+    let made = make(answers.reading.alloc, number);
+    if let Some(made) = answers.reading.made(made) {
+        answers.put_text("text", made.text.as_str());
+        answers.put_number("lose_at", made.lose_at);
+        drop(made);
     }
 }
 
