@@ -1,5 +1,5 @@
 -- The services of a project that was asked for don't depend on one another in a circle.
-use Rattle.std.proofs.Common.{◌≡◌, ℕ, List, Ok, Err, None, ap, refl, subst}
+use Rattle.std.proofs.Common.{◌≡◌, ℕ, List, Ok, Err, None, ap}
 use Rattle.std.specs.Prelude.{Option, Result}
 use Rattle.active_services.specs.Profiles.{profiles_given}
 use Rattle.asked_project.specs.Asking.{Variables}
@@ -23,10 +23,15 @@ project_is : (given : Result Project TreeRefusal) (project : Project) → projec
 project_is (Ok other) project e = let same : other ≡ project = cc e in ap made same
 project_is (Err refusal) project e = absurd (cc e)
 
--- a project that has what it was loaded from is the one that was loaded
+abbrev meant : Project → Result Project Refusal
+meant project = Ok project
+
+abbrev whole : Loaded → Project → LoadedProject
+whole given project = record { project = project; files = given.files; directory = given.directory }
+
+-- a project with what it was loaded from is the one that was loaded
 origin_is : (given : Loaded) (found : Result Project Refusal) (loaded : LoadedProject) → with_origin given found ≡ Ok loaded → found ≡ Ok loaded.project
-origin_is given (Ok project) loaded e =
-    let same : record { project = project; files = given.files; directory = given.directory } ≡ loaded = cc e in ap (λ (p : LoadedProject). Ok p.project) same
+origin_is given (Ok project) loaded e = let same : whole given project ≡ loaded = cc e in ap (λ (p : LoadedProject). meant p.project) same
 origin_is given (Err refusal) loaded e = absurd (cc e)
 
 pub spelled_acyclic : (words : List (List ℕ)) (env : Variables) (cwd : List ℕ) (told : Option Contents) (loaded : LoadedProject) → IsSpelled words env cwd told loaded → cycle loaded.project.services ≡ None
