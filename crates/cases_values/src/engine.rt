@@ -2,7 +2,7 @@ use crate::labels::container_labels;
 use crate::seen::{images_of, networks_of};
 use case_files::{Fields, Reading};
 use cases_messages::{id_at, read_bytes, report_of, spec_of};
-use engine_types::{ContainerRow, Engine};
+use engine_types::{ContainerRow, Containers, Engine};
 use tree_base::{List, Text};
 
 /// An Engine, by `containers`, `networks`, `volumes`, `images` (ids under names) and `next` (1).
@@ -12,7 +12,7 @@ use tree_base::{List, Text};
 /// numbers.
 pub fn engine_of(reading: &mut Reading, fields: &Fields, project: &Text) -> Engine {
     Engine {
-        containers: containers_of(reading, fields, project),
+        containers: Containers::from_list(containers_of(reading, fields, project)),
         networks: networks_of(reading, fields, project),
         volumes: reading.texts(fields, "volumes"),
         images: images_of(reading, fields),

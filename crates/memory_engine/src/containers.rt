@@ -48,7 +48,7 @@ pub fn start(alloc: Global, engine: &mut Engine, id: &Text) -> Result<Reply, Mem
         return refusals::conflict(alloc);
     }
     let report = started_report(row);
-    rows::set_report(alloc, &mut engine.containers, id, report);
+    rows::set_report(&mut engine.containers, id, report);
     Ok(Reply::Done)
 }
 
@@ -69,7 +69,7 @@ pub fn stop(alloc: Global, engine: &mut Engine, id: &Text) -> Result<Reply, Memo
         exit_code: 0,
         health: row.report.health,
     };
-    rows::set_report(alloc, &mut engine.containers, id, report);
+    rows::set_report(&mut engine.containers, id, report);
     Ok(Reply::Done)
 }
 

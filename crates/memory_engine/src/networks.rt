@@ -60,7 +60,7 @@ pub fn connect(
     }
     let mut networks = row.networks.copy(alloc)?;
     networks.push(network.copy(alloc)?)?;
-    rows::set_networks(alloc, &mut engine.containers, container, networks);
+    rows::set_networks(&mut engine.containers, container, networks);
     Ok(Reply::Done)
 }
 

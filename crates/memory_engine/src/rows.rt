@@ -1,14 +1,10 @@
-ghost use Rattle.std.specs.Prelude.{◌≡◌, ◌<◌, Some, false, length, not, filter, position};
-ghost use Rattle.std.specs.Prelude.{slice_get, slice_set};
+ghost use Rattle.std.specs.Prelude.{◌≡◌, false, not, filter, position, slice_get};
 ghost use Rattle.std.specs.Option.{option_map_or};
 ghost use Rattle.std.specs.Str.{bytes_eq};
-ghost use Rattle.engine_types.specs.declared.ContainerRow.{ContainerRow};
 ghost use Rattle.memory_engine.specs.Keeping.{HasOwnIds};
 ghost use Rattle.memory_engine.specs.Serving.{with_first};
 
-use engine_types::{ContainerRow, Report};
-use std::alloc::Global;
-use std::mem;
+use engine_types::{ContainerRow, Containers, Report};
 use tree_base::{List, Text, item_at};
 
 /// The place of the container with an id. The ids that the Engine gives ascend, so their rows are found by halves. A row
@@ -38,56 +34,34 @@ pub fn place_of_name(rows: &[ContainerRow], name: &Text) -> Option<usize>
     rows.iter().position(|row| *name == row.name)
 }
 
-/// Gives the container at a place another report. No memory.
-pub fn set_report_at(alloc: Global, rows: &mut List<ContainerRow>, at: usize, report: Report)
-    requires { at < length rows.old }
-    ensures { (row : ContainerRow) → slice_get rows.old at ≡ Some row
-        → rows.new ≡ slice_set rows.old at (record row { report = report }) }
-{
-    let mut items = mem::replace(rows, List::new(alloc)).into_vec();
-    items[at].report = report;
-    *rows = List::from_vec(items);
-}
-
 /// Gives the container with an id another report. No memory.
-pub fn set_report(alloc: Global, rows: &mut List<ContainerRow>, id: &Text, report: Report)
+pub fn set_report(rows: &mut Containers, id: &Text, report: Report)
     requires { HasOwnIds rows.old }
     ensures { rows.new ≡ with_first (λ row. bytes_eq row.id id.now)
         (λ row. record row { report = report }) rows.old }
 {
     if let Some(at) = place_of_id(rows.as_slice(), id) {
-        set_report_at(alloc, rows, at, report);
+        rows.set_report(at, report);
     }
 }
 
 /// Gives the container with an id other networks. No memory.
-pub fn set_networks(alloc: Global, rows: &mut List<ContainerRow>, id: &Text, networks: List<Text>)
+pub fn set_networks(rows: &mut Containers, id: &Text, networks: List<Text>)
     requires { HasOwnIds rows.old }
     ensures { rows.new ≡ with_first (λ row. bytes_eq row.id id.now)
         (λ row. record row { networks = networks }) rows.old }
 {
     if let Some(at) = place_of_id(rows.as_slice(), id) {
-        set_networks_at(alloc, rows, at, networks);
+        rows.set_networks(at, networks);
     }
 }
 
-/// Gives the container at a place other networks. No memory.
-fn set_networks_at(alloc: Global, rows: &mut List<ContainerRow>, at: usize, networks: List<Text>)
-    requires { at < length rows.old }
-    ensures { (row : ContainerRow) → slice_get rows.old at ≡ Some row
-        → rows.new ≡ slice_set rows.old at (record row { networks = networks }) }
-{
-    let mut items = mem::replace(rows, List::new(alloc)).into_vec();
-    items[at].networks = networks;
-    *rows = List::from_vec(items);
-}
-
 /// Takes out the container with an id. No memory.
-pub fn take_out(rows: &mut List<ContainerRow>, id: &Text)
+pub fn take_out(rows: &mut Containers, id: &Text)
     requires { HasOwnIds rows.old }
     ensures { rows.new ≡ filter (λ row. not (bytes_eq row.id id.now)) rows.old }
 {
     if let Some(at) = place_of_id(rows.as_slice(), id) {
-        drop(rows.remove(at));
+        rows.remove(at);
     }
 }

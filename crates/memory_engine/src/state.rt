@@ -6,7 +6,7 @@ use crate::catalogue::Catalogue;
 use crate::faults::FaultPlan;
 use crate::names::Names;
 use crate::script::Tick;
-use engine_types::Engine;
+use engine_types::{Containers, Engine};
 use std::alloc::Global;
 use tree_base::{List, Memory};
 
@@ -43,7 +43,7 @@ impl MemoryEngine {
     {
         Ok(MemoryEngine {
             engine: Engine {
-                containers: List::new(alloc),
+                containers: Containers::new(alloc),
                 networks: List::new(alloc),
                 volumes: List::new(alloc),
                 images: List::new(alloc),

@@ -10,8 +10,7 @@ ghost use Rattle.memory_engine.specs.Ticking.{is_running as is_running_state};
 use crate::rows;
 use crate::script::{Change, Tick};
 use crate::state::MemoryEngine;
-use engine_types::{ContainerRow, ContainerState, Engine, Report};
-use std::alloc::Global;
+use engine_types::{ContainerState, Containers, Engine, Report};
 use tree_base::{List, Text};
 
 impl MemoryEngine {
@@ -32,7 +31,7 @@ impl MemoryEngine {
     }
 
     /// Lets the container with an id change by itself, where there is one and it runs. No memory.
-    pub fn change(&mut self, alloc: Global, id: &Text, change: Change)
+    pub fn change(&mut self, id: &Text, change: Change)
         ensures engine { self.new.engine
             ≡ with_container self.old.engine id.now (changed_row change) }
         ensures drifts { Drifts self.old.engine self.new.engine }
@@ -42,17 +41,17 @@ impl MemoryEngine {
         ensures made { self.new.made ≡ self.old.made }
         ensures catalogue { self.new.catalogue ≡ self.old.catalogue }
     {
-        change_of(alloc, &mut self.engine, id, change);
+        change_of(&mut self.engine, id, change);
     }
 }
 
 /// Changes the container with an id, where it runs.
-fn change_of(alloc: Global, engine: &mut Engine, id: &Text, change: Change)
+fn change_of(engine: &mut Engine, id: &Text, change: Change)
     requires { HasOwnIds engine.old.containers }
     ensures { engine.new ≡ with_container engine.old id.now (changed_row change) }
 {
     if let Some(at) = rows::place_of_id(engine.containers.as_slice(), id) {
-        change_at(alloc, &mut engine.containers, at, change);
+        change_at(&mut engine.containers, at, change);
     }
 }
 
@@ -62,20 +61,19 @@ fn apply(engine: &mut Engine, tick: Tick)
 {
     let Tick { container, change } = tick;
     if let Some(at) = rows::place_of_name(engine.containers.as_slice(), &container) {
-        let alloc = *container.into_string().allocator();
-        change_at(alloc, &mut engine.containers, at, change);
+        change_at(&mut engine.containers, at, change);
     }
 }
 
 /// Changes the container at a place, where it runs.
-fn change_at(alloc: Global, rows: &mut List<ContainerRow>, at: usize, change: Change)
+fn change_at(rows: &mut Containers, at: usize, change: Change)
     requires { at < length rows.old }
     ensures { (row : ContainerRow) → slice_get rows.old at ≡ Some row
         → rows.new ≡ slice_set rows.old at (changed_row change row) }
 {
     let report = rows.as_slice()[at].report;
     if is_running(report.state) {
-        rows::set_report_at(alloc, rows, at, changed(change, report));
+        rows.set_report(at, changed(change, report));
     }
 }
 

@@ -34,7 +34,7 @@ pub(crate) fn settle_at(
     }
     let change = change_at(was_looked_at(looked, id), row.report.health);
     looked.put(id.copy(alloc)?, ())?;
-    make(alloc, memory, id, change);
+    make(memory, id, change);
     Ok(())
 }
 
@@ -80,7 +80,7 @@ fn change_at(again: bool, health: Health) -> Option<Change>
 }
 
 /// Lets the container with an id make a change by itself, or none. No memory.
-fn make(alloc: Global, memory: &mut MemoryEngine, id: &Text, change: Option<Change>)
+fn make(memory: &mut MemoryEngine, id: &Text, change: Option<Change>)
     ensures engine { memory.new.engine ≡ changed_by memory.old.engine id.now change }
     ensures script { memory.new.script ≡ memory.old.script }
     ensures plan { memory.new.faults ≡ memory.old.faults }
@@ -88,6 +88,6 @@ fn make(alloc: Global, memory: &mut MemoryEngine, id: &Text, change: Option<Chan
     ensures catalogue { memory.new.catalogue ≡ memory.old.catalogue }
 {
     if let Some(change) = change {
-        memory.change(alloc, id, change);
+        memory.change(id, change);
     }
 }

@@ -10,8 +10,8 @@ place_of_id-requires c = rw c.as_slice.ensures c.requires
 
 pub returns-in-Some : goal.returns-in-Some
 returns-in-Some c = with_first-set (λ (row : ContainerRow). bytes_eq row.id c.args.id.now)
-    (λ (row : ContainerRow). record row { report = c.args.report }) c.args.rows.now c.set_report_at.new.rows c.in-Some.at
-    (cc) c.set_report_at.ensures
+    (λ (row : ContainerRow). record row { report = c.args.report }) c.args.rows.now c.set_report.new.self c.in-Some.at
+    (cc) c.set_report.ensures
 
 pub returns-in_default : goal.returns-in_default
 returns-in_default c = sym (with_first-none (λ (row : ContainerRow). bytes_eq row.id c.args.id.now)
