@@ -9,8 +9,8 @@ use serde_json::{Map, Value};
 use std::alloc::Global;
 use tree_base::{List, Memory, Text, Var};
 
-/// The text under a key of an object.
-pub(crate) fn text_at<'v>(value: &'v Value, key: &str) -> Option<&'v str>
+/// The text under a key of an object; None where it is no object, has no such key, or no text there. No memory.
+pub fn text_at<'v>(value: &'v Value, key: &str) -> Option<&'v str>
     ensures { option_map (λ text. text.now) result ≡ text_at key.now (view value.now) }
 {
     value.get(key)?.as_str()

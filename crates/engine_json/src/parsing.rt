@@ -8,7 +8,7 @@ use std::alloc::Global;
 use tree_base::Memory;
 
 /// The JSON that bytes are (RFC 8259), which nests at most 127 deep; None where they are none.
-pub(crate) fn json_of(alloc: Global, bytes: &[u8]) -> Result<Option<Value>, Memory>
+pub fn json_of(alloc: Global, bytes: &[u8]) -> Result<Option<Value>, Memory>
     ensures { IfOk result (λ found. option_map view found ≡ json_of bytes.now) }
 {
     match str::from_utf8(bytes) {

@@ -92,8 +92,8 @@ fn pulled(failed: Option<Text>) -> Reply
     }
 }
 
-/// A line of spaces, tabs and CR alone.
-fn is_blank(line: &[u8]) -> bool
+/// A line of spaces, tabs and CR alone, or of nothing. No memory.
+pub fn is_blank(line: &[u8]) -> bool
     ensures { result ≡ is_blank line.now }
 {
     line.iter()

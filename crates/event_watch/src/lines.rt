@@ -1,12 +1,10 @@
 ghost use Rattle.std.specs.Prelude.{◌≡◌, [], ◌∷◌, Some, None, IfOk, option_map};
 ghost use Rattle.event_watch.specs.Events.{event_of, line_told};
 ghost use Rattle.event_watch.specs.Lines.{told_as};
-ghost use Rattle.response_rules.specs.Json.{json_of, text_at};
-ghost use Rattle.response_rules.specs.Replies.{is_blank};
-ghost use Rattle.serde_json.specs.Read.{read};
 ghost use Rattle.serde_json.specs.View.{view};
 
 use crate::event::Event;
+use engine_json::{is_blank, json_of, text_at};
 use serde_json::Value;
 use std::alloc::Global;
 use tree_base::{Memory, Text};
@@ -53,40 +51,4 @@ fn texts_of(value: &Value) -> Option<(&str, &str)>
     let action = text_at(value, "Action")?;
     let id = text_at(value.get("Actor")?, "ID")?;
     Some((id, action))
-}
-
-/// The text under a key of an object.
-fn text_at<'v>(value: &'v Value, key: &str) -> Option<&'v str>
-    ensures { option_map (λ text. text.now) result ≡ text_at key.now (view value.now) }
-{
-    value.get(key)?.as_str()
-}
-
-/// The JSON that bytes are (RFC 8259), which nests at most 127 deep; None where they are none.
-fn json_of(alloc: Global, bytes: &[u8]) -> Result<Option<Value>, Memory>
-    ensures { IfOk result (λ found. option_map view found ≡ json_of bytes.now) }
-{
-    match str::from_utf8(bytes) {
-        Ok(text) => json_in(alloc, text),
-        Err(_) => Ok(None),
-    }
-}
-
-/// The JSON that a text is; None where it is none.
-fn json_in(alloc: Global, text: &str) -> Result<Option<Value>, Memory>
-    ensures { IfOk result (λ found. option_map view found ≡ read text.now) }
-{
-    match Value::from_str(alloc, text) {
-        Ok(value) => Ok(Some(value)),
-        Err(error) if error.is_memory() => Err(Memory),
-        Err(_) => Ok(None),
-    }
-}
-
-/// A line of spaces, tabs and CR alone.
-fn is_blank(line: &[u8]) -> bool
-    ensures { result ≡ is_blank line.now }
-{
-    line.iter()
-        .all(|b| *b == b' ' || *b == b'\t' || *b == b'\r')
 }
