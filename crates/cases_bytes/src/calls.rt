@@ -1,3 +1,4 @@
+use crate::logs::{log_lines, log_part};
 use crate::requests::request;
 use crate::responses::response;
 use case_files::{Answers, Fields};
@@ -7,6 +8,7 @@ pub fn inputs_of(call: &str) -> Option<&'static [&'static str]> {
     match call {
         "request" => Some(&["spec"]),
         "response" => Some(&["to", "pieces", "failing_reads"]),
+        "log_lines" | "log_part" => Some(&[]),
         _ => None,
     }
 }
@@ -16,6 +18,8 @@ pub fn answer(call: &str, fields: &Fields, answers: &mut Answers) {
     match call {
         "request" => request(fields, answers),
         "response" => response(fields, answers),
+        "log_lines" => log_lines(fields, answers),
+        "log_part" => log_part(fields, answers),
         _ => answers.reading.no_call(call),
     }
 }

@@ -1,5 +1,5 @@
-//! Cases of the Engine's messages as bytes: the bytes of a request with its body, and what the bytes of a connection,
-//! however they are cut, answer to a request.
+//! Cases of the Engine's messages as bytes: the bytes of a request with its body, what the bytes of a connection,
+//! however they are cut, answer to a request, and the lines of what a container wrote.
 //!
 //! `inputs_of` knows the calls and their inputs, and `answer` makes the call of a case.
 #![tactic(auto)]
@@ -8,6 +8,7 @@ mod asked;
 mod calls;
 mod containers;
 mod health;
+mod logs;
 mod pipe;
 mod requests;
 mod resources;
