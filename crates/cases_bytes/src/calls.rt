@@ -1,3 +1,4 @@
+use crate::events::events;
 use crate::logs::{log_lines, log_part};
 use crate::requests::request;
 use crate::responses::response;
@@ -9,6 +10,7 @@ pub fn inputs_of(call: &str) -> Option<&'static [&'static str]> {
         "request" => Some(&["spec"]),
         "response" => Some(&["to", "pieces", "failing_reads"]),
         "log_lines" | "log_part" => Some(&[]),
+        "events" => Some(&["pieces", "bytewise"]),
         _ => None,
     }
 }
@@ -20,6 +22,7 @@ pub fn answer(call: &str, fields: &Fields, answers: &mut Answers) {
         "response" => response(fields, answers),
         "log_lines" => log_lines(fields, answers),
         "log_part" => log_part(fields, answers),
+        "events" => events(fields, answers),
         _ => answers.reading.no_call(call),
     }
 }

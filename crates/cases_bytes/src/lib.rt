@@ -1,5 +1,5 @@
-//! Cases of the Engine's messages as bytes: the bytes of a request with its body, what the bytes of a connection,
-//! however they are cut, answer to a request, and the lines of what a container wrote.
+//! Cases of the Engine's messages as bytes: the bytes of a request with its body; what the bytes of a connection, or of a stream of
+//! events, answer or tell, however they are cut; and the lines of what a container wrote.
 //!
 //! `inputs_of` knows the calls and their inputs, and `answer` makes the call of a case.
 #![tactic(auto)]
@@ -7,6 +7,7 @@
 mod asked;
 mod calls;
 mod containers;
+mod events;
 mod health;
 mod logs;
 mod pipe;
