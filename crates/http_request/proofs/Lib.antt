@@ -1,4 +1,5 @@
 mod EscapeSets
+mod EventFilters
 mod Filters
 mod Grammar
 mod Lines

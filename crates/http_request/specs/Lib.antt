@@ -1,4 +1,5 @@
 pub mod Escapes
+pub mod Events
 pub mod Heads
 pub mod Images
 pub mod Laws
