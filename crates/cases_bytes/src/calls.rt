@@ -1,6 +1,6 @@
 use crate::events::events;
 use crate::logs::{log_lines, log_part};
-use crate::requests::request;
+use crate::requests::{events_request, request};
 use crate::responses::response;
 use case_files::{Answers, Fields};
 
@@ -11,6 +11,7 @@ pub fn inputs_of(call: &str) -> Option<&'static [&'static str]> {
         "response" => Some(&["to", "pieces", "failing_reads"]),
         "log_lines" | "log_part" => Some(&[]),
         "events" => Some(&["pieces", "bytewise"]),
+        "events_request" => Some(&[]),
         _ => None,
     }
 }
@@ -23,6 +24,7 @@ pub fn answer(call: &str, fields: &Fields, answers: &mut Answers) {
         "log_lines" => log_lines(fields, answers),
         "log_part" => log_part(fields, answers),
         "events" => events(fields, answers),
+        "events_request" => events_request(fields, answers),
         _ => answers.reading.no_call(call),
     }
 }

@@ -2,6 +2,7 @@ use crate::asked::request_at;
 use case_files::{Answers, Fields};
 use engine_bodies::{body_of, request_bytes};
 use engine_types::Request;
+use http_request::events_bytes;
 use std::alloc::Global;
 use std::str;
 use tree_base::{List, Memory, Text};
@@ -13,6 +14,16 @@ pub(crate) fn request(fields: &Fields, answers: &mut Answers) {
     put_bytes(alloc, &request, answers);
     put_body(alloc, &request, answers);
     drop(request);
+}
+
+/// What is sent for the events of a project's containers: its `bytes`, and its request `line`.
+pub(crate) fn events_request(fields: &Fields, answers: &mut Answers) {
+    let alloc = answers.reading.alloc;
+    let project = answers.reading.text_at(fields, "events_request");
+    match events_bytes(alloc, &project) {
+        Ok(bytes) => put_sent(&bytes, answers),
+        Err(Memory) => answers.reading.memory(),
+    }
 }
 
 fn put_bytes(alloc: Global, request: &Request, answers: &mut Answers) {
