@@ -1,4 +1,5 @@
 use crate::events::events;
+use crate::goals::goal;
 use crate::logs::{log_lines, log_part};
 use crate::requests::{events_request, request};
 use crate::responses::response;
@@ -12,6 +13,7 @@ pub fn inputs_of(call: &str) -> Option<&'static [&'static str]> {
         "log_lines" | "log_part" => Some(&[]),
         "events" => Some(&["pieces", "bytewise"]),
         "events_request" => Some(&[]),
+        "goal" => Some(&["reports"]),
         _ => None,
     }
 }
@@ -25,6 +27,7 @@ pub fn answer(call: &str, fields: &Fields, answers: &mut Answers) {
         "log_part" => log_part(fields, answers),
         "events" => events(fields, answers),
         "events_request" => events_request(fields, answers),
+        "goal" => goal(fields, answers),
         _ => answers.reading.no_call(call),
     }
 }

@@ -1,5 +1,5 @@
 //! Cases of the Engine's messages as bytes: the bytes of a request with its body; what the bytes of a connection, or of a stream of
-//! events, answer or tell, however they are cut; and the lines of what a container wrote.
+//! events, answer or tell, however they are cut; the lines of what a container wrote; and what reports say of a goal.
 //!
 //! `inputs_of` knows the calls and their inputs, and `answer` makes the call of a case.
 #![tactic(auto)]
@@ -8,6 +8,7 @@ mod asked;
 mod calls;
 mod containers;
 mod events;
+mod goals;
 mod health;
 mod logs;
 mod pipe;
