@@ -20,16 +20,21 @@ pub(crate) struct CasePipe {
 }
 
 impl CasePipe {
-    /// The connection of a case: the bytes under `response`, `pieces` and `failing_reads`.
-    pub(crate) fn of_case(reading: &mut Reading, fields: &Fields) -> CasePipe {
+    /// The connection of a case: the bytes under the key of its call, `pieces` and `failing_reads`.
+    pub(crate) fn of_case(reading: &mut Reading, fields: &Fields, call: &str) -> CasePipe {
         CasePipe {
-            bytes: reading.bytes_at(fields, "response"),
+            bytes: reading.bytes_at(fields, call),
             came: 0,
             pieces: reading.numbers(fields, "pieces"),
             failing: reading.numbers(fields, "failing_reads"),
             reads: 0,
             failed: 0,
         }
+    }
+
+    /// How many bytes come in all. No memory.
+    pub(crate) fn length(&self) -> usize {
+        self.bytes.len()
     }
 
     /// How often it was read. No memory.

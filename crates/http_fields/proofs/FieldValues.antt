@@ -1,5 +1,5 @@
 -- The values of fields, by the spans of a head.
-use Rattle.std.proofs.Common.{◌≡◌, ◌⊎◌, ℕ, ◌<◌, ◌≤◌, Bool, true, false, not, cond, ◌&&◌, ◌||◌, ◌==◌, nat_lt, min, if◌then◌else◌, List, [], ◌∷◌, length, map, Option, Some, None, codes, refl, sym, ap, ◌∙◌, subst, inl, inr, arith, true≢false}
+use Rattle.std.proofs.Common.{◌≡◌, ◌⊎◌, ℕ, ◌<◌, ◌≤◌, ◌^◌, Bool, true, false, not, cond, ◌&&◌, ◌||◌, ◌==◌, nat_lt, min, if◌then◌else◌, List, [], ◌∷◌, length, map, Option, Some, None, codes, refl, sym, ap, ◌∙◌, subst, inl, inr, arith, true≢false}
 use Rattle.std.proofs.lemmas.Bool.{le-ltb, lt-ltb, ltb-false, cases_lt}
 use Rattle.std.proofs.lemmas.List.Elements.{All-head, All-tail}
 use Rattle.std.proofs.lemmas.Slice.Eq.{bytes_eq-Decides}
@@ -8,12 +8,11 @@ use Rattle.std.specs.List.{filter, list_all, list_any}
 use Rattle.std.specs.Prelude.{IsTrue, ◌↔◌, Result}
 use Rattle.std.specs.Str.{str_eq_ignore_ascii_case}
 use Rattle.std.specs.Str.Parse.{digits_value}
-use Rattle.tree_base.specs.Limits.{most_body_bytes}
 use Rattle.engine_types.specs.declared.WireEnd.{WireEnd}
 use Rattle.httparse.specs.Grammar.{Field, field_value}
 use Rattle.httparse.specs.Spans.{IsHeaderWithin, header_bytes, name_and_value, span_bytes}
 use Rattle.httparse.specs.declared.spans.HeaderSpan.{HeaderSpan}
-use Rattle.response_rules.specs.Heads.{Framing, chunked, fault_by, framing, framing_of, is_encoded, is_length, sized, to_end, values}
+use Rattle.response_rules.specs.Heads.{Framing, chunked, fault_within, framing, framing_of, is_encoded, is_length, sized, to_end, values}
 use Rattle.http_fields.specs.Fields.{AreWithin, Cover, FramingBy, IsFirst, capped, framing_told, is_past_limit, named, values_at}
 use Rattle.http_fields.specs.declared.fields.Framing.{Framing as ReadFraming}
 
@@ -115,41 +114,41 @@ sized_not first more fails =
     ap (λ (v : Bool). if (v && list_all is_length more) && list_all (λ value. digits_value 10 value == digits_value 10 first) more then Some (sized (digits_value 10 first)) else None) fails
 
 -- a framing that is read has no fault, or its fault is read
-pub no_framing : (at : ℕ) (found : Option Framing) (encoded : Bool) → None ≡ capped found → fault_by at found encoded ≡ Some (WireEnd.Malformed at)
-no_framing at None encoded e = refl
-no_framing at (Some to_end) encoded e = absurd (cc e)
-no_framing at (Some (sized n)) encoded e = absurd (cc e)
-no_framing at (Some chunked) encoded e = absurd (cc e)
+pub no_framing : (limit at : ℕ) (found : Option Framing) (encoded : Bool) → None ≡ capped found → fault_within limit at found encoded ≡ Some (WireEnd.Malformed at)
+no_framing limit at None encoded e = refl
+no_framing limit at (Some to_end) encoded e = absurd (cc e)
+no_framing limit at (Some (sized n)) encoded e = absurd (cc e)
+no_framing limit at (Some chunked) encoded e = absurd (cc e)
 
-pub encoded_fault : (at : ℕ) (found : Option Framing) (f : ReadFraming) → Some f ≡ capped found → fault_by at found true ≡ Some WireEnd.Encoded
-encoded_fault at None f e = absurd (cc e)
-encoded_fault at (Some g) f e = refl
+pub encoded_fault : (limit at : ℕ) (found : Option Framing) (f : ReadFraming) → Some f ≡ capped found → fault_within limit at found true ≡ Some WireEnd.Encoded
+encoded_fault limit at None f e = absurd (cc e)
+encoded_fault limit at (Some g) f e = refl
 
-past_cap : (n : ℕ) → nat_lt most_body_bytes (min n 18446744073709551615) ≡ nat_lt most_body_bytes n
-past_cap n = at (cases_lt most_body_bytes n)
+past_cap : (limit : ℕ) → limit < 2 ^ 62 → (n : ℕ) → nat_lt limit (min n 18446744073709551615) ≡ nat_lt limit n
+past_cap limit small n = at (cases_lt limit n)
   where
-    at : (most_body_bytes < n) ⊎ (n ≤ most_body_bytes) → nat_lt most_body_bytes (min n 18446744073709551615) ≡ nat_lt most_body_bytes n
-    at (inl over) = lt-ltb most_body_bytes (min n 18446744073709551615) (omega (arith, over)) ∙ sym (lt-ltb most_body_bytes n over)
-    at (inr under) = le-ltb most_body_bytes (min n 18446744073709551615) (omega (arith, under)) ∙ sym (le-ltb most_body_bytes n under)
+    at : (limit < n) ⊎ (n ≤ limit) → nat_lt limit (min n 18446744073709551615) ≡ nat_lt limit n
+    at (inl over) = lt-ltb limit (min n 18446744073709551615) (omega (arith, small, over)) ∙ sym (lt-ltb limit n over)
+    at (inr under) = le-ltb limit (min n 18446744073709551615) (omega (arith, small, under)) ∙ sym (le-ltb limit n under)
 
-pub long_fault : (at : ℕ) (found : Option Framing) (f : ReadFraming) → Some f ≡ capped found → is_past_limit f ≡ true → fault_by at found false ≡ Some WireEnd.TooLarge
-long_fault at None f e past = absurd (cc e)
-long_fault at (Some to_end) f e past = let same : f ≡ ReadFraming.ToEnd = cc e in absurd (true≢false (sym past ∙ ap is_past_limit same))
-long_fault at (Some chunked) f e past = let same : f ≡ ReadFraming.Chunked = cc e in absurd (true≢false (sym past ∙ ap is_past_limit same))
-long_fault at (Some (sized n)) f e past =
+pub long_fault : (limit : ℕ) → limit < 2 ^ 62 → (at : ℕ) (found : Option Framing) (f : ReadFraming) → Some f ≡ capped found → is_past_limit limit f ≡ true → fault_within limit at found false ≡ Some WireEnd.TooLarge
+long_fault limit small at None f e past = absurd (cc e)
+long_fault limit small at (Some to_end) f e past = let same : f ≡ ReadFraming.ToEnd = cc e in absurd (true≢false (sym past ∙ ap (is_past_limit limit) same))
+long_fault limit small at (Some chunked) f e past = let same : f ≡ ReadFraming.Chunked = cc e in absurd (true≢false (sym past ∙ ap (is_past_limit limit) same))
+long_fault limit small at (Some (sized n)) f e past =
     let same : f ≡ ReadFraming.Sized (min n 18446744073709551615) = cc e in
-    ap (λ (v : Bool). if v then Some WireEnd.TooLarge else None) (sym (past_cap n) ∙ sym (ap is_past_limit same) ∙ past)
+    ap (λ (v : Bool). if v then Some WireEnd.TooLarge else None) (sym (past_cap limit small n) ∙ sym (ap (is_past_limit limit) same) ∙ past)
 
-pub sound_framing : (at : ℕ) (found : Option Framing) (f : ReadFraming) → Some f ≡ capped found → is_past_limit f ≡ false
-    → (found ≡ Some (framing_told f)) × (fault_by at found false ≡ None)
-sound_framing at None f e short = absurd (cc e)
-sound_framing at (Some to_end) f e short = let same : f ≡ ReadFraming.ToEnd = cc e in (ap (λ (g : ReadFraming). Some (framing_told g)) (sym same), refl)
-sound_framing at (Some chunked) f e short = let same : f ≡ ReadFraming.Chunked = cc e in (ap (λ (g : ReadFraming). Some (framing_told g)) (sym same), refl)
-sound_framing at (Some (sized n)) f e short =
+pub sound_framing : (limit : ℕ) → limit < 2 ^ 62 → (at : ℕ) (found : Option Framing) (f : ReadFraming) → Some f ≡ capped found → is_past_limit limit f ≡ false
+    → (found ≡ Some (framing_told f)) × (fault_within limit at found false ≡ None)
+sound_framing limit small at None f e short = absurd (cc e)
+sound_framing limit small at (Some to_end) f e short = let same : f ≡ ReadFraming.ToEnd = cc e in (ap (λ (g : ReadFraming). Some (framing_told g)) (sym same), refl)
+sound_framing limit small at (Some chunked) f e short = let same : f ≡ ReadFraming.Chunked = cc e in (ap (λ (g : ReadFraming). Some (framing_told g)) (sym same), refl)
+sound_framing limit small at (Some (sized n)) f e short =
     let same : f ≡ ReadFraming.Sized (min n 18446744073709551615) = cc e in
-    let plain : nat_lt most_body_bytes n ≡ false = sym (past_cap n) ∙ sym (ap is_past_limit same) ∙ short in
-    let small : n ≤ most_body_bytes = ltb-false most_body_bytes n plain in
-    let kept : min n 18446744073709551615 ≡ n = omega (arith, small) in (
+    let plain : nat_lt limit n ≡ false = sym (past_cap limit small n) ∙ sym (ap (is_past_limit limit) same) ∙ short in
+    let short_length : n ≤ limit = ltb-false limit n plain in
+    let kept : min n 18446744073709551615 ≡ n = omega (arith, small, short_length) in (
       sym (ap (λ (g : ReadFraming). Some (framing_told g)) same ∙ ap (λ (m : ℕ). Some (sized m)) kept),
       ap (λ (v : Bool). if v then Some WireEnd.TooLarge else None) plain,
     )
@@ -237,11 +236,11 @@ all_none test every rest none same = ap (list_all test) (sym none) ∙ same
 
 -- ---- what is read is what the fields say
 
-pub as_said : (head : List ℕ) (headers : List HeaderSpan) (fields : List Field) (at : ℕ) (encoded : Bool) (r : Result ReadFraming WireEnd) → Cover head headers fields
-    → FramingBy at (framing (values_at head headers (codes "transfer-encoding")) (values_at head headers (codes "content-length"))) encoded r
+pub as_said : (limit : ℕ) (head : List ℕ) (headers : List HeaderSpan) (fields : List Field) (at : ℕ) (encoded : Bool) (r : Result ReadFraming WireEnd) → Cover head headers fields
+    → FramingBy limit at (framing (values_at head headers (codes "transfer-encoding")) (values_at head headers (codes "content-length"))) encoded r
     → encoded ≡ list_any (λ value. not (str_eq_ignore_ascii_case value (codes "identity"))) (values_at head headers (codes "content-encoding"))
-    → FramingBy at (framing_of fields) (is_encoded fields) r
-as_said head headers fields at encoded r cover by coded =
+    → FramingBy limit at (framing_of fields) (is_encoded fields) r
+as_said limit head headers fields at encoded r cover by coded =
     let codings = values_are head headers fields (codes "transfer-encoding") cover in
     let lengths = values_are head headers fields (codes "content-length") cover in
     let contents = values_are head headers fields (codes "content-encoding") cover in
@@ -249,4 +248,4 @@ as_said head headers fields at encoded r cover by coded =
     ap (λ (v : List (List ℕ)). framing v (values_at head headers (codes "content-length"))) codings
     ∙ ap (λ (v : List (List ℕ)). framing (values (codes "transfer-encoding") fields) v) lengths in
     let other : encoded ≡ is_encoded fields = coded ∙ ap (list_any (λ value. not (str_eq_ignore_ascii_case value (codes "identity")))) contents in
-    subst (λ (e : Bool). FramingBy at (framing_of fields) e r) other (subst (λ (f : Option Framing). FramingBy at f encoded r) same by)
+    subst (λ (e : Bool). FramingBy limit at (framing_of fields) e r) other (subst (λ (f : Option Framing). FramingBy limit at f encoded r) same by)

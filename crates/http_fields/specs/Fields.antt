@@ -1,12 +1,11 @@
 -- The fields of a head by the spans that the parser answers.
 use Rattle.std.specs.Prelude.{◌≡◌, ℕ, ◌<◌, min, nat_lt, Bool, false, List, ◌∷◌, length, map, filter, Option, Some, None, Result, Ok, Err, All}
 use Rattle.std.specs.Str.{str_eq_ignore_ascii_case}
-use Rattle.tree_base.specs.Limits.{most_body_bytes}
 use Rattle.engine_types.specs.declared.WireEnd.{WireEnd}
 use Rattle.httparse.specs.Grammar.{Field}
 use Rattle.httparse.specs.Spans.{IsHeaderWithin, header_bytes, name_and_value}
 use Rattle.httparse.specs.declared.spans.HeaderSpan.{HeaderSpan}
-use Rattle.response_rules.specs.Heads.{Framing, chunked, fault_by, sized, to_end}
+use Rattle.response_rules.specs.Heads.{Framing, chunked, fault_within, sized, to_end}
 use Rattle.http_fields.specs.declared.fields.Framing.{Framing as ReadFraming}
 
 -- the values with a name, in whatever case it is written (RFC 9110, section 5.1)
@@ -48,13 +47,13 @@ capped (Some (sized n)) = Some (ReadFraming.Sized (min n 18446744073709551615))
 capped (Some chunked) = Some ReadFraming.Chunked
 
 -- whether a length is past the limit of a body
-abbrev pub is_past_limit : ReadFraming → Bool
-is_past_limit (ReadFraming.Sized n) = nat_lt most_body_bytes n
-is_past_limit _ = false
+abbrev pub is_past_limit : ℕ → ReadFraming → Bool
+is_past_limit limit (ReadFraming.Sized n) = nat_lt limit n
+is_past_limit limit _ = false
 
--- what is read of a framing and of a coding of the content: the framing without a fault, or their
--- fault
-abbrev pub FramingBy : ℕ → Option Framing → Bool → Result ReadFraming WireEnd → Type 0
-FramingBy at found encoded (Ok f) =
-    (found ≡ Some (framing_told f)) × (fault_by at found encoded ≡ None)
-FramingBy at found encoded (Err cause) = fault_by at found encoded ≡ Some cause
+-- what is read of a framing and of a coding of the content, where a body has so many bytes at most:
+-- the framing without a fault, or their fault
+abbrev pub FramingBy : ℕ → ℕ → Option Framing → Bool → Result ReadFraming WireEnd → Type 0
+FramingBy limit at found encoded (Ok f) =
+    (found ≡ Some (framing_told f)) × (fault_within limit at found encoded ≡ None)
+FramingBy limit at found encoded (Err cause) = fault_within limit at found encoded ≡ Some cause

@@ -1,4 +1,4 @@
-ghost use Rattle.std.specs.Prelude.{◌≡◌, ◌+◌, ◌<◌, ◌≤◌, ◌==◌, ◌&&◌, List, [], ◌∷◌, length, min, true, not, Option, MatchOption, codes};
+ghost use Rattle.std.specs.Prelude.{◌≡◌, ◌+◌, ◌<◌, ◌≤◌, ◌^◌, ◌==◌, ◌&&◌, List, [], ◌∷◌, length, min, true, not, Option, MatchOption, codes};
 ghost use Rattle.std.specs.List.{list_all, list_any};
 ghost use Rattle.std.specs.Char.{is_ascii_digit};
 ghost use Rattle.std.specs.Str.{str_eq_ignore_ascii_case};
@@ -11,7 +11,6 @@ ghost use Rattle.http_fields.specs.Fields.{AreWithin, Cover, FramingBy, IsFirst,
 
 use engine_types::WireEnd;
 use httparse::spans::HeaderSpan;
-use tree_base::limits::MOST_BODY_BYTES;
 
 /// Where a body ends (RFC 9112, section 6.3).
 #[derive(Clone, Copy, PartialEq, Eq)]
@@ -26,21 +25,33 @@ pub enum Framing {
 
 /// The framing that a head's fields say, or their fault, where the head begins at a place: a wrong framing, or else another
 /// coding of the content, or else a length past the limit. The headers are those that cover the fields. No memory.
-pub fn framing_or_fault(head: &[u8], headers: &[HeaderSpan], at: u64) -> Result<Framing, WireEnd>
-    requires { AreWithin head.now headers.now }
+pub fn framing_or_fault(
+    head: &[u8],
+    headers: &[HeaderSpan],
+    at: u64,
+    limit: u64,
+) -> Result<Framing, WireEnd>
+    requires within { AreWithin head.now headers.now }
+    requires small { limit < 2 ^ 62 }
     ensures { (fields : List Field) → Cover head.now headers.now fields
-        → FramingBy at (framing_of fields) (is_encoded fields) result }
+        → FramingBy limit at (framing_of fields) (is_encoded fields) result }
 {
     let framing = framing_of(head, headers);
     let encoded = is_encoded(head, headers);
-    without_fault(framing, encoded, at)
+    without_fault(framing, encoded, at, limit)
 }
 
 /// The framing, where there is one without a fault.
 #[tactic(auto, using(crate::proofs::FieldValues::no_framing, crate::proofs::FieldValues::encoded_fault, crate::proofs::FieldValues::long_fault, crate::proofs::FieldValues::sound_framing))]
-fn without_fault(framing: Option<Framing>, encoded: bool, at: u64) -> Result<Framing, WireEnd>
+fn without_fault(
+    framing: Option<Framing>,
+    encoded: bool,
+    at: u64,
+    limit: u64,
+) -> Result<Framing, WireEnd>
+    requires { limit < 2 ^ 62 }
     ensures { (found : Option HeadFraming) → framing ≡ capped found
-        → FramingBy at found encoded result }
+        → FramingBy limit at found encoded result }
 {
     let Some(framing) = framing else {
         return Err(WireEnd::Malformed { at });
@@ -48,17 +59,17 @@ fn without_fault(framing: Option<Framing>, encoded: bool, at: u64) -> Result<Fra
     if encoded {
         return Err(WireEnd::Encoded);
     }
-    if is_too_long(framing) {
+    if is_too_long(framing, limit) {
         return Err(WireEnd::TooLarge);
     }
     Ok(framing)
 }
 
-fn is_too_long(framing: Framing) -> bool
-    ensures { result ≡ is_past_limit framing }
+fn is_too_long(framing: Framing, limit: u64) -> bool
+    ensures { result ≡ is_past_limit limit framing }
 {
     match framing {
-        Framing::Sized(length) => length > MOST_BODY_BYTES,
+        Framing::Sized(length) => length > limit,
         Framing::ToEnd => false,
         Framing::Chunked => false,
     }

@@ -8,7 +8,7 @@ use Rattle.engine_types.specs.declared.WireEnd.{WireEnd}
 use Rattle.httparse.specs.Grammar.{ChunkLine, HasNoChunkLine, NeverHasChunkLine, print_chunk_line}
 use Rattle.httparse.specs.Spans.{IsChunkLineAt}
 use Rattle.outside_api.specs.Pipes.{Talk}
-use Rattle.response_rules.specs.Chunks.{BreaksChunk, line_bad, line_cut, line_long}
+use Rattle.response_rules.specs.Chunks.{BreaksChunkWithin, line_bad, line_cut, line_long}
 use Rattle.response_rules.specs.Lines.{Part, chunk_line_part, ends}
 use Rattle.http_heads.specs.Feeds.{HasNoFeed}
 use Rattle.http_heads.specs.Searches.{IsLine, part_told}
@@ -52,21 +52,21 @@ not_found part old new a b f g end good worse le h as_that =
     refuses (λ (k : ℕ). IsFilled old new n e × (part (left old ++ n) ≡ ends k)) (good n e) (MissesEnd (part (left old ++ n)) (old.ended || e)) (worse n e)
     f f g end (omega arith) le r (as_that n e))
 
-line_misses : (at before framed : ℕ) (bytes : List ℕ) (ended : Bool) (cause : WireEnd) → MissesEnd (chunk_line_part bytes) ended cause → BreaksChunk at before framed bytes ended cause
-line_misses at before framed bytes ended WireEnd.Ended m = line_cut at before framed bytes ended m.0 m.1
-line_misses at before framed bytes ended WireEnd.TooLarge m = line_long at before framed bytes ended m
-line_misses at before framed bytes ended (WireEnd.Malformed k) m = absurd m
-line_misses at before framed bytes ended WireEnd.Encoded m = absurd m
-line_misses at before framed bytes ended WireEnd.Fault m = absurd m
-line_misses at before framed bytes ended WireEnd.BadBody m = absurd m
+line_misses : (limit at before framed : ℕ) (bytes : List ℕ) (ended : Bool) (cause : WireEnd) → MissesEnd (chunk_line_part bytes) ended cause → BreaksChunkWithin limit at before framed bytes ended cause
+line_misses limit at before framed bytes ended WireEnd.Ended m = line_cut at before framed bytes ended m.0 m.1
+line_misses limit at before framed bytes ended WireEnd.TooLarge m = line_long at before framed bytes ended m
+line_misses limit at before framed bytes ended (WireEnd.Malformed k) m = absurd m
+line_misses limit at before framed bytes ended WireEnd.Encoded m = absurd m
+line_misses limit at before framed bytes ended WireEnd.Fault m = absurd m
+line_misses limit at before framed bytes ended WireEnd.BadBody m = absurd m
 
 pub size_lost : (old new : Stock) (a b : Option Talk) (f g : ℕ) (end : ResponseEnd) → f ≤ g → Hears a b (FindsEndBy chunk_line_part old new f g (Err end))
     → Hears a b (ReadsSizeBy old new f g (Err end))
 size_lost old new a b f g end le h =
     not_found chunk_line_part old new a b f g end (λ (n : List ℕ) (e : Bool). IsPastLine old new (left old ++ n) (old.ended || e))
-    (λ (n : List ℕ) (e : Bool) (cause : WireEnd). (before framed : ℕ) → place old < 2 ^ 64 → BreaksChunk (place old) before framed (left old ++ n) (old.ended || e) cause) le h
+    (λ (n : List ℕ) (e : Bool) (cause : WireEnd). (limit before framed : ℕ) → place old < 2 ^ 64 → BreaksChunkWithin limit (place old) before framed (left old ++ n) (old.ended || e) cause) le h
     (λ (n : List ℕ) (e : Bool) (cause : WireEnd) (m : MissesEnd (chunk_line_part (left old ++ n)) (old.ended || e) cause).
-    λ (before framed : ℕ) (small : place old < 2 ^ 64). line_misses (place old) before framed (left old ++ n) (old.ended || e) cause m)
+    λ (limit before framed : ℕ) (small : place old < 2 ^ 64). line_misses limit (place old) before framed (left old ++ n) (old.ended || e) cause m)
 
 -- ---- the line that was found
 
@@ -141,10 +141,10 @@ module _ (old mid : Stock) (a b : Option Talk) (f g end : ℕ) (found : Hears a 
       more = found.more;
       found_end = found.found_end;
       heard = found.heard;
-      comes = λ (before framed : ℕ) (small : place old < 2 ^ 64).
+      comes = λ (limit before framed : ℕ) (small : place old < 2 ^ 64).
           let same : place mid ≡ place old = found.comes.0.place_is small in
           let is_at : at ≡ place old = there (subst (λ (p : ℕ). p < 2 ^ 64) (sym same) small) ∙ same in
-          subst (λ (p : ℕ). BreaksChunk (place old) before framed tail (old.ended || found.found_end) (WireEnd.Malformed p)) (sym is_at)
+          subst (λ (p : ℕ). BreaksChunkWithin limit (place old) before framed tail (old.ended || found.found_end) (WireEnd.Malformed p)) (sym is_at)
           (line_bad (place old) before framed end tail (old.ended || found.found_end) found.comes.1 (subst HasNoChunkLine bytes_are none));
     }
 

@@ -5,15 +5,15 @@ use Rattle.std.proofs.lemmas.List.{append-nil, length-append, take-append-drop}
 use Rattle.std.proofs.lemmas.List.Elements.{All-push}
 use Rattle.std.proofs.lemmas.List.Sums.{sum_by_push}
 use Rattle.std.specs.Prelude.{Err, Ok}
-use Rattle.tree_base.specs.Limits.{most_body_bytes, most_framing_bytes}
+use Rattle.tree_base.specs.Limits.{most_framing_bytes}
 use Rattle.engine_types.specs.declared.WireEnd.{WireEnd}
 use Rattle.httparse.specs.Ascii.{crlf_bytes}
 use Rattle.httparse.specs.Grammar.{ChunkLine, chunk_size, print_chunk_line}
 use Rattle.outside_api.specs.Pipes.{Talk}
-use Rattle.response_rules.specs.Chunks.{BeginsWithLine, BeginsWithTrailer, BreaksChunk, BreaksTrailer, Chunk, IsChunk, body_long, body_of, bytes_cut, end_bad, framing_bytes, framing_long, print_chunk, print_chunks, trailer}
+use Rattle.response_rules.specs.Chunks.{BeginsWithLine, BeginsWithTrailer, BreaksChunkWithin, BreaksTrailer, Chunk, IsChunk, body_long, body_of, bytes_cut, end_bad, framing_bytes, framing_long, print_chunk, print_chunks, trailer}
 use Rattle.response_rules.specs.Heads.{chunked}
-use Rattle.response_rules.specs.Responses.{Breaks, IsResponse}
-use Rattle.http_response.specs.Bodies.{Continues, IsInChunk, IsOpen}
+use Rattle.response_rules.specs.Responses.{BreaksWithin, IsResponseWithin}
+use Rattle.http_response.specs.Bodies.{ContinuesWithin, IsInChunk, IsOpenWithin}
 use Rattle.http_response.specs.ChunksRead.{BreaksEnd, IsPastEnd, IsPastLine, LeavesRoom, ReadsEndBy, ReadsSizeBy, ReadsTrailerBy}
 use Rattle.http_response.specs.Hearing.{Hears}
 use Rattle.http_response.specs.Stocks.{ReadiesBy, left, place}
@@ -25,7 +25,7 @@ use Rattle.http_response.specs.declared.stock.Stock.{Stock}
 use Rattle.http_response.proofs.Framed.{IsFramed, body_place, framed_breaks, framed_more, framed_of, framed_open, framed_whole, place_of, place_small}
 use Rattle.http_response.proofs.Giving.{IsPiece, continues_on, piece_ended, piece_length, piece_placed, piece_refused}
 use Rattle.http_response.proofs.PlainBodies.{all_ended}
-use Rattle.http_response.proofs.Within.{chunks_long}
+use Rattle.http_response.proofs.Within.{chunks_length}
 
 -- what is left begins behind these bytes
 placed_past : (old new : Stock) (read more front : List ℕ) → left old ++ more ≡ front ++ left new → place new ≡ place old + length front
@@ -42,53 +42,55 @@ ended_past old ended new d e is = e ∙ ap (λ (v : Bool). v || d) is
 
 -- ---- at a chunk
 
-module _ (body : OpenBody) (room lines : ℕ) (read given : List ℕ) (ended : Bool) (o : IsOpen (record body { rest = Rest.Chunks room lines }) read ended given) where
+module _ (limit : ℕ) (body : OpenBody) (room lines : ℕ) (read given : List ℕ) (ended : Bool) (o : IsOpenWithin limit (record body { rest = Rest.Chunks room lines }) read ended given) where
   abbrev chunks : List Chunk
   chunks = o.so_far.2.0
 
-  at_framed : IsFramed read body.status chunked o.skipped o.head o.rest
-  at_framed = framed_of (record body { rest = Rest.Chunks room lines }) read ended given chunked o refl o.so_far.0
+  at_framed : IsFramed limit read body.status chunked o.skipped o.head o.rest
+  at_framed = framed_of limit (record body { rest = Rest.Chunks room lines }) read ended given chunked o refl o.so_far.0
 
-  at_front_small : length (print_chunks chunks) ≤ 2 ^ 50
+  at_front_small : length (print_chunks chunks) ≤ 2 ^ 63
   at_front_small =
-      let l = chunks_long chunks o.so_far.2.1.each in
+      let l = chunks_length chunks in
       let w = o.so_far.2.1.within in
-      omega (arith, l, w)
+      let f = o.so_far.2.1.framed in
+      let s = o.small in
+      omega (arith, l, w, f, s)
 
   at_place : place body.stock ≡ body_place o.skipped o.head + length (print_chunks chunks)
-  at_place = place_of read body.status chunked o.skipped o.head o.rest at_framed body.stock (print_chunks chunks) o.so_far.2.2 (o.place_is refl)
+  at_place = place_of limit read body.status chunked o.skipped o.head o.rest at_framed body.stock (print_chunks chunks) o.so_far.2.2 (o.place_is refl)
 
   pub at_small : place body.stock < 2 ^ 64
-  at_small = place_small read body.status chunked o.skipped o.head o.rest at_framed body.stock (print_chunks chunks) o.so_far.2.2 (o.place_is refl) at_front_small
+  at_small = place_small limit read body.status chunked o.skipped o.head o.rest at_framed body.stock (print_chunks chunks) o.so_far.2.2 (o.place_is refl) at_front_small
 
   tail_there : (m : List ℕ) → o.rest ++ m ≡ print_chunks chunks ++ (left body.stock ++ m)
   tail_there m = ap (λ (r : List ℕ). r ++ m) o.so_far.2.2 ∙ append_assoc (print_chunks chunks) (left body.stock) m
 
   -- a broken chunk breaks the response
-  at_breaks : (m : List ℕ) (d : Bool) (cause : WireEnd) → BreaksChunk (place body.stock) (length (body_of chunks)) (framing_bytes chunks) (left body.stock ++ m) (ended || d) cause
-      → Breaks (read ++ m) (ended || d) cause
+  at_breaks : (m : List ℕ) (d : Bool) (cause : WireEnd) → BreaksChunkWithin limit (place body.stock) (length (body_of chunks)) (framing_bytes chunks) (left body.stock ++ m) (ended || d) cause
+      → BreaksWithin limit (read ++ m) (ended || d) cause
   at_breaks m d cause broken =
-      framed_breaks (read ++ m) body.status chunked o.skipped o.head (o.rest ++ m) (framed_more read body.status chunked o.skipped o.head o.rest at_framed m) (ended || d) cause
+      framed_breaks limit (read ++ m) body.status chunked o.skipped o.head (o.rest ++ m) (framed_more limit read body.status chunked o.skipped o.head o.rest at_framed m) (ended || d) cause
       (record {
         chunks = chunks;
         tail = left body.stock ++ m;
         are_chunks = o.so_far.2.1;
         reads = tail_there m;
-        breaks = subst (λ (p : ℕ). BreaksChunk p (length (body_of chunks)) (framing_bytes chunks) (left body.stock ++ m) (ended || d) cause) at_place broken;
+        breaks = subst (λ (p : ℕ). BreaksChunkWithin limit p (length (body_of chunks)) (framing_bytes chunks) (left body.stock ++ m) (ended || d) cause) at_place broken;
       })
 
   -- its line isn't there
   pub size_refused : (mid : Stock) (after : OpenBody) (out : List ℕ) (a b : Option Talk) (f g : ℕ) (end : ResponseEnd) → f ≤ g → Hears a b (ReadsSizeBy body.stock mid f g (Err end))
-      → Continues after read ended given out out a b f g (Err end)
+      → ContinuesWithin limit after read ended given out out a b f g (Err end)
   size_refused mid after out a b f g end le h =
-      piece_refused (λ (m : List ℕ) (d : Bool). IsPastLine body.stock mid (left body.stock ++ m) (body.stock.ended || d))
-      (λ (m : List ℕ) (d : Bool) (cause : WireEnd). (before framed : ℕ) → place body.stock < 2 ^ 64 → BreaksChunk (place body.stock) before framed (left body.stock ++ m) (body.stock.ended || d) cause)
+      piece_refused limit (λ (m : List ℕ) (d : Bool). IsPastLine body.stock mid (left body.stock ++ m) (body.stock.ended || d))
+      (λ (m : List ℕ) (d : Bool) (cause : WireEnd). (within before framed : ℕ) → place body.stock < 2 ^ 64 → BreaksChunkWithin within (place body.stock) before framed (left body.stock ++ m) (body.stock.ended || d) cause)
       after read ended given out a b f g end le h
       (λ (m : List ℕ) (d : Bool) (cause : WireEnd)
-      (broken : (before framed : ℕ) → place body.stock < 2 ^ 64 → BreaksChunk (place body.stock) before framed (left body.stock ++ m) (body.stock.ended || d) cause).
+      (broken : (within before framed : ℕ) → place body.stock < 2 ^ 64 → BreaksChunkWithin within (place body.stock) before framed (left body.stock ++ m) (body.stock.ended || d) cause).
       at_breaks m d cause
-      (subst (λ (v : Bool). BreaksChunk (place body.stock) (length (body_of chunks)) (framing_bytes chunks) (left body.stock ++ m) (v || d) cause) o.ended_is
-      (broken (length (body_of chunks)) (framing_bytes chunks) at_small)))
+      (subst (λ (v : Bool). BreaksChunkWithin limit (place body.stock) (length (body_of chunks)) (framing_bytes chunks) (left body.stock ++ m) (v || d) cause) o.ended_is
+      (broken limit (length (body_of chunks)) (framing_bytes chunks) at_small)))
 
   module _ (mid : Stock) (a b : Option Talk) (f g : ℕ) (found : LineRead) (h : Hears a b (ReadsSizeBy body.stock mid f g (Ok found))) where
     abbrev line : ChunkLine
@@ -106,7 +108,7 @@ module _ (body : OpenBody) (room lines : ℕ) (read given : List ℕ) (ended : B
 
     -- with the line, the framing passes its limit
     pub framing_over : (after : OpenBody) (out : List ℕ) (n : ℕ) → n ≡ length (print_chunk_line line) + 2 → lines < n
-        → Continues after read ended given out out a b f g (Err (ResponseEnd.Wire WireEnd.TooLarge))
+        → ContinuesWithin limit after read ended given out out a b f g (Err (ResponseEnd.Wire WireEnd.TooLarge))
     framing_over after out n is over = record {
       more = h.more;
       now_ended = h.found_end;
@@ -120,7 +122,7 @@ module _ (body : OpenBody) (room lines : ℕ) (read given : List ℕ) (ended : B
     }
 
     -- with its bytes, the body passes its limit
-    pub chunk_over : (after : OpenBody) (out : List ℕ) → room < size → Continues after read ended given out out a b f g (Err (ResponseEnd.Wire WireEnd.TooLarge))
+    pub chunk_over : (after : OpenBody) (out : List ℕ) → room < size → ContinuesWithin limit after read ended given out out a b f g (Err (ResponseEnd.Wire WireEnd.TooLarge))
     chunk_over after out over = record {
       more = h.more;
       now_ended = h.found_end;
@@ -135,10 +137,10 @@ module _ (body : OpenBody) (room lines : ℕ) (read given : List ℕ) (ended : B
 
     -- the bytes of the chunk come
     pub into_chunk : (at : ℕ) → (place body.stock < 2 ^ 64 → at ≡ place body.stock) → 0 < size → size ≤ room → (n : ℕ) → n ≡ length (print_chunk_line line) + 2 → n ≤ lines
-        → IsOpen (record body { stock = mid; rest = Rest.Chunk size at (room - size) (lines - n) }) (read ++ h.more) (ended || h.found_end) given
+        → IsOpenWithin limit (record body { stock = mid; rest = Rest.Chunk size at (room - size) (lines - n) }) (read ++ h.more) (ended || h.found_end) given
     into_chunk at there some within n is fits =
-        framed_open (read ++ h.more) body.status chunked o.skipped o.head (o.rest ++ h.more)
-        (framed_more read body.status chunked o.skipped o.head o.rest at_framed h.more)
+        framed_open limit (read ++ h.more) body.status chunked o.skipped o.head (o.rest ++ h.more)
+        (framed_more limit read body.status chunked o.skipped o.head o.rest at_framed h.more)
         (record body { stock = mid; rest = Rest.Chunk size at (room - size) (lines - n) }) (ended || h.found_end) given refl
         (ended_past body.stock.ended ended mid.ended h.found_end h.comes.ended_is o.ended_is) refl
         (placed_past body.stock mid read h.more (print_chunk_line line) h.comes.begins.reads.1 (h.comes.place_is at_small) (o.place_is refl)) (
@@ -160,10 +162,10 @@ module _ (body : OpenBody) (room lines : ℕ) (read given : List ℕ) (ended : B
         )
 
     -- it is the last: the lines behind it come
-    abbrev framed_then : (m : List ℕ) → IsFramed ((read ++ h.more) ++ m) body.status chunked o.skipped o.head ((o.rest ++ h.more) ++ m)
+    abbrev framed_then : (m : List ℕ) → IsFramed limit ((read ++ h.more) ++ m) body.status chunked o.skipped o.head ((o.rest ++ h.more) ++ m)
     framed_then m =
-        framed_more (read ++ h.more) body.status chunked o.skipped o.head (o.rest ++ h.more)
-        (framed_more read body.status chunked o.skipped o.head o.rest at_framed h.more) m
+        framed_more limit (read ++ h.more) body.status chunked o.skipped o.head (o.rest ++ h.more)
+        (framed_more limit read body.status chunked o.skipped o.head o.rest at_framed h.more) m
 
     line_then : (m : List ℕ) → BeginsWithLine ((left body.stock ++ h.more) ++ m) line (left mid ++ m)
     line_then m = record {
@@ -204,23 +206,23 @@ module _ (body : OpenBody) (room lines : ℕ) (read given : List ℕ) (ended : B
       no_bytes : chunk_size line ≡ 0
       no_bytes = sym h.comes.size_is ∙ none
 
-      pub trailer_refuses : (end : ResponseEnd) → Hears b c (ReadsTrailerBy (lines - found.length) mid last g k (Err end)) → Continues after read ended given out out a c f k (Err end)
+      pub trailer_refuses : (end : ResponseEnd) → Hears b c (ReadsTrailerBy (lines - found.length) mid last g k (Err end)) → ContinuesWithin limit after read ended given out out a c f k (Err end)
       trailer_refuses end second =
-          continues_on after read h.more ended h.found_end given out out a b c f g k (Err end) low high h.heard
-          (piece_refused
+          continues_on limit after read h.more ended h.found_end given out out a b c f g k (Err end) low high h.heard
+          (piece_refused limit
           (λ (m : List ℕ) (d : Bool) (done : Unit {0}). ((framed : ℕ) → LeavesRoom framed (lines - found.length) → BeginsWithTrailer framed (left mid ++ m)) × (last.ended ≡ (mid.ended || d)))
           (λ (m : List ℕ) (d : Bool) (cause : WireEnd). (framed : ℕ) → LeavesRoom framed (lines - found.length) → place mid < 2 ^ 64 → BreaksTrailer (place mid) framed (left mid ++ m) (mid.ended || d) cause)
           after (read ++ h.more) (ended || h.found_end) given out b c g k end high second
           (λ (m : List ℕ) (d : Bool) (cause : WireEnd)
           (broken : (framed : ℕ) → LeavesRoom framed (lines - found.length) → place mid < 2 ^ 64 → BreaksTrailer (place mid) framed (left mid ++ m) (mid.ended || d) cause).
-          framed_breaks ((read ++ h.more) ++ m) body.status chunked o.skipped o.head ((o.rest ++ h.more) ++ m) (framed_then m) ((ended || h.found_end) || d) cause
+          framed_breaks limit ((read ++ h.more) ++ m) body.status chunked o.skipped o.head ((o.rest ++ h.more) ++ m) (framed_then m) ((ended || h.found_end) || d) cause
           (record {
             chunks = chunks;
             tail = (left body.stock ++ h.more) ++ m;
             are_chunks = o.so_far.2.1;
             reads = tail_then m;
             breaks =
-                subst (λ (p : ℕ). BreaksChunk p (length (body_of chunks)) (framing_bytes chunks) ((left body.stock ++ h.more) ++ m) ((ended || h.found_end) || d) cause) at_place
+                subst (λ (p : ℕ). BreaksChunkWithin limit p (length (body_of chunks)) (framing_bytes chunks) ((left body.stock ++ h.more) ++ m) ((ended || h.found_end) || d) cause) at_place
                 (trailer (place body.stock) (length (body_of chunks)) (framing_bytes chunks) ((left body.stock ++ h.more) ++ m) (left mid ++ m) ((ended || h.found_end) || d) line cause
                 (line_then m) line_fits no_bytes
                 (subst (λ (p : ℕ). BreaksTrailer p (framing_bytes chunks + length (print_chunk_line line)) (left mid ++ m) ((ended || h.found_end) || d) cause) last_place
@@ -228,17 +230,17 @@ module _ (body : OpenBody) (room lines : ℕ) (read given : List ℕ) (ended : B
                 (broken (framing_bytes chunks + length (print_chunk_line line)) leaves last_small))));
           })))
 
-      pub trailer_ends : after.status ≡ body.status → Hears b c (ReadsTrailerBy (lines - found.length) mid last g k (Ok tt)) → Continues after read ended given out out a c f k (Ok false)
+      pub trailer_ends : after.status ≡ body.status → Hears b c (ReadsTrailerBy (lines - found.length) mid last g k (Ok tt)) → ContinuesWithin limit after read ended given out out a c f k (Ok false)
       trailer_ends same second =
-          continues_on after read h.more ended h.found_end given out out a b c f g k (Ok false) low high h.heard
+          continues_on limit after read h.more ended h.found_end given out out a b c f g k (Ok false) low high h.heard
           (record {
             more = second.more;
             now_ended = second.found_end;
             heard = second.heard;
             gives = (
               refl,
-              subst (λ (s : ℕ). IsResponse ((read ++ h.more) ++ second.more) ((ended || h.found_end) || second.found_end) s given) (sym same)
-                  (framed_whole ((read ++ h.more) ++ second.more) body.status chunked o.skipped o.head ((o.rest ++ h.more) ++ second.more) (framed_then second.more)
+              subst (λ (s : ℕ). IsResponseWithin limit ((read ++ h.more) ++ second.more) ((ended || h.found_end) || second.found_end) s given) (sym same)
+                  (framed_whole limit ((read ++ h.more) ++ second.more) body.status chunked o.skipped o.head ((o.rest ++ h.more) ++ second.more) (framed_then second.more)
                   ((ended || h.found_end) || second.found_end) given
                   (record {
                     chunks = chunks;
@@ -267,12 +269,12 @@ bodies_join : (chunks : List Chunk) (c : Chunk) → body_of (chunks ++ c ∷ [])
 bodies_join [] c = append-nil c.bytes
 bodies_join (d ∷ chunks) c = ap (λ (m : List ℕ). d.bytes ++ m) (bodies_join chunks c) ∙ sym (append_assoc d.bytes (body_of chunks) c.bytes)
 
-module _ (body : OpenBody) (most at room lines : ℕ) (read given : List ℕ) (ended : Bool) (o : IsOpen (record body { rest = Rest.Chunk most at room lines }) read ended given) where
-  abbrev now : IsInChunk (body_place o.skipped o.head) o.rest given (left body.stock) most at room lines
+module _ (limit : ℕ) (body : OpenBody) (most at room lines : ℕ) (read given : List ℕ) (ended : Bool) (o : IsOpenWithin limit (record body { rest = Rest.Chunk most at room lines }) read ended given) where
+  abbrev now : IsInChunk limit (body_place o.skipped o.head) o.rest given (left body.stock) most at room lines
   now = o.so_far.1
 
-  in_framed : IsFramed read body.status chunked o.skipped o.head o.rest
-  in_framed = framed_of (record body { rest = Rest.Chunk most at room lines }) read ended given chunked o refl o.so_far.0
+  in_framed : IsFramed limit read body.status chunked o.skipped o.head o.rest
+  in_framed = framed_of limit (record body { rest = Rest.Chunk most at room lines }) read ended given chunked o refl o.so_far.0
 
   abbrev front : List ℕ
   front = print_chunks now.chunks ++ (print_chunk_line now.line ++ now.part)
@@ -283,19 +285,20 @@ module _ (body : OpenBody) (most at room lines : ℕ) (read given : List ℕ) (e
       ∙ ap (λ (l : List ℕ). print_chunks now.chunks ++ l) (sym (append_assoc (print_chunk_line now.line) now.part (left body.stock)))
       ∙ sym (append_assoc (print_chunks now.chunks) (print_chunk_line now.line ++ now.part) (left body.stock))
 
-  front_small : length front ≤ 2 ^ 50
+  front_small : length front ≤ 2 ^ 63
   front_small =
-      let l = chunks_long now.chunks now.are_chunks.each in
-      let w = now.are_chunks.within in
+      let l = chunks_length now.chunks in
+      let f = now.are_chunks.framed in
+      let small = o.small in
       let a = length-append (print_chunks now.chunks) (print_chunk_line now.line ++ now.part) in
       let b = length-append (print_chunk_line now.line) now.part in
       let c = now.begins.within in
       let s = now.size in
       let r = now.room_is in
-      omega (arith, l, w, a, b, c, s, r)
+      omega (arith, l, f, small, a, b, c, s, r)
 
   in_small : place body.stock < 2 ^ 64
-  in_small = place_small read body.status chunked o.skipped o.head o.rest in_framed body.stock front front_reads (o.place_is refl) front_small
+  in_small = place_small limit read body.status chunked o.skipped o.head o.rest in_framed body.stock front front_reads (o.place_is refl) front_small
 
   abbrev tail : List ℕ → List ℕ
   tail m = print_chunk_line now.line ++ (now.part ++ (left body.stock ++ m))
@@ -310,31 +313,31 @@ module _ (body : OpenBody) (most at room lines : ℕ) (read given : List ℕ) (e
   in_begins : (m : List ℕ) → BeginsWithLine (tail m) now.line (now.part ++ (left body.stock ++ m))
   in_begins m = record { reads = (now.begins.reads.0, refl); within = now.begins.within }
 
-  in_breaks : (m : List ℕ) (d : Bool) (cause : WireEnd) → BreaksChunk at (length (body_of now.chunks)) (framing_bytes now.chunks) (tail m) (ended || d) cause → Breaks (read ++ m) (ended || d) cause
+  in_breaks : (m : List ℕ) (d : Bool) (cause : WireEnd) → BreaksChunkWithin limit at (length (body_of now.chunks)) (framing_bytes now.chunks) (tail m) (ended || d) cause → BreaksWithin limit (read ++ m) (ended || d) cause
   in_breaks m d cause broken =
-      framed_breaks (read ++ m) body.status chunked o.skipped o.head (o.rest ++ m) (framed_more read body.status chunked o.skipped o.head o.rest in_framed m) (ended || d) cause
+      framed_breaks limit (read ++ m) body.status chunked o.skipped o.head (o.rest ++ m) (framed_more limit read body.status chunked o.skipped o.head o.rest in_framed m) (ended || d) cause
       (record {
         chunks = now.chunks;
         tail = tail m;
         are_chunks = now.are_chunks;
         reads = in_there m;
-        breaks = subst (λ (p : ℕ). BreaksChunk p (length (body_of now.chunks)) (framing_bytes now.chunks) (tail m) (ended || d) cause) now.place_is broken;
+        breaks = subst (λ (p : ℕ). BreaksChunkWithin limit p (length (body_of now.chunks)) (framing_bytes now.chunks) (tail m) (ended || d) cause) now.place_is broken;
       })
 
-  in_limit : length (body_of now.chunks) + chunk_size now.line ≤ most_body_bytes
+  in_limit : length (body_of now.chunks) + chunk_size now.line ≤ limit
   in_limit = let r = now.room_is in omega (arith, r)
 
   lines_limit : framing_bytes now.chunks + (length (print_chunk_line now.line) + 2) ≤ most_framing_bytes
   lines_limit = let r = now.lines_are in omega (arith, r)
 
-  cut_at : (m : List ℕ) (d : Bool) → length (now.part ++ (left body.stock ++ m)) < chunk_size now.line + 2 → (ended || d) ≡ true → Breaks (read ++ m) (ended || d) WireEnd.Ended
+  cut_at : (m : List ℕ) (d : Bool) → length (now.part ++ (left body.stock ++ m)) < chunk_size now.line + 2 → (ended || d) ≡ true → BreaksWithin limit (read ++ m) (ended || d) WireEnd.Ended
   cut_at m d short over =
       in_breaks m d WireEnd.Ended
       (bytes_cut at (length (body_of now.chunks)) (framing_bytes now.chunks) (tail m) (now.part ++ (left body.stock ++ m)) (ended || d) now.line (in_begins m) lines_limit now.some in_limit short over)
 
   module _ (mid : Stock) (a b : Option Talk) (f g count : ℕ) (h : Hears a b (ReadiesBy body.stock mid f g (Ok count))) where
     -- the connection ended within the chunk
-    pub chunk_cut : (after : OpenBody) (out : List ℕ) → count ≡ 0 → Continues after read ended given out out a b f g (Err (ResponseEnd.Wire WireEnd.Ended))
+    pub chunk_cut : (after : OpenBody) (out : List ℕ) → count ≡ 0 → ContinuesWithin limit after read ended given out out a b f g (Err (ResponseEnd.Wire WireEnd.Ended))
     chunk_cut after out none = record {
       more = h.more;
       now_ended = h.found_end;
@@ -353,7 +356,7 @@ module _ (body : OpenBody) (most at room lines : ℕ) (read given : List ℕ) (e
 
     -- some of its bytes are given
     pub chunk_given : (new : Stock) (old_out new_out : List ℕ) (n : ℕ) → IsPiece body.stock mid new h.more h.found_end n → 0 < n → n ≤ most → new_out ≡ old_out ++ take n (left mid)
-        → Continues (record body { stock = new; rest = Rest.Chunk (most - n) at room lines }) read ended given old_out new_out a b f g (Ok true)
+        → ContinuesWithin limit (record body { stock = new; rest = Rest.Chunk (most - n) at room lines }) read ended given old_out new_out a b f g (Ok true)
     chunk_given new old_out new_out n p some within put =
         let piece : List ℕ = take n (left mid) in
         let long : length piece ≡ n = piece_length body.stock mid new h.more h.found_end n p in
@@ -367,8 +370,8 @@ module _ (body : OpenBody) (most at room lines : ℕ) (read given : List ℕ) (e
             piece,
             omega (arith, long, some),
             put,
-            framed_open (read ++ h.more) body.status chunked o.skipped o.head (o.rest ++ h.more)
-                (framed_more read body.status chunked o.skipped o.head o.rest in_framed h.more)
+            framed_open limit (read ++ h.more) body.status chunked o.skipped o.head (o.rest ++ h.more)
+                (framed_more limit read body.status chunked o.skipped o.head o.rest in_framed h.more)
                 (record body { stock = new; rest = Rest.Chunk (most - n) at room lines }) (ended || h.found_end) (given ++ piece) refl
                 (piece_ended body.stock mid new h.more h.found_end n p ended o.ended_is) refl
                 (piece_placed body.stock mid new h.more h.found_end n p read (o.place_is refl) in_small) (
@@ -400,13 +403,13 @@ module _ (body : OpenBody) (most at room lines : ℕ) (read given : List ℕ) (e
     whole_size : chunk_size now.line ≡ length now.part
     whole_size = let s = now.size in omega (arith, s, none)
 
-    end_breaks : (m : List ℕ) (d : Bool) (cause : WireEnd) → BreaksEnd at (left body.stock ++ m) (body.stock.ended || d) cause → Breaks (read ++ m) (ended || d) cause
+    end_breaks : (m : List ℕ) (d : Bool) (cause : WireEnd) → BreaksEnd at (left body.stock ++ m) (body.stock.ended || d) cause → BreaksWithin limit (read ++ m) (ended || d) cause
     end_breaks m d WireEnd.Ended e =
         cut_at m d
         (let l = length-append now.part (left body.stock ++ m) in let s = whole_size in let w = e.0 in omega (arith, l, s, w))
         (ap (λ (v : Bool). v || d) (sym o.ended_is) ∙ e.1)
     end_breaks m d (WireEnd.Malformed k) e =
-        subst (λ (p : ℕ). Breaks (read ++ m) (ended || d) (WireEnd.Malformed p)) (sym e.0)
+        subst (λ (p : ℕ). BreaksWithin limit (read ++ m) (ended || d) (WireEnd.Malformed p)) (sym e.0)
         (in_breaks m d (WireEnd.Malformed at)
         (end_bad at (length (body_of now.chunks)) (framing_bytes now.chunks) (tail m) (now.part ++ (left body.stock ++ m)) (ended || d) now.line (in_begins m) lines_limit now.some in_limit
         (let l = length-append now.part (left body.stock ++ m) in let s = whole_size in let w = e.1 in omega (arith, l, s, w))
@@ -418,9 +421,9 @@ module _ (body : OpenBody) (most at room lines : ℕ) (read given : List ℕ) (e
     end_breaks m d WireEnd.BadBody e = absurd e
 
     pub end_refused : (mid : Stock) (after : OpenBody) (out : List ℕ) (a b : Option Talk) (f g : ℕ) (end : ResponseEnd) → f ≤ g → Hears a b (ReadsEndBy at body.stock mid f g (Err end))
-        → Continues after read ended given out out a b f g (Err end)
+        → ContinuesWithin limit after read ended given out out a b f g (Err end)
     end_refused mid after out a b f g end le h =
-        piece_refused (λ (m : List ℕ) (d : Bool) (done : Unit {0}). IsPastEnd body.stock mid (left body.stock ++ m) (body.stock.ended || d))
+        piece_refused limit (λ (m : List ℕ) (d : Bool) (done : Unit {0}). IsPastEnd body.stock mid (left body.stock ++ m) (body.stock.ended || d))
         (λ (m : List ℕ) (d : Bool). BreaksEnd at (left body.stock ++ m) (body.stock.ended || d)) after read ended given out a b f g end le h end_breaks
 
     module _ (mid : Stock) (more : List ℕ) (found_end : Bool) (past : IsPastEnd body.stock mid (left body.stock ++ more) (body.stock.ended || found_end)) where
@@ -442,10 +445,10 @@ module _ (body : OpenBody) (most at room lines : ℕ) (read given : List ℕ) (e
       framing_join = sum_by_push (λ (one : Chunk). length (print_chunk_line one.line) + 2) now.chunks chunk
 
       -- the chunk is whole, and the next one comes
-      pub past_chunk : IsOpen (record body { stock = mid; rest = Rest.Chunks room lines }) (read ++ more) (ended || found_end) given
+      pub past_chunk : IsOpenWithin limit (record body { stock = mid; rest = Rest.Chunks room lines }) (read ++ more) (ended || found_end) given
       past_chunk =
-          framed_open (read ++ more) body.status chunked o.skipped o.head (o.rest ++ more)
-          (framed_more read body.status chunked o.skipped o.head o.rest in_framed more)
+          framed_open limit (read ++ more) body.status chunked o.skipped o.head (o.rest ++ more)
+          (framed_more limit read body.status chunked o.skipped o.head o.rest in_framed more)
           (record body { stock = mid; rest = Rest.Chunks room lines }) (ended || found_end) given refl
           (ended_past body.stock.ended ended mid.ended found_end past.ended_is o.ended_is) refl
           (placed_past body.stock mid read more crlf_bytes past.reads (past.place_is in_small) (o.place_is refl)) (

@@ -26,7 +26,7 @@ are_within_more n m headers le all = λ (k : ℕ) (d : HeaderSpan) (l : k < leng
     let w = all k d l in
     ((w.0.0, omega (arith, w.0.1, le)), (w.1.0, omega (arith, w.1.1, le)))
 
-module _ (tail bytes : List ℕ) (before n : ℕ) (headers front : List HeaderSpan) (spans : ResponseSpans) (h : ResponseHead)
+module _ (limit : ℕ) (tail bytes : List ℕ) (before n : ℕ) (headers front : List HeaderSpan) (spans : ResponseSpans) (h : ResponseHead)
     (part : head_part before tail ≡ ends n) (is : bytes ≡ take n tail) (found : IsResponseAt bytes headers spans h) (within : IsResponseWithin bytes headers spans)
     (room : length headers ≡ most_header_lines) (cut : front ≡ take spans.headers headers) where
   reads : tail ≡ print_response h ++ (drop spans.len bytes ++ drop n tail)
@@ -58,8 +58,8 @@ module _ (tail bytes : List ℕ) (before n : ℕ) (headers front : List HeaderSp
   pub covers : Cover bytes front h.fields
   covers = ap (λ (hs : List HeaderSpan). map (header_bytes bytes) hs) cut ∙ found.fields
 
-  pub head_there : (f : ReadFraming) → FramingBy before (framing_of h.fields) (is_encoded h.fields) (Ok f)
-      → ParsedBy tail before (Ok (record { status = spans.code; framing = f; length = spans.len }))
+  pub head_there : (f : ReadFraming) → FramingBy limit before (framing_of h.fields) (is_encoded h.fields) (Ok f)
+      → ParsedBy limit tail before (Ok (record { status = spans.code; framing = f; length = spans.len }))
   head_there f by = record {
     head = h;
     rest = drop spans.len bytes ++ drop n tail;
@@ -67,25 +67,25 @@ module _ (tail bytes : List ℕ) (before n : ℕ) (headers front : List HeaderSp
     reads = reads;
     few = few;
     within = limited;
-    sound = sound_anywhere before (framing_of h.fields) (is_encoded h.fields) by.1;
+    sound = sound_anywhere limit before (framing_of h.fields) (is_encoded h.fields) by.1;
     status_is = found.code;
     framing_is = by.0;
     length_is = found.len;
   }
 
-  pub fault_there : (cause : WireEnd) → FramingBy before (framing_of h.fields) (is_encoded h.fields) (Err cause) → ParsedBy tail before (Err cause)
-  fault_there cause by = bad_fields_there tail (drop spans.len bytes ++ drop n tail) before h found.reads.0 reads few limited cause by
+  pub fault_there : (cause : WireEnd) → FramingBy limit before (framing_of h.fields) (is_encoded h.fields) (Err cause) → ParsedBy limit tail before (Err cause)
+  fault_there cause by = bad_fields_there limit tail (drop spans.len bytes ++ drop n tail) before h found.reads.0 reads few limited cause by
 
 -- what the parser refuses is no head
-module _ (tail bytes : List ℕ) (before n : ℕ) (part : head_part before tail ≡ ends n) (is : bytes ≡ take n tail) where
-  pub partial_there : HasNoResponse bytes → ParsedBy tail before (Err (WireEnd.Malformed before))
-  partial_there none = no_head_there tail bytes before n part is none
+module _ (limit : ℕ) (tail bytes : List ℕ) (before n : ℕ) (part : head_part before tail ≡ ends n) (is : bytes ≡ take n tail) where
+  pub partial_there : HasNoResponse bytes → ParsedBy limit tail before (Err (WireEnd.Malformed before))
+  partial_there none = no_head_there limit tail bytes before n part is none
 
-  other : (e : Error) → (e ≢ Error.TooManyHeaders) → (e ≢ Error.TooManyHeaders → NeverHasResponse bytes) → ParsedBy tail before (Err (WireEnd.Malformed before))
-  other e fails never = no_head_there tail bytes before n part is (never_there bytes (never fails))
+  other : (e : Error) → (e ≢ Error.TooManyHeaders) → (e ≢ Error.TooManyHeaders → NeverHasResponse bytes) → ParsedBy limit tail before (Err (WireEnd.Malformed before))
+  other e fails never = no_head_there limit tail bytes before n part is (never_there bytes (never fails))
 
   pub refused_there : (e : Error) → (e ≢ Error.TooManyHeaders → NeverHasResponse bytes)
-      → (e ≡ Error.TooManyHeaders → ResponseExceeds most_header_lines bytes) → ParsedBy tail before (Err (WireEnd.Malformed before))
+      → (e ≡ Error.TooManyHeaders → ResponseExceeds most_header_lines bytes) → ParsedBy limit tail before (Err (WireEnd.Malformed before))
   refused_there Error.TooManyHeaders never many = absurd (not_too_many tail bytes before n part is (many refl))
   refused_there Error.HeaderName never many = other Error.HeaderName (λ (e : Error.HeaderName ≡ Error.TooManyHeaders). cc e) never
   refused_there Error.HeaderValue never many = other Error.HeaderValue (λ (e : Error.HeaderValue ≡ Error.TooManyHeaders). cc e) never

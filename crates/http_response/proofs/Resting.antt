@@ -95,11 +95,11 @@ module _ (now new : OpenBody) (body body_new read : List ℕ) (ended : Bool) (a 
         (read ++ (first.more ++ k.more)) (ended || (first.found_end || k.now_ended)) f h cause
         (subst (λ (r : List ℕ). EndsBy r (ended || (first.found_end || k.now_ended)) f h cause) (append_assoc read first.more k.more)
         (subst (λ (v : Bool). EndsBy (there ++ k.more) v f h cause) (or_assoc ended first.found_end k.now_ended)
-        (ends_from (there ++ k.more) (over || k.now_ended) f g h cause low high k.gives.1)));
+        (ends_from most_body_bytes (there ++ k.more) (over || k.now_ended) f g h cause low high k.gives.1)));
   }
 
 pub put_within : (now : OpenBody) (body read : List ℕ) (ended : Bool) (a b : Option Talk) → Hears a b (HasPut now body read ended) → length body ≤ most_body_bytes
-put_within now body read ended a b h = given_within now (read ++ h.more) (ended || h.found_end) body h.comes
+put_within now body read ended a b h = given_within most_body_bytes now (read ++ h.more) (ended || h.found_end) body h.comes
 
 -- ---- the response
 
@@ -131,6 +131,6 @@ module _ (first new : OpenBody) (body : List ℕ) (a b c : Option Talk) (f g h :
     ended = o.ended || r.found_end;
     heard = heard_on o.read r.more o.ended r.found_end a b c o.heard r.heard;
     answers =
-        ends_from (o.read ++ r.more) (o.ended || r.found_end) f g h cause low high
-        (ends_by (λ (done : Unit {0}). IsResponse (o.read ++ r.more) (o.ended || r.found_end) new.status body) (o.read ++ r.more) (o.ended || r.found_end) g h cause r.comes);
+        ends_from most_body_bytes (o.read ++ r.more) (o.ended || r.found_end) f g h cause low high
+        (ends_by most_body_bytes (λ (done : Unit {0}). IsResponse (o.read ++ r.more) (o.ended || r.found_end) new.status body) (o.read ++ r.more) (o.ended || r.found_end) g h cause r.comes);
   }

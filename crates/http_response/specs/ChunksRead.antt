@@ -4,7 +4,7 @@ use Rattle.std.specs.Prelude.{◌≡◌, ◌≢◌, ℕ, ◌+◌, ◌<◌, ◌�
 use Rattle.engine_types.specs.declared.WireEnd.{WireEnd}
 use Rattle.httparse.specs.Ascii.{crlf_bytes}
 use Rattle.httparse.specs.Grammar.{ChunkLine, chunk_size, print_chunk_line}
-use Rattle.response_rules.specs.Chunks.{BeginsWithLine, BeginsWithTrailer, BreaksChunk, BreaksTrailer}
+use Rattle.response_rules.specs.Chunks.{BeginsWithLine, BeginsWithTrailer, BreaksChunkWithin, BreaksTrailer}
 use Rattle.http_response.specs.Hearing.{ComesTo}
 use Rattle.http_response.specs.Stocks.{left, place}
 use Rattle.http_response.specs.declared.chunks.LineRead.{LineRead}
@@ -20,13 +20,14 @@ pub record IsPastLine (old new : Stock) (read : List ℕ) (ended : Bool) (found 
   pub ended_is : new.ended ≡ ended
   pub place_is : place old < 2 ^ 64 → place new ≡ place old + length (print_chunk_line line)
 
--- the line of the next chunk is read; what it is not breaks the chunk, behind however many bytes of
--- the body and of its framing
+-- the line of the next chunk is read; what it is not breaks the chunk, whatever the limit of a body
+-- is, and behind however many bytes of it and of its framing
 abbrev pub ReadsSizeBy : Stock → Stock → ℕ → ℕ → Result LineRead ResponseEnd → List ℕ → Bool → Type 0
 ReadsSizeBy old new f g answer more found_end =
     ComesTo (IsPastLine old new (left old ++ more) (old.ended || found_end))
-    (λ cause. (before framed : ℕ) → place old < 2 ^ 64
-    → BreaksChunk (place old) before framed (left old ++ more) (old.ended || found_end) cause)
+    (λ cause. (limit before framed : ℕ) → place old < 2 ^ 64
+    → BreaksChunkWithin limit (place old) before framed
+    (left old ++ more) (old.ended || found_end) cause)
     f g answer
 
 -- these bytes begin with a CRLF, and what stands behind it is left

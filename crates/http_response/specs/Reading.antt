@@ -1,19 +1,24 @@
 -- What a reader of responses promises of the connection that it reads (RFC 9112).
 use Rattle.std.specs.Prelude.{ℕ, Bool, List, Option, Result, Ok, Err}
+use Rattle.tree_base.specs.Limits.{most_body_bytes}
 use Rattle.engine_types.specs.declared.WireEnd.{WireEnd}
 use Rattle.outside_files.specs.Counts.{Rose}
 use Rattle.outside_api.specs.Pipes.{Talk}
-use Rattle.response_rules.specs.Responses.{Breaks, IsResponse}
+use Rattle.response_rules.specs.Responses.{BreaksWithin, IsResponse}
 use Rattle.http_response.specs.Hearing.{Heard}
 use Rattle.http_response.specs.declared.response.Response.{Response}
 use Rattle.http_response.specs.declared.response.ResponseEnd.{ResponseEnd}
 
--- bytes that are no response in the way that the cause names, or a fault that was counted. A reader
--- doesn't judge a body
+-- bytes that are no response in the way that the cause names, where a body has so many bytes at
+-- most, or a fault that was counted. A reader doesn't judge a body
+abbrev pub EndsByWithin : ℕ → List ℕ → Bool → ℕ → ℕ → WireEnd → Type 0
+EndsByWithin limit read ended old new WireEnd.Fault = Rose old new
+EndsByWithin limit read ended old new WireEnd.BadBody = ⊥
+EndsByWithin limit read ended old new cause = BreaksWithin limit read ended cause
+
+-- the same where the limit is that of a body
 abbrev pub EndsBy : List ℕ → Bool → ℕ → ℕ → WireEnd → Type 0
-EndsBy read ended old new WireEnd.Fault = Rose old new
-EndsBy read ended old new WireEnd.BadBody = ⊥
-EndsBy read ended old new cause = Breaks read ended cause
+EndsBy = EndsByWithin most_body_bytes
 
 -- what a reader may answer, where it read these bytes and found the end or not: the response that
 -- they begin with, or the cause for which they are none; it is free to want memory

@@ -1,5 +1,5 @@
-ghost use Rattle.std.specs.Prelude.{◌≡◌, ◌<◌, ◌≤◌, Bool, List, ℕ};
-ghost use Rattle.http_response.specs.Bodies.{Continues, IsBegun, IsOpen, Opens, ReadsRestBy, opening};
+ghost use Rattle.std.specs.Prelude.{◌≡◌, ◌<◌, ◌≤◌, ◌^◌, Bool, List, ℕ};
+ghost use Rattle.http_response.specs.Bodies.{ContinuesWithin, IsBegun, IsOpen, IsOpenWithin, OpensWithin, ReadsRestBy, opening};
 ghost use Rattle.http_response.specs.Hearing.{Hears};
 ghost use Rattle.http_response.specs.Reading.{Reads};
 ghost use Rattle.http_response.specs.declared.body.Rest.{Rest};
@@ -46,33 +46,41 @@ pub struct OpenBody {
     rest: Rest,
 }
 
-/// Reads the head of a response. A head of a status 1xx is skipped.
-pub fn open_response<P: Pipe>(alloc: Global, pipe: &mut P) -> Result<OpenBody, ResponseEnd>
+/// Reads the head of a response whose body has so many bytes at most as the limit says. A head of a status 1xx is skipped.
+///
+/// A refusal says in which way the bytes that were read are no response: `Wire(TooLarge)` also where the head says a length
+/// past the limit.
+pub fn open_response<P: Pipe>(
+    alloc: Global,
+    pipe: &mut P,
+    limit: u64,
+) -> Result<OpenBody, ResponseEnd>
+    requires { limit < 2 ^ 62 }
     ensures counted { P.faults pipe.old ≤ P.faults pipe.new }
-    ensures opens { Opens (P.talk pipe.old) (P.talk pipe.new) (P.faults pipe.old)
+    ensures opens { OpensWithin limit (P.talk pipe.old) (P.talk pipe.new) (P.faults pipe.old)
         (P.faults pipe.new) result }
 {
     let mut stock = Stock::new(alloc);
-    let head = read_head(alloc, pipe, &mut stock)?;
+    let head = read_head(alloc, pipe, &mut stock, limit)?;
     Ok(OpenBody {
         status: head.status,
         stock,
-        rest: rest_of(head),
+        rest: rest_of(head, limit),
     })
 }
 
-/// What is to come of a body behind a head.
-fn rest_of(head: Head) -> Rest
-    ensures { result ≡ opening head.status head.framing }
+/// What is to come of a body of at most so many bytes behind a head.
+fn rest_of(head: Head, limit: u64) -> Rest
+    ensures { result ≡ opening limit head.status head.framing }
 {
     if head.status == 204 || head.status == 304 {
         return Rest::Nothing;
     }
     match head.framing {
         Framing::Sized(length) => Rest::Sized(length),
-        Framing::ToEnd => Rest::ToEnd(MOST_BODY_BYTES),
+        Framing::ToEnd => Rest::ToEnd(limit),
         Framing::Chunked => Rest::Chunks {
-            room: MOST_BODY_BYTES,
+            room: limit,
             lines: MOST_FRAMING_BYTES,
         },
     }
@@ -90,10 +98,10 @@ impl OpenBody {
     /// the body of a whole response (RFC 9112, section 6.3). The pipe is the one that the response was opened on, and nothing else
     /// was read of it since.
     ///
-    /// `Wire(Ended)` where the connection ended before the body, `Wire(TooLarge)` where a body of more than 16,777,216 bytes, as
-    /// many of its framing in chunks, a chunk line of more than 65,536 or more than 100 lines behind the last chunk come,
-    /// `Wire(Malformed)` where chunks aren't of the grammar, with the byte at which they aren't, and `Wire(Fault)` where the
-    /// connection failed. After a refusal nothing is put.
+    /// `Wire(Ended)` where the connection ended before the body, `Wire(TooLarge)` where a body of more bytes than the limit
+    /// that it was opened with, more than 16,777,216 of its framing in chunks, a chunk line of more than 65,536 or more than 100
+    /// lines behind the last chunk come, `Wire(Malformed)` where chunks aren't of the grammar, with the byte at which they
+    /// aren't, and `Wire(Fault)` where the connection failed. After a refusal nothing is put. The status stays.
     pub fn more<P: Pipe>(
         &mut self,
         alloc: Global,
@@ -101,9 +109,10 @@ impl OpenBody {
         to: &mut List<u8>,
     ) -> Result<bool, ResponseEnd>
         ensures counted { P.faults pipe.old ≤ P.faults pipe.new }
-        ensures continues { (read : List ℕ) (ended : Bool) (given : List ℕ)
-            → IsOpen self.old read ended given
-            → Continues self.new read ended given to.old to.new (P.talk pipe.old)
+        ensures status { self.new.status ≡ self.old.status }
+        ensures continues { (limit : ℕ) (read : List ℕ) (ended : Bool) (given : List ℕ)
+            → IsOpenWithin limit self.old read ended given
+            → ContinuesWithin limit self.new read ended given to.old to.new (P.talk pipe.old)
             (P.talk pipe.new) (P.faults pipe.old) (P.faults pipe.new) result }
     {
         match self.rest {
@@ -128,9 +137,10 @@ impl OpenBody {
         left: u64,
     ) -> Result<bool, ResponseEnd>
         ensures counted { P.faults pipe.old ≤ P.faults pipe.new }
-        ensures continues { (read : List ℕ) (ended : Bool) (given : List ℕ)
-            → IsOpen (record self.old { rest = Rest.Sized left }) read ended given
-            → Continues self.new read ended given to.old to.new (P.talk pipe.old)
+        ensures status { self.new.status ≡ self.old.status }
+        ensures continues { (limit : ℕ) (read : List ℕ) (ended : Bool) (given : List ℕ)
+            → IsOpenWithin limit (record self.old { rest = Rest.Sized left }) read ended given
+            → ContinuesWithin limit self.new read ended given to.old to.new (P.talk pipe.old)
             (P.talk pipe.new) (P.faults pipe.old) (P.faults pipe.new) result }
     {
         if left == 0 {
@@ -153,9 +163,10 @@ impl OpenBody {
         room: u64,
     ) -> Result<bool, ResponseEnd>
         ensures counted { P.faults pipe.old ≤ P.faults pipe.new }
-        ensures continues { (read : List ℕ) (ended : Bool) (given : List ℕ)
-            → IsOpen (record self.old { rest = Rest.ToEnd room }) read ended given
-            → Continues self.new read ended given to.old to.new (P.talk pipe.old)
+        ensures status { self.new.status ≡ self.old.status }
+        ensures continues { (limit : ℕ) (read : List ℕ) (ended : Bool) (given : List ℕ)
+            → IsOpenWithin limit (record self.old { rest = Rest.ToEnd room }) read ended given
+            → ContinuesWithin limit self.new read ended given to.old to.new (P.talk pipe.old)
             (P.talk pipe.new) (P.faults pipe.old) (P.faults pipe.new) result }
     {
         let count = self.stock.ready(alloc, pipe)?;
@@ -179,9 +190,10 @@ impl OpenBody {
         lines: u64,
     ) -> Result<bool, ResponseEnd>
         ensures counted { P.faults pipe.old ≤ P.faults pipe.new }
-        ensures continues { (read : List ℕ) (ended : Bool) (given : List ℕ)
-            → IsOpen (record self.old { rest = Rest.Chunks room lines }) read ended given
-            → Continues self.new read ended given to.old to.new (P.talk pipe.old)
+        ensures status { self.new.status ≡ self.old.status }
+        ensures continues { (limit : ℕ) (read : List ℕ) (ended : Bool) (given : List ℕ)
+            → IsOpenWithin limit (record self.old { rest = Rest.Chunks room lines }) read ended given
+            → ContinuesWithin limit self.new read ended given to.old to.new (P.talk pipe.old)
             (P.talk pipe.new) (P.faults pipe.old) (P.faults pipe.new) result }
     {
         let at = self.stock.place();
@@ -213,9 +225,10 @@ impl OpenBody {
         lines: u64,
     ) -> Result<bool, ResponseEnd>
         ensures counted { P.faults pipe.old ≤ P.faults pipe.new }
-        ensures continues { (read : List ℕ) (ended : Bool) (given : List ℕ)
-            → IsOpen (record self.old { rest = Rest.Chunk left at more lines }) read ended given
-            → Continues self.new read ended given to.old to.new (P.talk pipe.old)
+        ensures status { self.new.status ≡ self.old.status }
+        ensures continues { (limit : ℕ) (read : List ℕ) (ended : Bool) (given : List ℕ)
+            → IsOpenWithin limit (record self.old { rest = Rest.Chunk left at more lines }) read ended given
+            → ContinuesWithin limit self.new read ended given to.old to.new (P.talk pipe.old)
             (P.talk pipe.new) (P.faults pipe.old) (P.faults pipe.new) result }
     {
         if left == 0 {
@@ -237,9 +250,10 @@ impl OpenBody {
     ) -> Result<bool, ResponseEnd>
         requires some { 0 < left }
         ensures counted { P.faults pipe.old ≤ P.faults pipe.new }
-        ensures continues { (read : List ℕ) (ended : Bool) (given : List ℕ)
-            → IsOpen (record self.old { rest = Rest.Chunk left at more lines }) read ended given
-            → Continues self.new read ended given to.old to.new (P.talk pipe.old)
+        ensures status { self.new.status ≡ self.old.status }
+        ensures continues { (limit : ℕ) (read : List ℕ) (ended : Bool) (given : List ℕ)
+            → IsOpenWithin limit (record self.old { rest = Rest.Chunk left at more lines }) read ended given
+            → ContinuesWithin limit self.new read ended given to.old to.new (P.talk pipe.old)
             (P.talk pipe.new) (P.faults pipe.old) (P.faults pipe.new) result }
     {
         let count = self.stock.ready(alloc, pipe)?.min(left);
@@ -261,13 +275,13 @@ impl OpenBody {
 /// may have been read too, and are dropped.
 ///
 /// A refusal says in which way the bytes that were read are no response: those of a head, or of a body as `OpenBody::more` has
-/// them.
+/// them. A body has at most 16,777,216 bytes.
 pub fn read_response<P: Pipe>(alloc: Global, pipe: &mut P) -> Result<Response, ResponseEnd>
     ensures counted { P.faults pipe.old ≤ P.faults pipe.new }
     ensures reads { Reads (P.talk pipe.old) (P.talk pipe.new) (P.faults pipe.old)
         (P.faults pipe.new) result }
 {
-    let mut open = open_response(alloc, pipe)?;
+    let mut open = open_response(alloc, pipe, MOST_BODY_BYTES)?;
     let mut body = List::new(alloc);
     read_rest(alloc, pipe, &mut open, &mut body)?;
     Ok(Response {

@@ -1,4 +1,4 @@
-ghost use Rattle.std.specs.Prelude.{◌≡◌, ℕ, ◌≤◌, List, drop, length, take, true};
+ghost use Rattle.std.specs.Prelude.{◌≡◌, ℕ, ◌<◌, ◌≤◌, ◌^◌, List, drop, length, take, true};
 ghost use Rattle.tree_base.specs.Limits.{most_head_bytes};
 ghost use Rattle.response_rules.specs.Heads.{is_interim};
 ghost use Rattle.response_rules.specs.Lines.{ends, head_part};
@@ -26,19 +26,22 @@ pub(crate) struct Head {
     length: usize,
 }
 
-/// Reads the head of the response, and skips those before it that another follows (RFC 9110, section 15.2).
+/// Reads the head of the response, and skips those before it that another follows (RFC 9110, section 15.2). A body has so
+/// many bytes at most as the limit says.
 pub(crate) fn read_head<P: Pipe>(
     alloc: Global,
     pipe: &mut P,
     stock: &mut Stock,
+    limit: u64,
 ) -> Result<Head, ResponseEnd>
+    requires small { limit < 2 ^ 62 }
     ensures counted { P.faults pipe.old ≤ P.faults pipe.new }
     ensures reads { Hears (P.talk pipe.old) (P.talk pipe.new)
-        (ReadHeadBy stock.old stock.new (P.faults pipe.old) (P.faults pipe.new) result) }
+        (ReadHeadBy limit stock.old stock.new (P.faults pipe.old) (P.faults pipe.new) result) }
 {
     let mut skipped = 0;
     'heads: loop {
-        let head = next_head(alloc, pipe, stock, skipped)?;
+        let head = next_head(alloc, pipe, stock, skipped, limit)?;
         skipped += head.length;
         if !is_interim(head.status) {
             stock.use_up(skipped);
@@ -53,16 +56,18 @@ fn next_head<P: Pipe>(
     pipe: &mut P,
     stock: &mut Stock,
     skipped: usize,
+    limit: u64,
 ) -> Result<Head, ResponseEnd>
     requires within { skipped ≤ length (left stock.old) }
     requires small { skipped ≤ most_head_bytes }
+    requires small_limit { limit < 2 ^ 62 }
     ensures counted { P.faults pipe.old ≤ P.faults pipe.new }
     ensures reads { Hears (P.talk pipe.old) (P.talk pipe.new)
-        (NextHeadBy stock.old stock.new skipped (P.faults pipe.old) (P.faults pipe.new) result) }
+        (NextHeadBy limit stock.old stock.new skipped (P.faults pipe.old) (P.faults pipe.new) result) }
 {
     let end = head_end(alloc, pipe, stock, skipped)?;
     let bytes = stock.left().split_at(skipped).1.split_at(end).0;
-    match parsed(bytes, skipped as u64) {
+    match parsed(bytes, skipped as u64, limit) {
         Ok(head) => Ok(head),
         Err(cause) => Err(ResponseEnd::Wire(cause)),
     }
@@ -94,14 +99,15 @@ fn head_end<P: Pipe>(
 }
 
 /// What a head says, which begins at a place; these bytes are the head, up to its empty line.
-fn parsed(bytes: &[u8], at: u64) -> Result<Head, WireEnd>
+fn parsed(bytes: &[u8], at: u64, limit: u64) -> Result<Head, WireEnd>
+    requires { limit < 2 ^ 62 }
     ensures { (tail : List ℕ) → head_part at tail ≡ ends (length bytes.now)
-        → bytes.now ≡ take (length bytes.now) tail → ParsedBy tail at result }
+        → bytes.now ≡ take (length bytes.now) tail → ParsedBy limit tail at result }
 {
     let mut headers = [EMPTY_HEADER_SPAN; MOST_HEADER_LINES];
     match parse_response(bytes, &mut headers) {
         Ok(Status::Complete(spans)) => {
-            let framing = framing_or_fault(bytes, headers.split_at(spans.headers).0, at)?;
+            let framing = framing_or_fault(bytes, headers.split_at(spans.headers).0, at, limit)?;
             Ok(Head {
                 status: spans.code,
                 framing,

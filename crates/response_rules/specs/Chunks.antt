@@ -37,10 +37,10 @@ pub record IsChunk (chunk : Chunk) : Type 0 where
   pub some : 0 < length chunk.bytes
   pub size : length chunk.bytes ≡ chunk_size chunk.line
 
--- chunks before the last, within the limits of a body and of its framing
-pub record AreChunks (chunks : List Chunk) : Type 0 where
+-- chunks before the last, with at most so many bytes, and within the limit of a body's framing
+pub record AreChunksWithin (limit : ℕ) (chunks : List Chunk) : Type 0 where
   pub each : All IsChunk chunks
-  pub within : length (body_of chunks) ≤ most_body_bytes
+  pub within : length (body_of chunks) ≤ limit
   pub framed : framing_bytes chunks ≤ most_framing_bytes
 
 -- the bytes begin with a chunk line of the grammar within the limit, and then come the others
@@ -59,14 +59,14 @@ pub record BeginsWithTrailer (framed : ℕ) (bytes : List ℕ) : Type 0 where
   pub within : length (print_section fields last) ≤ most_head_bytes
   pub framed_within : framed + length (print_section fields last) ≤ most_framing_bytes
 
--- the bytes begin with a whole body in chunks: chunks, a last one of no bytes, and the lines behind
--- it. Each chunk line is counted with a line end behind it
-pub record IsChunked (bytes body : List ℕ) : Type 0 where
+-- the bytes begin with a whole body in chunks, of at most so many bytes: chunks, a last one of no
+-- bytes, and the lines behind it. Each chunk line is counted with a line end behind it
+pub record IsChunkedWithin (limit : ℕ) (bytes body : List ℕ) : Type 0 where
   pub chunks : List Chunk
   pub line : ChunkLine
   pub tail : List ℕ
   pub rest : List ℕ
-  pub are_chunks : AreChunks chunks
+  pub are_chunks : AreChunksWithin limit chunks
   pub reads : bytes ≡ print_chunks chunks ++ tail
   pub ends : BeginsWithLine tail line rest
   pub no_bytes : chunk_size line ≡ 0
@@ -95,45 +95,45 @@ pub data BreaksTrailer : ℕ → ℕ → List ℕ → Bool → WireEnd → Type 
       → BreaksTrailer at framed bytes ended (WireEnd.Malformed at)
 
 -- the chunk that begins at a place, behind so many bytes of the body and of its framing, is broken
--- in one way
-pub data BreaksChunk : ℕ → ℕ → ℕ → List ℕ → Bool → WireEnd → Type 0 where
+-- in one way, where the body has so many bytes at most
+pub data BreaksChunkWithin (limit : ℕ) : ℕ → ℕ → ℕ → List ℕ → Bool → WireEnd → Type 0 where
   -- the connection ended within the chunk line
   line_cut : (at before framed : ℕ) (bytes : List ℕ) (ended : Bool)
       → chunk_line_part bytes ≡ unfinished → IsTrue ended
-      → BreaksChunk at before framed bytes ended WireEnd.Ended
+      → BreaksChunkWithin limit at before framed bytes ended WireEnd.Ended
   -- the chunk line passes its limit
   line_long : (at before framed : ℕ) (bytes : List ℕ) (ended : Bool)
       → chunk_line_part bytes ≡ passed
-      → BreaksChunk at before framed bytes ended WireEnd.TooLarge
+      → BreaksChunkWithin limit at before framed bytes ended WireEnd.TooLarge
   -- the line isn't a chunk line
   line_bad : (at before framed n : ℕ) (bytes : List ℕ) (ended : Bool)
       → chunk_line_part bytes ≡ ends n → HasNoChunkLine (take n bytes)
-      → BreaksChunk at before framed bytes ended (WireEnd.Malformed at)
+      → BreaksChunkWithin limit at before framed bytes ended (WireEnd.Malformed at)
   -- with the line and a line end behind it, the framing passes its limit
   framing_long : (at before framed : ℕ) (bytes rest : List ℕ) (ended : Bool) (line : ChunkLine)
       → BeginsWithLine bytes line rest
       → most_framing_bytes < framed + (length (print_chunk_line line) + 2)
-      → BreaksChunk at before framed bytes ended WireEnd.TooLarge
+      → BreaksChunkWithin limit at before framed bytes ended WireEnd.TooLarge
   -- with the bytes that the line says, the body passes its limit
   body_long : (at before framed : ℕ) (bytes rest : List ℕ) (ended : Bool) (line : ChunkLine)
       → BeginsWithLine bytes line rest
-      → most_body_bytes < before + chunk_size line
-      → BreaksChunk at before framed bytes ended WireEnd.TooLarge
+      → limit < before + chunk_size line
+      → BreaksChunkWithin limit at before framed bytes ended WireEnd.TooLarge
   -- the connection ended within the bytes of the chunk, or within the CRLF behind them
   bytes_cut : (at before framed : ℕ) (bytes rest : List ℕ) (ended : Bool) (line : ChunkLine)
       → BeginsWithLine bytes line rest
       → framed + (length (print_chunk_line line) + 2) ≤ most_framing_bytes
-      → 0 < chunk_size line → before + chunk_size line ≤ most_body_bytes
+      → 0 < chunk_size line → before + chunk_size line ≤ limit
       → length rest < chunk_size line + 2 → IsTrue ended
-      → BreaksChunk at before framed bytes ended WireEnd.Ended
+      → BreaksChunkWithin limit at before framed bytes ended WireEnd.Ended
   -- the two bytes behind those of the chunk aren't CRLF
   end_bad : (at before framed : ℕ) (bytes rest : List ℕ) (ended : Bool) (line : ChunkLine)
       → BeginsWithLine bytes line rest
       → framed + (length (print_chunk_line line) + 2) ≤ most_framing_bytes
-      → 0 < chunk_size line → before + chunk_size line ≤ most_body_bytes
+      → 0 < chunk_size line → before + chunk_size line ≤ limit
       → chunk_size line + 2 ≤ length rest
       → take 2 (drop (chunk_size line) rest) ≢ crlf_bytes
-      → BreaksChunk at before framed bytes ended (WireEnd.Malformed at)
+      → BreaksChunkWithin limit at before framed bytes ended (WireEnd.Malformed at)
   -- it is the last one, and the lines behind it are broken
   trailer : (at before framed : ℕ) (bytes rest : List ℕ) (ended : Bool) (line : ChunkLine)
       (cause : WireEnd)
@@ -142,13 +142,31 @@ pub data BreaksChunk : ℕ → ℕ → ℕ → List ℕ → Bool → WireEnd →
       → chunk_size line ≡ 0
       → BreaksTrailer (at + length (print_chunk_line line)) (framed + length (print_chunk_line line))
       rest ended cause
-      → BreaksChunk at before framed bytes ended cause
+      → BreaksChunkWithin limit at before framed bytes ended cause
 
--- behind whole chunks comes one that is broken in this way, where the body begins at a place
-pub record BreaksChunked (at : ℕ) (bytes : List ℕ) (ended : Bool) (cause : WireEnd) : Type 0 where
+-- behind whole chunks comes one that is broken in this way, where the body begins at a place and has
+-- so many bytes at most
+pub record BreaksChunkedWithin
+    (limit at : ℕ) (bytes : List ℕ) (ended : Bool) (cause : WireEnd) : Type 0 where
   pub chunks : List Chunk
   pub tail : List ℕ
-  pub are_chunks : AreChunks chunks
+  pub are_chunks : AreChunksWithin limit chunks
   pub reads : bytes ≡ print_chunks chunks ++ tail
-  pub breaks : BreaksChunk (at + length (print_chunks chunks))
+  pub breaks : BreaksChunkWithin limit (at + length (print_chunks chunks))
       (length (body_of chunks)) (framing_bytes chunks) tail ended cause
+
+-- chunks within the limit of a body
+abbrev pub AreChunks : List Chunk → Type 0
+AreChunks = AreChunksWithin most_body_bytes
+
+-- a whole body in chunks within the limit of a body
+abbrev pub IsChunked : List ℕ → List ℕ → Type 0
+IsChunked = IsChunkedWithin most_body_bytes
+
+-- a broken chunk where the limit is that of a body
+abbrev pub BreaksChunk : ℕ → ℕ → ℕ → List ℕ → Bool → WireEnd → Type 0
+BreaksChunk = BreaksChunkWithin most_body_bytes
+
+-- a broken body in chunks where the limit is that of a body
+abbrev pub BreaksChunked : ℕ → List ℕ → Bool → WireEnd → Type 0
+BreaksChunked = BreaksChunkedWithin most_body_bytes

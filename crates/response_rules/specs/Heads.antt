@@ -48,18 +48,27 @@ is_encoded fields =
     list_any (λ value. not (str_eq_ignore_ascii_case value (codes "identity")))
     (values (codes "content-encoding") fields)
 
--- the fault of a head at a place: a wrong framing before a coding of the content, and this before a
--- length past the limit
-abbrev pub fault_by : ℕ → Option Framing → Bool → Option WireEnd
-fault_by at None encoded = Some (WireEnd.Malformed at)
-fault_by at (Some f) true = Some WireEnd.Encoded
-fault_by at (Some to_end) false = None
-fault_by at (Some (sized n)) false = if nat_lt most_body_bytes n then Some WireEnd.TooLarge else None
-fault_by at (Some chunked) false = None
+-- the fault of a head at a place, where a body has so many bytes at most: a wrong framing before a
+-- coding of the content, and this before a length past the limit
+abbrev pub fault_within : ℕ → ℕ → Option Framing → Bool → Option WireEnd
+fault_within limit at None encoded = Some (WireEnd.Malformed at)
+fault_within limit at (Some f) true = Some WireEnd.Encoded
+fault_within limit at (Some to_end) false = None
+fault_within limit at (Some (sized n)) false = if nat_lt limit n then Some WireEnd.TooLarge else None
+fault_within limit at (Some chunked) false = None
 
--- the fault of a head with these fields, which begins at a place
+-- the fault of a head with these fields, which begins at a place, where a body has so many bytes at
+-- most
+abbrev pub head_fault_within : ℕ → ℕ → List Field → Option WireEnd
+head_fault_within limit at fields = fault_within limit at (framing_of fields) (is_encoded fields)
+
+-- the same within the limit of a body
+abbrev pub fault_by : ℕ → Option Framing → Bool → Option WireEnd
+fault_by = fault_within most_body_bytes
+
+-- the same within the limit of a body
 abbrev pub head_fault : ℕ → List Field → Option WireEnd
-head_fault at fields = fault_by at (framing_of fields) (is_encoded fields)
+head_fault = head_fault_within most_body_bytes
 
 -- the status of a head that another follows, 1xx (RFC 9110, section 15.2)
 abbrev pub is_interim : ℕ → Bool

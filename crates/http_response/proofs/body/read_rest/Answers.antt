@@ -2,6 +2,7 @@
 use Rattle.std.proofs.Common.{◌≡◌, true, false, rules, ◌<◌, ◌++◌, ◌||◌, ℕ, Bool, List, length, sym, ap, ◌∙◌, subst, arith}
 use Rattle.std.proofs.lemmas.Result.{err_from_is_err_and}
 use Rattle.std.specs.Prelude.{Err, Result}
+use Rattle.tree_base.specs.Limits.{most_body_bytes}
 use Rattle.http_response.specs.Bodies.{IsOpen, ReadsRestBy}
 use Rattle.http_response.specs.Hearing.{Hears}
 use Rattle.http_response.specs.declared.response.ResponseEnd.{ResponseEnd}
@@ -22,7 +23,7 @@ reading-preserved g c = record {
       let first = c.reading.invariant.heard read ended o in
       (one_more c.reading.response c.more.new.self c.reading.body c.more.new.to read ended (g.P.Pipe.talk c.args.pipe.now) (g.P.Pipe.talk c.reading.pipe) (g.P.Pipe.talk c.more.new.pipe)
       (g.P.Pipe.faults c.args.pipe.now) (g.P.Pipe.faults c.reading.pipe) (g.P.Pipe.faults c.more.new.pipe) first c.in_ok-more.field-0 going
-      (c.in_ok-more.ensures.continues (read ++ first.more) (ended || first.found_end) c.reading.body first.comes)).0;
+      (c.in_ok-more.ensures.continues most_body_bytes (read ++ first.more) (ended || first.found_end) c.reading.body first.comes)).0;
 }
 
 pub reading-smaller : goal.reading-smaller
@@ -34,7 +35,7 @@ reading-smaller g c =
     let grown : length c.reading.body < length c.more.new.to =
     (one_more c.reading.response c.more.new.self c.reading.body c.more.new.to read ended (g.P.Pipe.talk c.args.pipe.now) (g.P.Pipe.talk c.reading.pipe) (g.P.Pipe.talk c.more.new.pipe)
     (g.P.Pipe.faults c.args.pipe.now) (g.P.Pipe.faults c.reading.pipe) (g.P.Pipe.faults c.more.new.pipe) first c.in_ok-more.field-0 going
-    (c.in_ok-more.ensures.continues (read ++ first.more) (ended || first.found_end) c.reading.body first.comes)).1 in
+    (c.in_ok-more.ensures.continues most_body_bytes (read ++ first.more) (ended || first.found_end) c.reading.body first.comes)).1 in
     let small = put_within c.reading.response c.reading.body read ended (g.P.Pipe.talk c.args.pipe.now) (g.P.Pipe.talk c.reading.pipe) first in
     omega (arith, grown, small)
 
@@ -48,7 +49,7 @@ returns-in_err-more-clause-reads g c = λ (read : List ℕ) (ended : Bool) (o : 
     (none_there c.reading.response c.more.new.self c.reading.body c.more.new.to read ended (g.P.Pipe.talk c.args.pipe.now) (g.P.Pipe.talk c.reading.pipe) (g.P.Pipe.talk c.more.new.pipe)
     (g.P.Pipe.faults c.args.pipe.now) (g.P.Pipe.faults c.reading.pipe) (g.P.Pipe.faults c.more.new.pipe) first _
     c.reading.invariant.counted c.more.ensures.counted
-    (c.in_err-more.ensures.continues (read ++ first.more) (ended || first.found_end) c.reading.body first.comes))
+    (c.in_err-more.ensures.continues most_body_bytes (read ++ first.more) (ended || first.found_end) c.reading.body first.comes))
 
 pub returns-clause-reads : goal.returns-clause-reads
 returns-clause-reads g c = λ (read : List ℕ) (ended : Bool) (o : IsOpen c.args.response.now read ended c.args.body.now).
@@ -56,4 +57,4 @@ returns-clause-reads g c = λ (read : List ℕ) (ended : Bool) (o : IsOpen c.arg
     let first = c.reading.invariant.heard read ended o in
     no_more c.reading.response c.more.new.self c.reading.body c.more.new.to read ended (g.P.Pipe.talk c.args.pipe.now) (g.P.Pipe.talk c.reading.pipe) (g.P.Pipe.talk c.more.new.pipe)
     (g.P.Pipe.faults c.args.pipe.now) (g.P.Pipe.faults c.reading.pipe) (g.P.Pipe.faults c.more.new.pipe) first c.in_ok-more.field-0 over
-    (c.in_ok-more.ensures.continues (read ++ first.more) (ended || first.found_end) c.reading.body first.comes)
+    (c.in_ok-more.ensures.continues most_body_bytes (read ++ first.more) (ended || first.found_end) c.reading.body first.comes)

@@ -29,19 +29,19 @@ pub returns-in_err-end-clause-reads : goal.returns-in_err-end-clause-reads
 returns-in_err-end-clause-reads g c =
     let p = err_from_is_err_and c.from_residual.result c.from_residual.ensures.1 in
     subst (λ (r : Result Head ResponseEnd). Hears (g.P.Pipe.talk c.args.pipe.now) (g.P.Pipe.talk c.head_end.new.pipe)
-    (NextHeadBy c.args.stock.now c.head_end.new.stock c.args.skipped (g.P.Pipe.faults c.args.pipe.now) (g.P.Pipe.faults c.head_end.new.pipe) r))
+    (NextHeadBy c.args.limit c.args.stock.now c.head_end.new.stock c.args.skipped (g.P.Pipe.faults c.args.pipe.now) (g.P.Pipe.faults c.head_end.new.pipe) r))
     (sym (p.1 ∙ ap Err p.2))
-    (next_lost c.args.stock.now c.head_end.new.stock c.args.skipped (g.P.Pipe.talk c.args.pipe.now) (g.P.Pipe.talk c.head_end.new.pipe)
+    (next_lost c.args.limit c.args.stock.now c.head_end.new.stock c.args.skipped (g.P.Pipe.talk c.args.pipe.now) (g.P.Pipe.talk c.head_end.new.pipe)
     (g.P.Pipe.faults c.args.pipe.now) (g.P.Pipe.faults c.head_end.new.pipe) _ c.head_end.ensures.counted c.in_err-end.ensures.finds)
 
 pub returns-in-Ok-clause-reads : goal.returns-in-Ok-clause-reads
 returns-in-Ok-clause-reads g c =
-    next_read c.args.stock.now c.head_end.new.stock c.args.skipped c.in_ok-end.end c.args.skipped (g.P.Pipe.talk c.args.pipe.now) (g.P.Pipe.talk c.head_end.new.pipe)
+    next_read c.args.limit c.args.stock.now c.head_end.new.stock c.args.skipped c.in_ok-end.end c.args.skipped (g.P.Pipe.talk c.args.pipe.now) (g.P.Pipe.talk c.head_end.new.pipe)
     (g.P.Pipe.faults c.args.pipe.now) (g.P.Pipe.faults c.head_end.new.pipe) c.split_at-2.result.0.now c.in_ok-end.ensures.finds
     (c.split_at-2.ensures.front ∙ ap (take c.in_ok-end.end) (c.split_at.ensures.back ∙ ap (drop c.args.skipped) c.left.ensures)) refl c.in-Ok.head c.in-Ok.ensures
 
 pub returns-in-Err-clause-reads : goal.returns-in-Err-clause-reads
 returns-in-Err-clause-reads g c =
-    next_wrong c.args.stock.now c.head_end.new.stock c.args.skipped c.in_ok-end.end c.args.skipped (g.P.Pipe.talk c.args.pipe.now) (g.P.Pipe.talk c.head_end.new.pipe)
+    next_wrong c.args.limit c.args.stock.now c.head_end.new.stock c.args.skipped c.in_ok-end.end c.args.skipped (g.P.Pipe.talk c.args.pipe.now) (g.P.Pipe.talk c.head_end.new.pipe)
     (g.P.Pipe.faults c.args.pipe.now) (g.P.Pipe.faults c.head_end.new.pipe) c.split_at-2.result.0.now c.in_ok-end.ensures.finds
     (c.split_at-2.ensures.front ∙ ap (take c.in_ok-end.end) (c.split_at.ensures.back ∙ ap (drop c.args.skipped) c.left.ensures)) refl c.in-Err.cause c.in-Err.ensures

@@ -9,7 +9,7 @@ abbrev pub invariant-heads : goal.invariant-heads
 invariant-heads g l = record {
   counted : g.P.Pipe.faults l.fn.pipe ≤ g.P.Pipe.faults l.pipe;
   heard : Hears (g.P.Pipe.talk l.fn.pipe) (g.P.Pipe.talk l.pipe) (λ (more : List ℕ) (found_end : Bool). IsFilled l.fn.stock l.stock more found_end);
-  skipping : IsSkipping l.stock l.skipped;
+  skipping : IsSkipping l.limit l.stock l.skipped;
 }
 
 abbrev pub decreases-heads : goal.decreases-heads
