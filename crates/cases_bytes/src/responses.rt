@@ -41,6 +41,7 @@ fn put_reply(request: &Request, response: &Response, answers: &mut Answers) {
     let alloc = answers.reading.alloc;
     match reply_of(alloc, request, response.status, response.body.as_slice()) {
         Ok(reply) => put_outcome(&Outcome::Answered(reply), answers),
+        Err(ReplyRefusal::TooLarge) => put_outcome(&Outcome::Lost(WireEnd::TooLarge), answers),
         Err(ReplyRefusal::BadBody) => put_outcome(&Outcome::Lost(WireEnd::BadBody), answers),
         Err(ReplyRefusal::Memory) => answers.reading.memory(),
     }

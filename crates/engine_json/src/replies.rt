@@ -3,6 +3,7 @@ ghost use Rattle.engine_json.specs.Told.{good_status, may_be_done, told_by};
 ghost use Rattle.response_rules.specs.Replies.{message_in, reply_of, report_in, volume_names};
 ghost use Rattle.std.specs.Prelude.{◌≡◌, IfOk, codes, option_map};
 ghost use Rattle.response_rules.specs.Json.{given, json_of, text_at};
+ghost use Rattle.response_rules.specs.Values.{has_many_values};
 ghost use Rattle.engine_types.specs.declared.Reply.{Reply};
 ghost use Rattle.serde_json.specs.Find.{get};
 ghost use Rattle.std.specs.Option.{option_copied};
@@ -13,6 +14,7 @@ use crate::parsing::json_of;
 use crate::pulls::pull_in;
 use crate::reports::report_in;
 use crate::rows::{containers_in, networks_in, volume_names};
+use crate::values::has_many_values;
 use engine_types::{Reply, Request};
 use serde_json::Value;
 use std::alloc::Global;
@@ -21,6 +23,8 @@ use tree_base::{List, Memory, Text};
 /// Why a response gives no reply.
 #[derive(Drop)]
 pub enum ReplyRefusal {
+    /// The body is JSON of more than 1,000,000 values.
+    TooLarge,
     /// The status is a good one for the request, and the body isn't of the form that the API gives it.
     BadBody,
     /// Memory was wanted.
@@ -29,16 +33,22 @@ pub enum ReplyRefusal {
 
 /// The reply that a response's status and body are to a request.
 ///
-/// BadBody exactly where the status is a good one for the request and the body has another form than the API gives it. Each other
-/// status is a refusal by the Engine, with the text at `message` of a body of JSON.
+/// TooLarge exactly where the body isn't that of logs and has more than 1,000,000 values: one, and one for each comma and each
+/// bracket or brace that begins an array or an object, outside of strings. Of the others, BadBody exactly where the status is a
+/// good one for the request and the body has another form than the API gives it. Each other status is a refusal by the Engine,
+/// with the text at `message` of a body of JSON.
 pub fn reply_of(
     alloc: Global,
     request: &Request,
     status: u16,
     body: &[u8],
 ) -> Result<Reply, ReplyRefusal>
-    ensures { IsReadAs result (reply_of request.now status body.now) }
+    ensures { IsReadAs result (has_many_values request.now status body.now)
+        (reply_of request.now status body.now) }
 {
+    if has_many_values(request, status, body) {
+        return Err(ReplyRefusal::TooLarge);
+    }
     match reply_in(alloc, request, status, body) {
         Ok(Some(reply)) => Ok(reply),
         Ok(None) => Err(ReplyRefusal::BadBody),

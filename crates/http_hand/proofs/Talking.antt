@@ -40,9 +40,13 @@ nothing_heard (Some talk) =
 
 answers_well : (request : Request) (read : List ℕ) (ended : Bool) (status : ℕ) (body : List ℕ) (f g : ℕ) (outcome : Outcome)
     → IsResponse read ended status body → IsOutcomeOf request status body outcome → AnswersBy request read ended f g outcome
-answers_well request read ended status body f g (Outcome.Answered reply) r o = record { status = status; body = body; response = r; gives = o }
-answers_well request read ended status body f g (Outcome.Lost cause) r o =
-    subst (λ (c : WireEnd). AnswersBy request read ended f g (Outcome.Lost c)) (sym o.0) (record { status = status; body = body; response = r; bad = o.1 })
+answers_well request read ended status body f g (Outcome.Answered reply) r o = record { status = status; body = body; response = r; few = o.0; gives = o.1 }
+answers_well request read ended status body f g (Outcome.Lost WireEnd.TooLarge) r o = inr (record { status = status; body = body; response = r; many = o })
+answers_well request read ended status body f g (Outcome.Lost WireEnd.BadBody) r o = record { status = status; body = body; response = r; few = o.0; bad = o.1 }
+answers_well request read ended status body f g (Outcome.Lost WireEnd.Fault) r o = absurd o
+answers_well request read ended status body f g (Outcome.Lost WireEnd.Ended) r o = absurd o
+answers_well request read ended status body f g (Outcome.Lost (WireEnd.Malformed at)) r o = absurd o
+answers_well request read ended status body f g (Outcome.Lost WireEnd.Encoded) r o = absurd o
 answers_well request read ended status body f g Outcome.NotSent r o = o
 answers_well request read ended status body f g Outcome.Memory r o = tt
 
@@ -53,7 +57,7 @@ answers_ill request read ended f g WireEnd.BadBody e = absurd e
 answers_ill request read ended f g WireEnd.Ended e = e
 answers_ill request read ended f g (WireEnd.Malformed at) e = e
 answers_ill request read ended f g WireEnd.Encoded e = e
-answers_ill request read ended f g WireEnd.TooLarge e = e
+answers_ill request read ended f g WireEnd.TooLarge e = inl e
 
 pub answered_on : (request : Request) (old new : Option Talk) (f g : ℕ) (response : Response) (outcome : Outcome) → Reads old new f g (Ok response)
     → IsOutcomeOf request response.status response.body outcome → AnswersOn request old new f g outcome

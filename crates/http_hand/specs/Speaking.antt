@@ -1,5 +1,5 @@
 -- What an exchange over a wire says on its connection, and what its outcome says of that (RFC 9112).
-use Rattle.std.specs.Prelude.{◌≡◌, ℕ, ◌+◌, ◌≤◌, ◌||◌, Bool, true, false, List, [], ◌++◌, length, take, Option, Some, None, IfSome, is_some}
+use Rattle.std.specs.Prelude.{◌≡◌, ℕ, ◌+◌, ◌≤◌, ◌||◌, Bool, true, false, List, [], ◌++◌, length, take, Option, Some, None, IfSome, IsFalse, IsTrue, is_some}
 use Rattle.engine_types.specs.declared.Outcome.{Outcome}
 use Rattle.engine_types.specs.declared.Request.{Request}
 use Rattle.engine_types.specs.declared.WireEnd.{WireEnd}
@@ -8,6 +8,7 @@ use Rattle.outside_api.specs.Pipes.{Talk, ToldBy}
 use Rattle.outside_api.specs.Wires.{GrewByTalk}
 use Rattle.response_rules.specs.Broken.{IsBroken, IsReply}
 use Rattle.response_rules.specs.Replies.{reply_of}
+use Rattle.response_rules.specs.Values.{has_many_values}
 use Rattle.http_response.specs.Hearing.{Heard}
 
 -- the first bytes of others, or all of them
@@ -37,10 +38,15 @@ abbrev pub SaysOf : Request → List ℕ → Bool → ℕ → ℕ → Outcome �
 SaysOf request read ended old new Outcome.NotSent = Rose old new
 SaysOf request read ended old new outcome = AnswersBy request read ended old new outcome
 
--- the reply that a status and a body give, or that they give none; it is free to want memory
+-- the reply that a status and a body give, or that they give none, and that the body has too many values; it is free to want
+-- memory
 abbrev pub IsOutcomeOf : Request → ℕ → List ℕ → Outcome → Type 0
-IsOutcomeOf request status body (Outcome.Answered reply) = reply_of request status body ≡ Some reply
-IsOutcomeOf request status body (Outcome.Lost cause) = (cause ≡ WireEnd.BadBody) × (reply_of request status body ≡ None)
+IsOutcomeOf request status body (Outcome.Answered reply) =
+    IsFalse (has_many_values request status body) × (reply_of request status body ≡ Some reply)
+IsOutcomeOf request status body (Outcome.Lost WireEnd.TooLarge) = IsTrue (has_many_values request status body)
+IsOutcomeOf request status body (Outcome.Lost WireEnd.BadBody) =
+    IsFalse (has_many_values request status body) × (reply_of request status body ≡ None)
+IsOutcomeOf request status body (Outcome.Lost cause) = ⊥
 IsOutcomeOf request status body Outcome.NotSent = ⊥
 IsOutcomeOf request status body Outcome.Memory = Unit {0}
 

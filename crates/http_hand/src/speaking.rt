@@ -111,6 +111,7 @@ fn outcome_of(alloc: Global, request: &Request, response: &Response) -> Outcome
 {
     match reply_of(alloc, request, response.status, response.body.as_slice()) {
         Ok(reply) => Outcome::Answered(reply),
+        Err(ReplyRefusal::TooLarge) => Outcome::Lost(WireEnd::TooLarge),
         Err(ReplyRefusal::BadBody) => Outcome::Lost(WireEnd::BadBody),
         Err(ReplyRefusal::Memory) => Outcome::Memory,
     }

@@ -8,9 +8,9 @@ use Rattle.engine_types.specs.declared.Request.{Request}
 use Rattle.engine_types.specs.declared.WireEnd.{WireEnd}
 use Rattle.httparse.proofs.GrammarLemmas.{response_unique}
 use Rattle.httparse.specs.Grammar.{HasNoResponse, IsResponseHead, ResponseHead, print_response, status_code}
-use Rattle.response_laws.proofs.Excluding.{whole_is_not_broken}
+use Rattle.response_laws.proofs.Excluding.{not_few, whole_is_not_broken}
 use Rattle.response_laws.proofs.Printed.{head_ends}
-use Rattle.response_rules.specs.Broken.{HasBadBody, IsBroken}
+use Rattle.response_rules.specs.Broken.{HasBadBody, HasManyValues, IsBroken}
 use Rattle.response_rules.specs.Heads.{Framing, chunked, fault_by, framing_of, has_no_body, head_fault, is_encoded, is_interim, sized, to_end}
 use Rattle.response_rules.specs.Lines.{Part, ends, head_part, passed, unfinished}
 use Rattle.response_rules.specs.Responses.{BeginsWithHead, Breaks, BreaksBody, IsSkipped, Skips, bad_body, bad_fields, bad_head, long_head, no_head, print_heads}
@@ -257,28 +257,32 @@ breaks_one_way read ended cause other b d = by (compare read 0 f.skipped f.tail 
     by (inr (inl h)) = absurd (not_behind read ended cause f h)
     by (inr (inr h)) = absurd (not_behind read ended other g h)
 
--- a cause with which bytes are no response, or one of a whole response that isn't a reply
-abbrev IsNoResponse : WireEnd → List ℕ → Bool → Type 0
-IsNoResponse cause read ended = (cause ≡ WireEnd.BadBody) ⊎ Breaks read ended cause
+-- bytes that are no response, or begin with one that gives no reply: by the cause
+abbrev IsNoReply : Request → WireEnd → List ℕ → Bool → Type 0
+IsNoReply request cause read ended =
+    Breaks read ended cause
+    ⊎ (((cause ≡ WireEnd.BadBody) × HasBadBody request read ended) ⊎ ((cause ≡ WireEnd.TooLarge) × HasManyValues request read ended))
 
-bad_or_broken : (request : Request) (read : List ℕ) (ended : Bool) (cause : WireEnd) → IsBroken request cause read ended → IsNoResponse cause read ended
-bad_or_broken request read ended WireEnd.Fault b = absurd b
-bad_or_broken request read ended WireEnd.BadBody b = inl refl
-bad_or_broken request read ended WireEnd.Ended b = inr b
-bad_or_broken request read ended (WireEnd.Malformed at) b = inr b
-bad_or_broken request read ended WireEnd.Encoded b = inr b
-bad_or_broken request read ended WireEnd.TooLarge b = inr b
+no_reply : (request : Request) (read : List ℕ) (ended : Bool) (cause : WireEnd) → IsBroken request cause read ended → IsNoReply request cause read ended
+no_reply request read ended WireEnd.Fault b = absurd b
+no_reply request read ended WireEnd.BadBody b = inr (inl (refl, b))
+no_reply request read ended WireEnd.Ended b = inl b
+no_reply request read ended (WireEnd.Malformed at) b = inl b
+no_reply request read ended WireEnd.Encoded b = inl b
+no_reply request read ended WireEnd.TooLarge (inl b) = inl b
+no_reply request read ended WireEnd.TooLarge (inr m) = inr (inr (refl, m))
 
-whole_there : (request : Request) (read : List ℕ) (ended : Bool) (cause other : WireEnd) → cause ≡ WireEnd.BadBody → IsBroken request cause read ended → Breaks read ended other → ⊥
-whole_there request read ended cause other bad b broken =
-    let has : HasBadBody request read ended = subst (λ (c : WireEnd). IsBroken request c read ended) bad b in
-    whole_is_not_broken read ended has.status has.body other has.response broken
+no_reply_one_way : (request : Request) (read : List ℕ) (ended : Bool) (cause other : WireEnd) → IsNoReply request cause read ended → IsNoReply request other read ended → cause ≡ other
+no_reply_one_way request read ended cause other (inl b) (inl d) = breaks_one_way read ended cause other b d
+no_reply_one_way request read ended cause other (inl b) (inr (inl d)) = absurd (whole_is_not_broken read ended d.1.status d.1.body cause d.1.response b)
+no_reply_one_way request read ended cause other (inl b) (inr (inr d)) = absurd (whole_is_not_broken read ended d.1.status d.1.body cause d.1.response b)
+no_reply_one_way request read ended cause other (inr (inl b)) (inl d) = absurd (whole_is_not_broken read ended b.1.status b.1.body other b.1.response d)
+no_reply_one_way request read ended cause other (inr (inr b)) (inl d) = absurd (whole_is_not_broken read ended b.1.status b.1.body other b.1.response d)
+no_reply_one_way request read ended cause other (inr (inl b)) (inr (inl d)) = b.0 ∙ sym d.0
+no_reply_one_way request read ended cause other (inr (inr b)) (inr (inr d)) = b.0 ∙ sym d.0
+no_reply_one_way request read ended cause other (inr (inl b)) (inr (inr d)) = absurd (not_few request read ended b.1.status b.1.body b.1.response b.1.few d.1)
+no_reply_one_way request read ended cause other (inr (inr b)) (inr (inl d)) = absurd (not_few request read ended d.1.status d.1.body d.1.response d.1.few b.1)
 
 pub broken_one_way : (request : Request) (read : List ℕ) (ended : Bool) (cause other : WireEnd) → IsBroken request cause read ended → IsBroken request other read ended → cause ≡ other
-broken_one_way request read ended cause other b d = by (bad_or_broken request read ended cause b) (bad_or_broken request read ended other d)
-  where
-    by : IsNoResponse cause read ended → IsNoResponse other read ended → cause ≡ other
-    by (inl h) (inl k) = h ∙ sym k
-    by (inl h) (inr k) = absurd (whole_there request read ended cause other h b k)
-    by (inr h) (inl k) = absurd (whole_there request read ended other cause k d h)
-    by (inr h) (inr k) = breaks_one_way read ended cause other h k
+broken_one_way request read ended cause other b d =
+    no_reply_one_way request read ended cause other (no_reply request read ended cause b) (no_reply request read ended other d)

@@ -116,9 +116,16 @@ broken_stays request WireEnd.BadBody read more ended b = record {
   status = b.status;
   body = b.body;
   response = stays read more ended b.status b.body b.response;
+  few = b.few;
   bad = b.bad;
 }
 broken_stays request WireEnd.Ended read more ended b = breaks_stay read more false ended WireEnd.Ended b (still_open WireEnd.Ended)
 broken_stays request (WireEnd.Malformed at) read more ended b = breaks_stay read more false ended (WireEnd.Malformed at) b (still_open (WireEnd.Malformed at))
 broken_stays request WireEnd.Encoded read more ended b = breaks_stay read more false ended WireEnd.Encoded b (still_open WireEnd.Encoded)
-broken_stays request WireEnd.TooLarge read more ended b = breaks_stay read more false ended WireEnd.TooLarge b (still_open WireEnd.TooLarge)
+broken_stays request WireEnd.TooLarge read more ended (inl b) = inl (breaks_stay read more false ended WireEnd.TooLarge b (still_open WireEnd.TooLarge))
+broken_stays request WireEnd.TooLarge read more ended (inr m) = inr (record {
+  status = m.status;
+  body = m.body;
+  response = stays read more ended m.status m.body m.response;
+  many = m.many;
+})

@@ -14,11 +14,12 @@ use Rattle.httparse.proofs.ChunkLemmas.{chunk_line_unique}
 use Rattle.httparse.proofs.GrammarLemmas.{response_unique, section_unique}
 use Rattle.httparse.specs.Ascii.{crlf_bytes}
 use Rattle.httparse.specs.Grammar.{ChunkLine, HasNoChunkLine, HasNoResponse, HasNoSection, IsChunkLine, IsResponseHead, ResponseHead, chunk_size, print_chunk_line, print_response, print_section, status_code}
-use Rattle.response_rules.specs.Broken.{HasBadBody, IsBroken, IsReply}
+use Rattle.response_rules.specs.Broken.{HasBadBody, HasManyValues, IsBroken, IsReply}
 use Rattle.response_rules.specs.Chunks.{AreChunks, BeginsWithLine, BeginsWithTrailer, BreaksChunk, BreaksChunked, BreaksTrailer, Chunk, IsChunk, IsChunked, bad, body_long, body_of, bytes_cut, cut, end_bad, framing_bytes, framing_long, line_bad, line_cut, line_long, long, past_framing, print_chunk, print_chunks, trailer}
 use Rattle.response_rules.specs.Heads.{Framing, chunked, fault_by, framing_of, has_no_body, head_fault, is_encoded, is_interim, sized, to_end}
 use Rattle.response_rules.specs.Lines.{Part, chunk_line_part, ends, head_part, passed, trailer_part, unfinished}
 use Rattle.response_rules.specs.Replies.{reply_of}
+use Rattle.response_rules.specs.Values.{has_many_values}
 use Rattle.response_rules.specs.Responses.{BeginsWithHead, Breaks, BreaksBody, HasBody, HasBodyOf, IsResponse, IsSkipped, Skips, bad_body, bad_fields, bad_head, long_head, no_head, print_heads}
 use Rattle.response_laws.proofs.Printed.{chunk_line_ends, head_ends, trailer_ends}
 
@@ -491,6 +492,15 @@ responses_are_one read ended status other body more r q = at g.which
         (subst (λ (n : ℕ). HasBodyOf n (framing_of r.head.fields) r.rest ended body) status_is r.has_body)) in
         (status_is, bodies_one other (framing_of q.head.fields) q.rest ended body more has q.has_body)
 
+-- a body hasn't more values than the limit and no more
+pub not_few : (request : Request) (read : List ℕ) (ended : Bool) (status : ℕ) (body : List ℕ) → IsResponse read ended status body
+    → IsFalse (has_many_values request status body) → HasManyValues request read ended → ⊥
+not_few request read ended status body r few m =
+    let same = responses_are_one read ended status m.status body m.body r m.response in
+    let still : has_many_values request m.status m.body ≡ false =
+    subst (λ (b : List ℕ). has_many_values request m.status b ≡ false) same.1 (subst (λ (n : ℕ). has_many_values request n body ≡ false) same.0 few) in
+    true≢false (sym m.many ∙ still)
+
 pub replies_are_not_broken : (request : Request) (read : List ℕ) (ended : Bool) (reply : Reply) (cause : WireEnd)
     → IsReply request read ended reply → IsBroken request cause read ended → ⊥
 replies_are_not_broken request read ended reply WireEnd.Fault is broken = broken
@@ -502,4 +512,5 @@ replies_are_not_broken request read ended reply WireEnd.BadBody is broken =
 replies_are_not_broken request read ended reply WireEnd.Ended is broken = whole_is_not_broken read ended is.status is.body WireEnd.Ended is.response broken
 replies_are_not_broken request read ended reply (WireEnd.Malformed at) is broken = whole_is_not_broken read ended is.status is.body (WireEnd.Malformed at) is.response broken
 replies_are_not_broken request read ended reply WireEnd.Encoded is broken = whole_is_not_broken read ended is.status is.body WireEnd.Encoded is.response broken
-replies_are_not_broken request read ended reply WireEnd.TooLarge is broken = whole_is_not_broken read ended is.status is.body WireEnd.TooLarge is.response broken
+replies_are_not_broken request read ended reply WireEnd.TooLarge is (inl broken) = whole_is_not_broken read ended is.status is.body WireEnd.TooLarge is.response broken
+replies_are_not_broken request read ended reply WireEnd.TooLarge is (inr many) = not_few request read ended is.status is.body is.response is.few many

@@ -1,9 +1,10 @@
 -- Worked examples of responses, and of bytes that are none.
-use Rattle.std.specs.Prelude.{ℕ, true, false, List, [], ◌++◌, codes}
+use Rattle.std.specs.Prelude.{◌≡◌, ℕ, true, false, List, [], ◌++◌, codes}
 use Rattle.engine_types.specs.declared.Request.{Request}
 use Rattle.engine_types.specs.declared.Reply.{Reply}
 use Rattle.engine_types.specs.declared.WireEnd.{WireEnd}
 use Rattle.response_rules.specs.Broken.{IsReply, IsBroken}
+use Rattle.response_rules.specs.Values.{values_in}
 
 -- a status line, and lines behind it
 abbrev pub response : List ℕ → List ℕ → List ℕ
@@ -52,3 +53,8 @@ abbrev pub OtherChunkEndIsMalformed : Type 0
 OtherChunkEndIsMalformed = (request : Request)
     → IsBroken request (WireEnd.Malformed 47)
     (response (codes "200 OK") (codes "Transfer-Encoding: chunked\r\n\r\n2\r\nabc\r\n")) false
+
+-- an array of a number, of a text with a comma and a quotation mark, and of an object with a member,
+-- which is an empty array, has five values, and one place more, that of the empty array
+abbrev pub ValuesAreCounted : Type 0
+ValuesAreCounted = values_in (codes "[1,\"a,\\\"b[\",{\"x\":[]}]") ≡ 6

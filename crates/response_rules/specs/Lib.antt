@@ -3,6 +3,7 @@ pub mod Heads
 pub mod Chunks
 pub mod Responses
 pub mod Json
+pub mod Values
 pub mod Replies
 pub mod Broken
 pub mod Examples

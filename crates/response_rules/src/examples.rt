@@ -1,4 +1,4 @@
-ghost use Rattle.response_rules.specs.Examples.{NoContentIsDone, CutBodyIsEnded, NothingIsEnded, TwoFramingsAreMalformed, OtherBodyIsBad, ChunkedErrorIsTold, OtherChunkEndIsMalformed};
+ghost use Rattle.response_rules.specs.Examples.{NoContentIsDone, CutBodyIsEnded, NothingIsEnded, TwoFramingsAreMalformed, OtherBodyIsBad, ChunkedErrorIsTold, OtherChunkEndIsMalformed, ValuesAreCounted};
 
 /// The law that a start answered by a 204 is done. Nothing runs.
 pub fn no_content_is_done()
@@ -34,4 +34,9 @@ pub fn chunked_error_is_told()
 /// The law that a chunk that CRLF doesn't follow is malformed. Nothing runs.
 pub fn other_chunk_end_is_malformed()
     ensures { OtherChunkEndIsMalformed }
+{}
+
+/// The law that a text's commas, quotation marks and brackets aren't places for values. Nothing runs.
+pub fn values_are_counted()
+    ensures { ValuesAreCounted }
 {}

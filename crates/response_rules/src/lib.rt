@@ -11,5 +11,6 @@ mod laws;
 pub use examples::{
     chunked_error_is_told, cut_body_is_ended, no_content_is_done, nothing_is_ended,
     other_body_is_bad, other_chunk_end_is_malformed, two_framings_are_malformed,
+    values_are_counted,
 };
 pub use laws::ended_only_at_the_end;

@@ -62,5 +62,6 @@ returns c = λ name. record {
       },
     );
   };
+  few = refl;
   gives = refl;
 }

@@ -33,5 +33,6 @@ returns c = λ id. record {
     has_status = refl;
     has_body = inl (refl, refl);
   };
+  few = refl;
   gives = refl;
 }

@@ -45,5 +45,6 @@ returns c = record {
     has_status = refl;
     has_body = inr (refl, (lit≤ tt, refl));
   };
+  few = refl;
   bad = refl;
 }
