@@ -1,5 +1,5 @@
 -- How many values the JSON of a body has at most (RFC 8259, sections 2 to 7).
-use Rattle.std.specs.Prelude.{ℕ, ◌+◌, Bool, false, not, List, [], ◌∷◌, if◌then◌else◌, nat_lt, ◌==◌, ◌&&◌, ◌||◌}
+use Rattle.std.specs.Prelude.{ℕ, ◌+◌, Bool, true, false, not, List, [], ◌∷◌, if◌then◌else◌, nat_lt, ◌==◌, ◌&&◌, ◌||◌}
 use Rattle.tree_base.specs.Limits.{most_body_values}
 use Rattle.engine_types.specs.declared.Request.{Request}
 
