@@ -1,3 +1,3 @@
 pub mod Bodies
+pub mod Places
 pub mod Streams
-pub mod Values

@@ -13,7 +13,7 @@ pub(crate) fn has_many_values(request: &Request, status: u16, body: &[u8]) -> bo
 }
 
 /// Whether JSON with so many places has more values than the limit: itself, and one at each of them.
-#[tactic(auto, using(crate::proofs::Values::past_most))]
+#[tactic(auto, using(crate::proofs::Places::past_most))]
 fn are_many(places: usize) -> bool
     ensures { result ≡ nat_lt most_body_values (1 + places) }
 {
