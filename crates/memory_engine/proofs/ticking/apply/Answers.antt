@@ -12,8 +12,8 @@ returns-in-Some c =
     (with_first-set (λ (row : ContainerRow). bytes_eq c.args.tick.container row.name) (changed_row c.args.tick.change)
     c.args.engine.now.containers c.change_at.new.rows c.in-Some.at (cc) c.change_at.ensures)
 
-pub returns-in_default : goal.returns-in_default
-returns-in_default c =
+pub returns : goal.returns
+returns c =
     ap (λ (rows : List ContainerRow). record c.args.engine.now { containers = rows })
     (sym (with_first-none (λ (row : ContainerRow). bytes_eq c.args.tick.container row.name) (changed_row c.args.tick.change)
     c.args.engine.now.containers (cc)))
