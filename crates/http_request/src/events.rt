@@ -4,9 +4,9 @@ ghost use Rattle.serde_json.specs.Data.{array, item, member, no_items, no_member
 ghost use Rattle.serde_json.specs.View.{view};
 ghost use Rattle.http_request.specs.Events.{events_filter, events_request, events_target, project_events};
 
-use crate::escaping::push_value;
 use crate::fields::push_fields;
 use crate::method::Method;
+use crate::queries::push_pair;
 use serde_json::{Value, json};
 use std::alloc::{AllocError, Global};
 use tree_base::{List, Memory, Text};
@@ -40,8 +40,7 @@ fn push_events_target(alloc: Global, to: &mut String, project: &Text) -> Result<
         string_bytes to.old ++ events_target project.now) }
 {
     let filter = project_events(alloc, project)?;
-    to.push_str("/v1.43/events?filters=")?;
-    push_value(to, filter.as_bytes())
+    push_pair(to, "/v1.43/events?filters=", filter.as_bytes())
 }
 
 fn project_events(alloc: Global, project: &Text) -> Result<String, Memory>

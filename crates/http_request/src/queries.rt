@@ -41,7 +41,7 @@ pub(crate) fn push_query(alloc: Global, to: &mut String, request: &Request) -> R
 }
 
 /// Puts a name, with what stands around it, and its value last.
-fn push_pair(to: &mut String, name: &str, value: &[u8]) -> Result<(), Memory>
+pub(crate) fn push_pair(to: &mut String, name: &str, value: &[u8]) -> Result<(), Memory>
     ensures { OnOk result (string_bytes to.new ≡
         string_bytes to.old ++ (name.now ++ escaped stays_in_query value.now)) }
 {
