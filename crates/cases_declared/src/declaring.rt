@@ -1,4 +1,4 @@
-ghost use Rattle.std.specs.Prelude.{IfOk};
+ghost use Rattle.std.specs.Prelude.{◌≡◌, IfOk};
 ghost use Rattle.typed_project.specs.DistinctNames.{IsKeyed};
 
 use crate::asked::{directory_at, options_at, reads_files, request_of, scales_of, texts_copy};
