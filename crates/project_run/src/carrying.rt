@@ -12,7 +12,7 @@ ghost use Rattle.run_model.specs.Ending.{first_fault};
 ghost use Rattle.run_model.specs.Lines.{report_text};
 
 use crate::ending::end;
-use crate::first_journal::{FirstJournal, only_seen};
+use crate::journals::{FirstJournal, only_seen};
 use crate::ran::{Carried, Ran};
 use engine_types::{Declared, Exchange, Observed, Plan, RunFault, RunLimits, SeenEnd, SeenFault};
 use ledger_core::Ledger;

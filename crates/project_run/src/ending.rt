@@ -11,7 +11,7 @@ ghost use Rattle.run_model.specs.Lines.{report_text};
 ghost use Rattle.run_model.specs.Runs.{Task, run_fault, run_report, unseen};
 ghost use Rattle.run_requests.specs.Setups.{of_one_worker, setup_of as setup_in};
 
-use crate::first_journal::{FirstJournal, only_seen};
+use crate::journals::{FirstJournal, only_seen};
 use crate::ran::Ran;
 use engine_types::{Declared, Entry, Observed, Plan, RunFault, RunLimits, Seen};
 use ledger_core::first_seen;

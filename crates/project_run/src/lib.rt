@@ -10,7 +10,7 @@
 
 mod carrying;
 mod ending;
-mod first_journal;
+mod journals;
 mod laws;
 mod opening;
 mod options;
@@ -18,7 +18,7 @@ mod ran;
 mod whole_run;
 
 pub use ending::{end, ended};
-pub use first_journal::{FirstJournal, first_journal, only_seen};
+pub use journals::{FirstJournal, first_journal, only_seen};
 pub use laws::runs_spare_kept;
 pub use opening::{Opening, open};
 pub use options::{bounded, limits_for, unread_limits};

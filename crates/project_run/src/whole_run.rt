@@ -18,7 +18,7 @@ ghost use Rattle.world_laws.specs.OwnSpecs.{HasOwnSpecs};
 
 use crate::carrying::carry_out;
 use crate::ending::ended;
-use crate::first_journal::{FirstJournal, first_journal};
+use crate::journals::{FirstJournal, first_journal};
 use crate::opening::{Opening, open};
 use crate::options::{bounded, limits_for, unread_limits};
 use crate::ran::{Carried, Handed, Ran};
