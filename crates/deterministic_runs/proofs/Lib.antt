@@ -1,0 +1,4 @@
+mod Served
+mod Observed
+mod Next
+mod OneJournal
