@@ -1,6 +1,7 @@
 pub mod Attributes
 pub mod Lines
 pub mod Near
+pub mod Notes
 pub mod Requests
 pub mod Sockets
 pub mod Told
