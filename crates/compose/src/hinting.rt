@@ -54,7 +54,7 @@ fn hint_behind<R>(
 }
 
 /// The exchanges of all hands, hand by hand.
-fn exchanges_of<'a, 'r, R>(
+pub(crate) fn exchanges_of<'a, 'r, R>(
     alloc: Global,
     hands: &'a [MainHand<'r, R>],
 ) -> Result<Vec<&'a Exchange>, Memory> {

@@ -3,6 +3,7 @@ ghost use Rattle.asked_project.specs.Asking.{options_asked};
 ghost use Rattle.compose.specs.Ends.{IsStatusOf};
 
 use crate::hinting::say_hint_on;
+use crate::noting::say_notes_on;
 use crate::progress::board_of;
 use crate::reaching::Asked;
 use crate::seconds::wait_seconds;
@@ -16,7 +17,7 @@ use std::thread::Threads;
 use tree_base::{Env, List, Text};
 
 /// Makes the top call with the disk's files, the standard streams and the plug of the program, and with several workers, and says a
-/// hint behind its line, where there is one: its exit status.
+/// hint behind its line, where there is one, and notes: its exit status.
 pub(crate) fn status_of_call<R: Threads + Wait + Sync>(
     host: &HostRuntime,
     rt: &R,
@@ -62,6 +63,7 @@ pub(crate) fn status_of_call<R: Threads + Wait + Sync>(
         directory,
     };
     say_hint_on(host, asked, &last, &mut err);
+    say_notes_on(host, asked, &last, &mut err);
     status_in(last)
 }
 

@@ -1,6 +1,7 @@
 //! The program `compose`: it gives the words of the command line, the variables, the working directory, the files of
 //! the disk and the standard streams to the top call of `repeated_runs`, and ends with the status that this answers. Questions
-//! about the program itself, `--help` and `--version`, it answers before. Behind the line of a call that was refused it may say a hint.
+//! about the program itself, `--help` and `--version`, it answers before. Behind the line of a call that was refused it may say a hint,
+//! and behind all lines notes on what it left.
 //!
 //! Contracts say what is taken of words, variables and a directory that are told, when there is none of these, and that
 //! the status is that of the refusal whose line is written. The process itself tells nothing: there they say nothing.
@@ -11,6 +12,7 @@ mod ends;
 mod given;
 mod hinting;
 mod made;
+mod noting;
 mod process;
 mod progress;
 mod reaching;
