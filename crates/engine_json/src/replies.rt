@@ -23,7 +23,7 @@ use tree_base::{List, Memory, Text};
 /// Why a response gives no reply.
 #[derive(Drop)]
 pub enum ReplyRefusal {
-    /// The body is JSON of more than 1,000,000 values.
+    /// The body has more than 1,000,000 values.
     TooLarge,
     /// The status is a good one for the request, and the body isn't of the form that the API gives it.
     BadBody,

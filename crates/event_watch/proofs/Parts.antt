@@ -3,7 +3,8 @@ use Rattle.std.proofs.Common.{◌≡◌, ◌∙◌, ◌++◌, ◌==◌, ◌+◌,
 use Rattle.std.proofs.lemmas.Bool.{le-ltb, lt-ltb}
 use Rattle.std.proofs.lemmas.List.{append-nil, length-append}
 use Rattle.event_watch.specs.declared.event.LineFault.{LineFault}
-use Rattle.event_watch.specs.Events.{Told, ended_by, line_before, most_event_bytes, line_told, only, told_by}
+use Rattle.event_watch.specs.Events.{Told, ended_by, line_before, line_told, only, told_by}
+use Rattle.tree_base.specs.Limits.{most_event_bytes}
 use Rattle.event_watch.specs.Reading.{IsPart, goes_on, onto_line}
 use Rattle.response_rules.specs.Lines.{lines, with_byte}
 

@@ -5,7 +5,8 @@ use Rattle.std.proofs.lemmas.List.{length-append}
 use Rattle.event_watch.specs.declared.event.Event.{Event}
 use Rattle.event_watch.specs.declared.event.LineFault.{LineFault}
 use Rattle.event_watch.specs.declared.open_line.OpenLine.{OpenLine}
-use Rattle.event_watch.specs.Events.{Told, behind, events, line_before, most_event_bytes, line_told, only, told_by}
+use Rattle.event_watch.specs.Events.{Told, behind, events, line_before, line_told, only, told_by}
+use Rattle.tree_base.specs.Limits.{most_event_bytes}
 use Rattle.event_watch.specs.Reading.{EndsAs, EndsBy, IsPart, Stands, goes_on, longer}
 use Rattle.event_watch.proofs.Parts.{part_alone, part_long, part_longer, part_nil, part_told}
 use Rattle.response_rules.specs.Lines.{lines}

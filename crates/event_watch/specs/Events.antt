@@ -7,10 +7,7 @@ use Rattle.response_rules.specs.Lines.{lines}
 use Rattle.response_rules.specs.Replies.{is_blank}
 use Rattle.serde_json.specs.Data.{Data}
 use Rattle.serde_json.specs.Find.{get}
-
--- how many bytes a line has, without its line end
-abbrev pub most_event_bytes : ℕ
-most_event_bytes = 1048576
+use Rattle.tree_base.specs.Limits.{most_event_bytes}
 
 -- the event that JSON tells: an object with the texts `Action` and `Actor.ID` (schema `EventMessage`)
 abbrev pub event_of : Data → Option Event

@@ -1,6 +1,7 @@
 -- How a reader stands in the body that it is fed.
 use Rattle.std.specs.Prelude.{◌≡◌, ℕ, ◌+◌, ◌<◌, ◌≤◌, ◌^◌, List, [], ◌∷◌, ◌++◌, length, Option, Some, None, Result, Ok, Err, if◌then◌else◌, nat_lt}
-use Rattle.event_watch.specs.Events.{Told, behind, events, most_event_bytes, line_told, only, told_by}
+use Rattle.event_watch.specs.Events.{Told, behind, events, line_told, only, told_by}
+use Rattle.tree_base.specs.Limits.{most_event_bytes}
 use Rattle.event_watch.specs.declared.event.Event.{Event}
 use Rattle.event_watch.specs.declared.event.EventRefusal.{EventRefusal}
 use Rattle.event_watch.specs.declared.event.LineFault.{LineFault}

@@ -6,10 +6,8 @@ use crate::event::{Event, EventRefusal, LineFault};
 use crate::lines::{Line, line_of};
 use std::alloc::Global;
 use std::collections::VecDeque;
+use tree_base::limits::MOST_EVENT_BYTES;
 use tree_base::{List, Memory};
-
-/// How many bytes a line has, without its line end.
-const MOST_EVENT_BYTES: usize = 1_048_576;
 
 /// The line that is being read, behind whole lines.
 #[derive(Drop)]

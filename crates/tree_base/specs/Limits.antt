@@ -114,6 +114,10 @@ most_body_values = 1000000
 abbrev pub most_stream_bytes : ℕ
 most_stream_bytes = 268435456
 
+-- how many bytes a line of a stream of events has, without its line end
+abbrev pub most_event_bytes : ℕ
+most_event_bytes = 1048576
+
 -- how many slots there are whose logs are asked for
 abbrev pub most_log_slots : ℕ
 most_log_slots = 10000

@@ -108,6 +108,9 @@ pub const MOST_BODY_VALUES: u64 = 1_000_000;
 /// How many bytes the body of a stream of events has.
 pub const MOST_STREAM_BYTES: u64 = 268_435_456;
 
+/// How many bytes a line of a stream of events has, without its line end.
+pub const MOST_EVENT_BYTES: usize = 1_048_576;
+
 /// How many slots there are whose logs are asked for.
 pub const MOST_LOG_SLOTS: usize = 10_000;
 
