@@ -1,3 +1,4 @@
 pub mod Fates
 pub mod MemoryHands
+pub mod ScriptHands
 pub mod SilentHands

@@ -7,24 +7,28 @@ ghost use Rattle.outside_api.specs.Hands.{BeginsWith, HeardNothing};
 ghost use Rattle.outside_api.specs.Plugs.{AddsDial, CountsDial, dial_of};
 ghost use Rattle.outside_files.specs.Counts.{Rose};
 ghost use Rattle.shared_hand.specs.SharedHands.{clock_of, log_of};
+ghost use Rattle.socket_wire.specs.PipesOfSockets.{failed_calls};
 ghost use Rattle.socket_wire.specs.WiresOfSockets.{path_of, stop_file_of};
 
 use crate::main_hand::MainHand;
 use crate::socket_hand::SocketHand;
 use http_hand::HttpHand;
 use memory_engine::MemoryEngine;
-use outside_api::{Dial, DialAnswer, Hand, Plug, Target, copied_stop_file, note_dial};
+use outside_api::{
+    Dial, DialAnswer, Hand, Plug, Target, copied_stop_file, note_dial, note_door, note_stream,
+};
 use progress_board::{SharedBoard, another};
 use shared_hand::{SharedEngine, SharedHand};
-use socket_wire::{Patience, SocketWire, milliseconds};
+use socket_wire::{Patience, SocketDoor, SocketPipe, SocketWire, connect, milliseconds};
 use std::alloc::Global;
 use std::sync::{Arc, Mutex, Wait};
 use tree_base::{List, Memory, Text};
 
-/// The plug of the program. It tells no Engine, keeps the dials that it was asked for, and counts the hands that it made. No dial
-/// fails: the hand of a socket connects at its exchanges, and all hands in memory share one Engine, which is fresh for the first
-/// of them and settles. Where the call has a deadline, that is so many seconds after the first dial, and hands over sockets wait for
-/// their Engine no longer than their patience lasts behind it.
+/// The plug of the program. It tells no Engine, and nothing of what is said on streams and at doors. It keeps the dials, streams and
+/// doors that it was asked for, and counts those that it made. No dial fails: the hand of a socket connects at its exchanges, and all
+/// hands in memory share one Engine, which is fresh for the first of them and settles. Where the call has a deadline, that is so many
+/// seconds after the first dial or stream, and hands and streams over sockets wait for their Engine no longer than their patience lasts
+/// behind it.
 #[derive(Drop)]
 pub struct MainPlug<'r, R> {
     host: &'r HostRuntime,
@@ -38,6 +42,11 @@ pub struct MainPlug<'r, R> {
     memory: Option<Arc<Mutex<SharedEngine>>>,
     dials: List<Dial>,
     dialled: u64,
+    streams: List<Target>,
+    opened: u64,
+    doors: List<Text>,
+    doors_opened: u64,
+    failed: u64,
 }
 
 impl<'r, R: Wait + Sync> MainPlug<'r, R> {
@@ -51,6 +60,12 @@ impl<'r, R: Wait + Sync> MainPlug<'r, R> {
     ) -> MainPlug<'r, R>
         ensures dials { ⟦<MainPlug<'r, R> as Plug>⟧.dials result ≡ [] }
         ensures dialled { ⟦<MainPlug<'r, R> as Plug>⟧.dialled result ≡ Some 0 }
+        ensures streams { ⟦<MainPlug<'r, R> as Plug>⟧.streams result ≡ [] }
+        ensures opened { ⟦<MainPlug<'r, R> as Plug>⟧.opened result ≡ 0 }
+        ensures talks { ⟦<MainPlug<'r, R> as Plug>⟧.talks result ≡ None }
+        ensures doors { ⟦<MainPlug<'r, R> as Plug>⟧.doors result ≡ [] }
+        ensures doors_opened { ⟦<MainPlug<'r, R> as Plug>⟧.doors_opened result ≡ 0 }
+        ensures received { ⟦<MainPlug<'r, R> as Plug>⟧.received result ≡ None }
         ensures faults { ⟦<MainPlug<'r, R> as Plug>⟧.faults result ≡ 0 }
     {
         MainPlug {
@@ -62,6 +77,11 @@ impl<'r, R: Wait + Sync> MainPlug<'r, R> {
             memory: None,
             dials: List::new(host.alloc()),
             dialled: 0,
+            streams: List::new(host.alloc()),
+            opened: 0,
+            doors: List::new(host.alloc()),
+            doors_opened: 0,
+            failed: 0,
         }
     }
 }
@@ -99,6 +119,11 @@ impl<'r, R> MainPlug<'r, R> {
         ]) }
         ensures dials { self.new.dials ≡ self.old.dials }
         ensures dialled { self.new.dialled ≡ self.old.dialled }
+        ensures streams { self.new.streams ≡ self.old.streams }
+        ensures opened { self.new.opened ≡ self.old.opened }
+        ensures doors { self.new.doors ≡ self.old.doors }
+        ensures doors_opened { self.new.doors_opened ≡ self.old.doors_opened }
+        ensures failed { self.new.failed ≡ self.old.failed }
     {
         match target {
             Target::Socket(path) => {
@@ -117,11 +142,30 @@ impl<'r, R> MainPlug<'r, R> {
     fn deadline(&mut self) -> Option<u64>
         ensures dials { self.new.dials ≡ self.old.dials }
         ensures dialled { self.new.dialled ≡ self.old.dialled }
+        ensures streams { self.new.streams ≡ self.old.streams }
+        ensures opened { self.new.opened ≡ self.old.opened }
+        ensures doors { self.new.doors ≡ self.old.doors }
+        ensures doors_opened { self.new.doors_opened ≡ self.old.doors_opened }
+        ensures failed { self.new.failed ≡ self.old.failed }
     {
         if self.deadline.is_none() {
             self.deadline = deadline_from(self.host, self.wait_seconds);
         }
         self.deadline
+    }
+
+    /// The patience of a new stream, which no stop file ends.
+    fn patience(&mut self, alloc: Global) -> Result<Arc<Patience>, Memory>
+        ensures dials { self.new.dials ≡ self.old.dials }
+        ensures dialled { self.new.dialled ≡ self.old.dialled }
+        ensures streams { self.new.streams ≡ self.old.streams }
+        ensures opened { self.new.opened ≡ self.old.opened }
+        ensures doors { self.new.doors ≡ self.old.doors }
+        ensures doors_opened { self.new.doors_opened ≡ self.old.doors_opened }
+        ensures failed { self.new.failed ≡ self.old.failed }
+    {
+        let deadline = self.deadline();
+        Ok(Arc::new(alloc, Patience::new(deadline, None))?)
     }
 
     /// A new hand that shares the Engine in memory.
@@ -130,6 +174,11 @@ impl<'r, R> MainPlug<'r, R> {
         ensures clock { IfOk result (λ hand. clock_of hand ≡ new_clock) }
         ensures dials { self.new.dials ≡ self.old.dials }
         ensures dialled { self.new.dialled ≡ self.old.dialled }
+        ensures streams { self.new.streams ≡ self.old.streams }
+        ensures opened { self.new.opened ≡ self.old.opened }
+        ensures doors { self.new.doors ≡ self.old.doors }
+        ensures doors_opened { self.new.doors_opened ≡ self.old.doors_opened }
+        ensures failed { self.new.failed ≡ self.old.failed }
     {
         let shared = self.shared(alloc)?;
         Ok(SharedHand::new(alloc, self.rt, shared))
@@ -139,6 +188,11 @@ impl<'r, R> MainPlug<'r, R> {
     fn shared(&mut self, alloc: Global) -> Result<Arc<Mutex<SharedEngine>>, Memory>
         ensures dials { self.new.dials ≡ self.old.dials }
         ensures dialled { self.new.dialled ≡ self.old.dialled }
+        ensures streams { self.new.streams ≡ self.old.streams }
+        ensures opened { self.new.opened ≡ self.old.opened }
+        ensures doors { self.new.doors ≡ self.old.doors }
+        ensures doors_opened { self.new.doors_opened ≡ self.old.doors_opened }
+        ensures failed { self.new.failed ≡ self.old.failed }
     {
         if let Some(shared) = &self.memory {
             return Ok(Arc::try_clone(shared)?);
@@ -153,13 +207,29 @@ impl<'r, R> MainPlug<'r, R> {
 impl<'r, R: Wait + Sync> Plug for MainPlug<'r, R> {
     type Hand = MainHand<'r, R>;
 
+    type Stream = SocketPipe<'r>;
+
+    type Door = SocketDoor<'r>;
+
     ghost engine = { λ _. None };
 
     ghost dials = { λ plug. plug.dials };
 
     ghost dialled = { λ plug. Some plug.dialled };
 
-    ghost faults = { λ _. 0 };
+    ghost streams = { λ plug. plug.streams };
+
+    ghost opened = { λ plug. plug.opened };
+
+    ghost talks = { λ _. None };
+
+    ghost doors = { λ plug. plug.doors };
+
+    ghost doors_opened = { λ plug. plug.doors_opened };
+
+    ghost received = { λ _. None };
+
+    ghost faults = { λ plug. plug.failed };
 
     /// Makes a hand that speaks with the Engine of a target. Memory only where there is none for the dial, for the paths, or for an
     /// Engine in memory.
@@ -171,8 +241,8 @@ impl<'r, R: Wait + Sync> Plug for MainPlug<'r, R> {
         number: u32,
     ) -> DialAnswer<MainHand<'r, R>>
         requires { ForSome (Some self.old.dialled) (λ n. n < 2 ^ 62) }
-        ensures counted { 0 ≤ 0 }
-        ensures failed { result ≡ DialAnswer.Failed → Rose 0 0 }
+        ensures counted { self.old.failed ≤ self.new.failed }
+        ensures failed { result ≡ DialAnswer.Failed → Rose self.old.failed self.new.failed }
         ensures never_fails { result ≡ DialAnswer.Failed → ⊥ }
         ensures dials { AddsDial self.old.dials
             (dial_of target.now (option_copied stop_file.entry) number) self.new.dials result }
@@ -193,6 +263,11 @@ impl<'r, R: Wait + Sync> Plug for MainPlug<'r, R> {
                   (path_of http.hand.wire) (stop_file_of http.hand.wire)
               | MainHand.Memory memory ↦ target.now ≡ Target.InMemory
             ] }
+        ensures streams { self.new.streams ≡ self.old.streams }
+        ensures opened { self.new.opened ≡ self.old.opened }
+        ensures doors { self.new.doors ≡ self.old.doors }
+        ensures doors_opened { self.new.doors_opened ≡ self.old.doors_opened }
+        ensures no_fault { self.new.failed ≡ self.old.failed }
     {
         let Ok(()) = note_dial(alloc, &mut self.dials, target, stop_file, number) else {
             return DialAnswer::Memory;
@@ -204,6 +279,78 @@ impl<'r, R: Wait + Sync> Plug for MainPlug<'r, R> {
             }
             Err(Memory) => DialAnswer::Memory,
         }
+    }
+    /// Connects to the socket of a target. Failed where that fails, and for an Engine in memory, which has no stream: then a fault is
+    /// counted. Memory only where there is none to keep what was asked for, or for the stream's patience.
+    fn stream(&mut self, alloc: Global, target: &Target) -> DialAnswer<SocketPipe<'r>> {
+        if note_stream(alloc, &mut self.streams, target).is_err() {
+            return DialAnswer::Memory;
+        }
+        let Ok(patience) = self.patience(alloc) else {
+            return DialAnswer::Memory;
+        };
+        match stream_to(self.host, target, patience) {
+            Some(stream) => {
+                self.opened += 1;
+                DialAnswer::Dialled(stream)
+            }
+            None => {
+                count_fault(&mut self.failed);
+                DialAnswer::Failed
+            }
+        }
+    }
+
+    fn close_stream(&mut self, stream: SocketPipe<'r>) {
+        if stream.has_failed() {
+            count_fault(&mut self.failed);
+        }
+    }
+
+    /// Makes a socket at a path. Failed where that fails: then a fault is counted. Memory only where there is none to keep what was
+    /// asked for.
+    fn door(&mut self, alloc: Global, path: &Text) -> DialAnswer<SocketDoor<'r>> {
+        if note_door(alloc, &mut self.doors, path).is_err() {
+            return DialAnswer::Memory;
+        }
+        match SocketDoor::open(self.host, path) {
+            Some(door) => {
+                self.doors_opened += 1;
+                DialAnswer::Dialled(door)
+            }
+            None => {
+                count_fault(&mut self.failed);
+                DialAnswer::Failed
+            }
+        }
+    }
+
+    fn close_door(&mut self, door: SocketDoor<'r>) {
+        if door.has_failed() {
+            count_fault(&mut self.failed);
+        }
+    }
+}
+
+/// Counts a fault. The count stands still at the greatest `u64`. No memory.
+fn count_fault(faults: &mut u64)
+    ensures rose { Rose faults.old faults.new }
+    ensures never_falls { faults.old ≤ faults.new }
+{
+    *faults = faults.saturating_add(1);
+}
+
+/// A connection to the socket of a target; none where it can't be made, and to an Engine in memory. No memory.
+fn stream_to<'r>(
+    host: &'r HostRuntime,
+    target: &Target,
+    patience: Arc<Patience>,
+) -> Option<SocketPipe<'r>>
+    ensures { IfSome result (λ stream. failed_calls stream ≡ 0) }
+{
+    match target {
+        Target::Socket(path) => connect(host, path, Some(patience), None),
+        Target::InMemory => None,
     }
 }
 

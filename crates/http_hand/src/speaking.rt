@@ -1,14 +1,13 @@
-ghost use Rattle.std.specs.Prelude.{◌≡◌, ◌≤◌, ◌<◌, ◌^◌, IfSome, length, take};
+ghost use Rattle.std.specs.Prelude.{◌≡◌, ◌≤◌, ◌<◌, ◌^◌, IfSome, length};
 ghost use Rattle.engine_bodies.specs.Requests.{bytes_of};
-ghost use Rattle.outside_files.specs.Counts.{Rose};
-ghost use Rattle.outside_api.specs.Pipes.{ToldBy, after_write, silence};
+ghost use Rattle.outside_api.specs.Pipes.{silence};
 ghost use Rattle.http_hand.specs.Speaking.{AnswersOn, IsOutcomeOf, SpeaksBy, SpeaksOn, SpeaksOnce};
 
 use engine_bodies::request_bytes;
 use engine_json::{ReplyRefusal, reply_of};
 use engine_types::{Outcome, Request, WireEnd};
 use http_response::{Response, ResponseEnd, read_response};
-use outside_api::{DialAnswer, Pipe, SinkAnswer};
+use outside_api::{DialAnswer, Pipe, write_on};
 use std::alloc::Global;
 use wires::EvenWire;
 
@@ -63,7 +62,7 @@ fn speak_on<P: Pipe>(alloc: Global, pipe: &mut P, request: &Request, bytes: &[u8
     ensures speaks { SpeaksOn request.now bytes.now result (P.talk pipe.old) (P.talk pipe.new)
         (P.faults pipe.old) (P.faults pipe.new) }
 {
-    let written = write_all(pipe, bytes);
+    let written = write_on(pipe, bytes);
     if written == bytes.len() {
         answer_on(alloc, pipe, request)
     } else if written == 0 {
@@ -71,25 +70,6 @@ fn speak_on<P: Pipe>(alloc: Global, pipe: &mut P, request: &Request, bytes: &[u8
     } else {
         Outcome::Lost(WireEnd::Fault)
     }
-}
-
-/// Writes bytes, piece by piece, and says how many were taken: all, or fewer where the connection failed. No memory.
-fn write_all<P: Pipe>(pipe: &mut P, bytes: &[u8]) -> usize
-    ensures counted { P.faults pipe.old ≤ P.faults pipe.new }
-    ensures within { result ≤ length bytes.now }
-    ensures told { ToldBy (after_write (take result bytes.now)) (P.talk pipe.old)
-        (P.talk pipe.new) }
-    ensures failed { result < length bytes.now → Rose (P.faults pipe.old) (P.faults pipe.new) }
-{
-    let mut at = 0;
-    while at < bytes.len() {
-        match pipe.write(bytes.split_at(at).1) {
-            SinkAnswer::Took(0) => return at,
-            SinkAnswer::Took(taken) => at += taken,
-            SinkAnswer::Failed => return at,
-        }
-    }
-    at
 }
 
 /// Reads the response, and what it is to the request.

@@ -6,6 +6,7 @@ use crate::meeting::Meeting;
 use crate::meeting_hand::MeetingHand;
 use engine_types::{ContainerRow, ContainerState};
 use memory_engine::MemoryEngine;
+use memory_wire::{MemoryDoor, MemoryPipe};
 use outside_api::{DialAnswer, Plug, Target};
 use shared_hand::SharedPlug;
 use std::alloc::Global;
@@ -83,14 +84,30 @@ fn is_running(rows: &[ContainerRow], name: &str) -> bool {
 impl<'r, R: Wait + Sync + Clock> Plug for MeetingPlug<'r, R> {
     type Hand = MeetingHand<'r, R>;
 
+    type Stream = MemoryPipe;
+
+    type Door = MemoryDoor;
+
     ghost use Rattle.std.specs.Prelude.{None, Some};
-    ghost use Rattle.shared_hand.specs.SharedPlugs.{dialled_of, dials_of, faults_of};
+    ghost use Rattle.shared_hand.specs.SharedPlugs.{dialled_of, dials_of, doors_of, doors_opened_by, faults_of, opened_by, received_by, streams_of, talks_by};
 
     ghost engine = { λ _. None };
 
     ghost dials = { λ plug. dials_of plug.plug };
 
     ghost dialled = { λ plug. Some (dialled_of plug.plug) };
+
+    ghost streams = { λ plug. streams_of plug.plug };
+
+    ghost opened = { λ plug. opened_by plug.plug };
+
+    ghost talks = { λ plug. talks_by plug.plug };
+
+    ghost doors = { λ plug. doors_of plug.plug };
+
+    ghost doors_opened = { λ plug. doors_opened_by plug.plug };
+
+    ghost received = { λ plug. received_by plug.plug };
 
     ghost faults = { λ plug. faults_of plug.plug };
 
@@ -111,5 +128,21 @@ impl<'r, R: Wait + Sync + Clock> Plug for MeetingPlug<'r, R> {
             DialAnswer::Failed => DialAnswer::Failed,
             DialAnswer::Memory => DialAnswer::Memory,
         }
+    }
+
+    fn stream(&mut self, alloc: Global, target: &Target) -> DialAnswer<MemoryPipe> {
+        self.plug.stream(alloc, target)
+    }
+
+    fn close_stream(&mut self, stream: MemoryPipe) {
+        self.plug.close_stream(stream);
+    }
+
+    fn door(&mut self, alloc: Global, path: &Text) -> DialAnswer<MemoryDoor> {
+        self.plug.door(alloc, path)
+    }
+
+    fn close_door(&mut self, door: MemoryDoor) {
+        self.plug.close_door(door);
     }
 }

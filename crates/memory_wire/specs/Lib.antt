@@ -1,2 +1,5 @@
+pub mod DoorsInMemory
+pub mod DoorsOfPlugs
 pub mod PipesInMemory
+pub mod StreamsInMemory
 pub mod WiresInMemory

@@ -16,7 +16,8 @@ use Rattle.outside_api.specs.Accounts.{IsCausedIn}
 use Rattle.outside_api.specs.Hands.{Heard}
 use Rattle.observe_project.specs.Exchanges.{HasCauseOfFault}
 use Rattle.observe_project.specs.Reading.{OrMemory, or_memory}
-use Rattle.observe_project.specs.Steps.{Asked, Leads, MayEnd, Reads, Standing, Steps, account_of}
+use Rattle.outside_api.specs.Standings.{Standing, account_of}
+use Rattle.observe_project.specs.Steps.{Asked, Leads, MayEnd, Reads, Steps}
 use Rattle.observe_project.proofs.Ways.{fault-wider, makes-append, makes-counted, makes-none, makes-one}
 
 -- a want of memory is the fault that it is said to be

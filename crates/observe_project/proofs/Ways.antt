@@ -14,7 +14,7 @@ use Rattle.outside_api.proofs.Accounts.{caused-append, caused-one, stays_told}
 use Rattle.outside_api.specs.Accounts.{IsCausedIn}
 use Rattle.outside_api.specs.Hands.{Heard, Logs}
 use Rattle.observe_project.specs.Exchanges.{HasCauseOfFault}
-use Rattle.observe_project.specs.Steps.{Makes, Standing, account_of}
+use Rattle.outside_api.specs.Standings.{Makes, Standing, account_of}
 
 log-append : (xs ys l m : List Exchange) → IsLogOf xs l → IsLogOf ys m → IsLogOf (xs ++ ys) (l ++ m)
 log-append [] ys l m e h = let P : List Exchange → Type 0 = λ k. IsLogOf ys (k ++ m) in subst P (sym e) h

@@ -1,18 +1,14 @@
 -- A step of an observation: the exchanges that it made lead on from what was to come before it to what comes after it.
 use Rattle.std.specs.Prelude.{◌≡◌, ◌⊎◌, ℕ, List, [], ◌∷◌, ◌++◌, Option, Result, Ok, Err, IfErr, true}
-use Rattle.engine_types.specs.declared.Engine.{Engine}
 use Rattle.engine_types.specs.declared.Exchange.{Exchange}
 use Rattle.engine_types.specs.declared.Outcome.{Outcome}
 use Rattle.engine_types.specs.declared.Request.{Request}
 use Rattle.engine_types.specs.declared.SeenEnd.{SeenEnd}
 use Rattle.engine_types.specs.declared.SeenFault.{SeenFault}
-use Rattle.run_model.specs.Logs.{GrowsBy}
 use Rattle.run_model.specs.Observation.{Onward, Ends, is_asked}
-use Rattle.outside_api.specs.Clock.{Clock}
-use Rattle.outside_api.specs.Accounts.{Account, AreCaused, account}
 use Rattle.outside_api.specs.Hands.{Heard, HasCause}
+use Rattle.outside_api.specs.Standings.{Makes, Standing}
 use Rattle.observe_project.specs.Exchanges.{HasCauseOfFault}
-use Rattle.run_model.specs.EngineRules.{ToldBy}
 
 -- an observation that has come here may end with this fault: because its exchanges say so, or for want of memory
 abbrev pub MayEnd : Onward → SeenFault → Type 0
@@ -36,35 +32,6 @@ pub record Reads {X : Type 0} (from : List Exchange → Onward)
     (result : Result X SeenFault) : Type 0 where
   pub leads : Leads from onward result
   pub cause : ComesFrom request outcome result
-
--- where a hand stands
-pub record Standing : Type 0 where
-  pub log : List Exchange
-  pub engine : Option Engine
-  pub heard : Option (List Heard)
-  pub faults : ℕ
-  pub clock : Clock
-
--- where a hand stands, by its ghost members
-abbrev pub standing : List Exchange → Option Engine → Option (List Heard) → ℕ → Clock → Standing
-standing log engine heard faults clock = record {
-  log = log;
-  engine = engine;
-  heard = heard;
-  faults = faults;
-  clock = clock;
-}
-
--- what it tells of its exchanges
-abbrev pub account_of : Standing → Account
-account_of s = account s.log s.heard s.faults
-
--- a hand went through these exchanges
-pub record Makes (made : List Exchange) (old new : Standing) : Type 0 where
-  pub log : GrowsBy made old.log new.log
-  pub told : ToldBy made old.engine new.engine
-  pub caused : AreCaused made (account_of old) (account_of new)
-  pub clock : new.clock ≡ old.clock
 
 -- a request was sent, or there was no memory for it and nothing was done
 abbrev pub Asked : Request → Result Exchange SeenFault → Standing → Standing → Type 0

@@ -1,5 +1,6 @@
 ghost use Rattle.std.specs.Prelude.{◌≡◌, ◌<◌, ◌++◌, ◌∷◌, [], IfOk, OnOk};
-ghost use Rattle.observe_project.specs.Steps.{Asked, standing};
+ghost use Rattle.outside_api.specs.Standings.{standing};
+ghost use Rattle.observe_project.specs.Steps.{Asked};
 
 use engine_types::{Exchange, Request, SeenFault};
 use outside_api::Hand;

@@ -7,7 +7,8 @@ ghost use Rattle.run_model.specs.Observation.{Onward, after_first_look, after_lo
 ghost use Rattle.engine_types.specs.declared.SeenEnd.{SeenEnd};
 ghost use Rattle.engine_types.specs.declared.SeenFault.{SeenFault};
 ghost use Rattle.observe_project.specs.Reading.{AreAsked, OrMemory, found_or_wanted};
-ghost use Rattle.observe_project.specs.Steps.{Reads, Steps, standing};
+ghost use Rattle.outside_api.specs.Standings.{standing};
+ghost use Rattle.observe_project.specs.Steps.{Reads, Steps};
 
 use crate::asking::{ask, keep};
 use crate::images::{builder_of, images_of, policy_of};

@@ -6,7 +6,8 @@ ghost use Rattle.engine_types.specs.declared.Purpose.{Purpose};
 ghost use Rattle.engine_types.specs.declared.Request.{Request};
 ghost use Rattle.run_model.specs.Observation.{after_containers, after_networks, after_volumes, asking, judging, listing_networks, listing_volumes, observed, seen_containers};
 ghost use Rattle.tree_base.specs.ByteOrder.{first_of_each};
-ghost use Rattle.observe_project.specs.Steps.{Reads, Steps, standing};
+ghost use Rattle.outside_api.specs.Standings.{standing};
+ghost use Rattle.observe_project.specs.Steps.{Reads, Steps};
 
 use crate::asking::{ask, keep};
 use crate::keys::put_key;

@@ -6,7 +6,8 @@ ghost use Rattle.outside_api.specs.Accounts.{AreCaused, account};
 ghost use Rattle.observe_project.specs.Exchanges.{HasCauseOfEnd};
 ghost use Rattle.run_model.specs.EngineRules.{ToldBy};
 ghost use Rattle.observe_project.specs.Reading.{end_of};
-ghost use Rattle.observe_project.specs.Steps.{Steps, standing};
+ghost use Rattle.outside_api.specs.Standings.{standing};
+ghost use Rattle.observe_project.specs.Steps.{Steps};
 
 use crate::fetching::see_images;
 use crate::judging::judge;

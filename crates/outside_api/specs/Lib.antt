@@ -1,9 +1,11 @@
 pub mod Clock
 pub mod ClockCounts
+pub mod Doors
 pub mod Hands
 pub mod Rows
 pub mod Accounts
 pub mod Laws
+pub mod Standings
 pub mod Pipes
 pub mod Plugs
 pub mod Wires

@@ -47,6 +47,24 @@ fn dial_of(
     })
 }
 
+/// Notes a stream that is asked for behind those before it, which stay alone where there is no memory for it.
+pub fn note_stream(alloc: Global, streams: &mut List<Target>, target: &Target) -> Result<(), Memory>
+    ensures ok { OnOk result (streams.new ≡ streams.old ++ target.now ∷ []) }
+    ensures err { OnErr result (streams.new ≡ streams.old) }
+{
+    let target = target.copy(alloc)?;
+    streams.push(target)
+}
+
+/// Notes the path of a door that is asked for behind those before it, which stay alone where there is no memory for it.
+pub fn note_door(alloc: Global, doors: &mut List<Text>, path: &Text) -> Result<(), Memory>
+    ensures ok { OnOk result (doors.new ≡ doors.old ++ path.now ∷ []) }
+    ensures err { OnErr result (doors.new ≡ doors.old) }
+{
+    let path = path.copy(alloc)?;
+    doors.push(path)
+}
+
 /// A copy of the path of a stop file, where there is one.
 pub fn copied_stop_file(alloc: Global, stop_file: Option<&Text>) -> Result<Option<Text>, Memory>
     ensures { IfOk result (λ copy. copy ≡ option_copied stop_file.entry) }

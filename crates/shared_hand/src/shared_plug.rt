@@ -8,13 +8,14 @@ ghost use Rattle.tree_base.specs.Limits.{most_workers};
 use crate::shared_engine::SharedEngine;
 use crate::shared_hand::SharedHand;
 use memory_engine::MemoryEngine;
+use memory_wire::{MemoryDoor, MemoryDoors, MemoryPipe, MemoryStreams};
 use outside_api::{Dial, DialAnswer, Hand, Plug, Target, note_dial};
 use std::alloc::Global;
 use std::sync::{Arc, Mutex, Wait};
 use tree_base::{List, Memory, Text};
 
 /// A plug of hands that share one Engine in memory. It makes as many hands as it was told, whatever their target; a further dial
-/// fails. It tells no Engine, since each of the hands may change it.
+/// fails. It tells no Engine, since each of the hands may change it, and has neither streams nor doors.
 #[derive(Drop)]
 pub struct SharedPlug<'r, R> {
     rt: &'r R,
@@ -22,6 +23,8 @@ pub struct SharedPlug<'r, R> {
     hands: u32,
     dials: List<Dial>,
     dialled: u32,
+    streams: MemoryStreams,
+    doors: MemoryDoors,
     failed: u64,
 }
 
@@ -49,6 +52,8 @@ impl<'r, R> SharedPlug<'r, R> {
             hands,
             dials: List::new(alloc),
             dialled: 0,
+            streams: MemoryStreams::none(alloc),
+            doors: MemoryDoors::none(alloc),
             failed: 0,
         })
     }
@@ -63,6 +68,8 @@ impl<'r, R> SharedPlug<'r, R> {
             hands,
             dials,
             dialled,
+            streams,
+            doors,
             failed,
         } = self;
         match Arc::try_unwrap(shared) {
@@ -73,6 +80,8 @@ impl<'r, R> SharedPlug<'r, R> {
                 hands,
                 dials,
                 dialled,
+                streams,
+                doors,
                 failed,
             }),
         }
@@ -82,7 +91,11 @@ impl<'r, R> SharedPlug<'r, R> {
 impl<'r, R: Wait + Sync> Plug for SharedPlug<'r, R> {
     type Hand = SharedHand<'r, R>;
 
-    ghost use Rattle.shared_hand.specs.SharedPlugs.{dialled_of, dials_of, faults_of, hands_of};
+    type Stream = MemoryPipe;
+
+    type Door = MemoryDoor;
+
+    ghost use Rattle.shared_hand.specs.SharedPlugs.{dialled_of, dials_of, doors_of, doors_opened_by, faults_of, hands_of, opened_by, received_by, streams_of, talks_by};
     ghost use Rattle.shared_hand.specs.SharedHands.{clock_of, log_of};
 
     ghost engine = { λ _. None };
@@ -90,6 +103,18 @@ impl<'r, R: Wait + Sync> Plug for SharedPlug<'r, R> {
     ghost dials = { λ plug. plug.dials };
 
     ghost dialled = { λ plug. Some plug.dialled };
+
+    ghost streams = { λ plug. streams_of plug };
+
+    ghost opened = { λ plug. opened_by plug };
+
+    ghost talks = { λ plug. talks_by plug };
+
+    ghost doors = { λ plug. doors_of plug };
+
+    ghost doors_opened = { λ plug. doors_opened_by plug };
+
+    ghost received = { λ plug. received_by plug };
 
     ghost faults = { λ plug. plug.failed };
 
@@ -117,6 +142,12 @@ impl<'r, R: Wait + Sync> Plug for SharedPlug<'r, R> {
             → clock_of hand ≡ new_clock }
         ensures hands { hands_of self.new ≡ hands_of self.old }
         ensures shared { self.new.shared ≡ self.old.shared }
+        ensures streams { streams_of self.new ≡ streams_of self.old }
+        ensures opened { opened_by self.new ≡ opened_by self.old }
+        ensures talks { talks_by self.new ≡ talks_by self.old }
+        ensures doors { doors_of self.new ≡ doors_of self.old }
+        ensures doors_opened { doors_opened_by self.new ≡ doors_opened_by self.old }
+        ensures received { received_by self.new ≡ received_by self.old }
     {
         if note_dial(alloc, &mut self.dials, target, stop_file, number).is_err() {
             return DialAnswer::Memory;
@@ -132,5 +163,21 @@ impl<'r, R: Wait + Sync> Plug for SharedPlug<'r, R> {
             }
             Err(_) => DialAnswer::Memory,
         }
+    }
+
+    fn stream(&mut self, alloc: Global, target: &Target) -> DialAnswer<MemoryPipe> {
+        self.streams.open(alloc, target, &mut self.failed)
+    }
+
+    fn close_stream(&mut self, stream: MemoryPipe) {
+        self.streams.close(stream, &mut self.failed);
+    }
+
+    fn door(&mut self, alloc: Global, path: &Text) -> DialAnswer<MemoryDoor> {
+        self.doors.open(alloc, path, &mut self.failed)
+    }
+
+    fn close_door(&mut self, door: MemoryDoor) {
+        self.doors.close(door, &mut self.failed);
     }
 }

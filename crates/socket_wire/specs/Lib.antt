@@ -1,3 +1,4 @@
+pub mod DoorsOfSockets
 pub mod Patiences
 pub mod PipesOfSockets
 pub mod WiresOfSockets

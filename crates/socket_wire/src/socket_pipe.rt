@@ -116,7 +116,7 @@ impl<'r> SocketPipe<'r> {
     }
 
     /// Whether it counted a fault. No memory.
-    pub(crate) fn has_failed(&self) -> bool
+    pub fn has_failed(&self) -> bool
         ensures { IsTrue result ↔ (0 < failed_calls self.now) }
     {
         self.failed > 0

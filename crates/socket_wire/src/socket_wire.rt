@@ -108,14 +108,14 @@ impl<'r> Wire for SocketWire<'r> {
         ensures path { path_of self.new ≡ path_of self.old }
         ensures stop_file { stop_file_of self.new ≡ stop_file_of self.old }
     {
-        match UnixStream::connect(self.rt, self.path.as_str()) {
-            Ok(stream) => {
+        let patience = Arc::try_clone(&self.patience).ok();
+        let board = another(self.board.as_ref());
+        match connect(self.rt, &self.path, patience, board) {
+            Some(pipe) => {
                 self.dialled += 1;
-                let patience = Arc::try_clone(&self.patience).ok();
-                let board = another(self.board.as_ref());
-                DialAnswer::Dialled(SocketPipe::new(self.rt, stream, patience, board))
+                DialAnswer::Dialled(pipe)
             }
-            Err(_) => {
+            None => {
                 self.count_fault();
                 DialAnswer::Failed
             }
@@ -167,6 +167,22 @@ impl<'r> Wire for SocketWire<'r> {
         let answer = self.patience.finds_stop_file(self.rt);
         self.clock.look(answer);
         answer
+    }
+}
+
+/// A new connection to the socket at a path, which lasts as long as that patience, and tells that board what time it is; None where it
+/// can't be made. No memory.
+pub fn connect<'r>(
+    rt: &'r HostRuntime,
+    path: &Text,
+    patience: Option<Arc<Patience>>,
+    board: Option<SharedBoard>,
+) -> Option<SocketPipe<'r>>
+    ensures { IfSome result (λ pipe. failed_calls pipe ≡ 0) }
+{
+    match UnixStream::connect(rt, path.as_str()) {
+        Ok(stream) => Some(SocketPipe::new(rt, stream, patience, board)),
+        Err(_) => None,
     }
 }
 

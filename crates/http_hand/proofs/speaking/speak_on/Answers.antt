@@ -5,18 +5,18 @@ use Rattle.http_hand.proofs.speaking.speak_on.Goals as goal
 
 pub returns-then-written-bytes-clause-speaks : goal.returns-then-written-bytes-clause-speaks
 returns-then-written-bytes-clause-speaks g c =
-    spoke_whole c.args.request.now c.args.bytes.now c.answer_on.result (g.P.Pipe.talk c.args.pipe.now) (g.P.Pipe.talk c.write_all-written.new.pipe) (g.P.Pipe.talk c.answer_on.new.pipe)
-    (g.P.Pipe.faults c.args.pipe.now) (g.P.Pipe.faults c.write_all-written.new.pipe) (g.P.Pipe.faults c.answer_on.new.pipe) c.write_all-written.result c.if-written-bytes.true
-    c.write_all-written.ensures.counted c.answer_on.ensures.counted c.write_all-written.ensures.told c.answer_on.ensures.answers
+    spoke_whole c.args.request.now c.args.bytes.now c.answer_on.result (g.P.Pipe.talk c.args.pipe.now) (g.P.Pipe.talk c.write_on-written.new.pipe) (g.P.Pipe.talk c.answer_on.new.pipe)
+    (g.P.Pipe.faults c.args.pipe.now) (g.P.Pipe.faults c.write_on-written.new.pipe) (g.P.Pipe.faults c.answer_on.new.pipe) c.write_on-written.result c.if-written-bytes.true
+    c.write_on-written.ensures.counted c.answer_on.ensures.counted c.write_on-written.ensures.told c.answer_on.ensures.answers
 
 pub returns-then-written-eq0-clause-speaks : goal.returns-then-written-eq0-clause-speaks
 returns-then-written-eq0-clause-speaks g c =
-    spoke_nothing c.args.request.now c.args.bytes.now (g.P.Pipe.talk c.args.pipe.now) (g.P.Pipe.talk c.write_all-written.new.pipe)
-    (g.P.Pipe.faults c.args.pipe.now) (g.P.Pipe.faults c.write_all-written.new.pipe) c.write_all-written.result c.if-written-eq0.true
-    (c.write_all-written.ensures.failed (grind (arith, c.write_all-written.ensures.within, c.if-written-bytes.false))) c.write_all-written.ensures.told
+    spoke_nothing c.args.request.now c.args.bytes.now (g.P.Pipe.talk c.args.pipe.now) (g.P.Pipe.talk c.write_on-written.new.pipe)
+    (g.P.Pipe.faults c.args.pipe.now) (g.P.Pipe.faults c.write_on-written.new.pipe) c.write_on-written.result c.if-written-eq0.true
+    (c.write_on-written.ensures.failed (grind (arith, c.write_on-written.ensures.within, c.if-written-bytes.false))) c.write_on-written.ensures.told
 
 pub returns-else-written-eq0-clause-speaks : goal.returns-else-written-eq0-clause-speaks
 returns-else-written-eq0-clause-speaks g c =
-    spoke_part c.args.request.now c.args.bytes.now (g.P.Pipe.talk c.args.pipe.now) (g.P.Pipe.talk c.write_all-written.new.pipe)
-    (g.P.Pipe.faults c.args.pipe.now) (g.P.Pipe.faults c.write_all-written.new.pipe) c.write_all-written.result c.write_all-written.ensures.within
-    (c.write_all-written.ensures.failed (grind (arith, c.write_all-written.ensures.within, c.if-written-bytes.false))) c.write_all-written.ensures.told
+    spoke_part c.args.request.now c.args.bytes.now (g.P.Pipe.talk c.args.pipe.now) (g.P.Pipe.talk c.write_on-written.new.pipe)
+    (g.P.Pipe.faults c.args.pipe.now) (g.P.Pipe.faults c.write_on-written.new.pipe) c.write_on-written.result c.write_on-written.ensures.within
+    (c.write_on-written.ensures.failed (grind (arith, c.write_on-written.ensures.within, c.if-written-bytes.false))) c.write_on-written.ensures.told

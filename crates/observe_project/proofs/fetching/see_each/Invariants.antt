@@ -1,7 +1,8 @@
 use Rattle.std.proofs.Common.{drop}
 use Rattle.std.specs.Prelude.{Ok}
 use Rattle.run_model.specs.Observation.{seeing_images}
-use Rattle.observe_project.specs.Steps.{Steps, standing}
+use Rattle.outside_api.specs.Standings.{standing}
+use Rattle.observe_project.specs.Steps.{Steps}
 use Rattle.observe_project.proofs.fetching.see_each.Given as goal
 
 abbrev pub invariant-loop-image : goal.invariant-loop-image

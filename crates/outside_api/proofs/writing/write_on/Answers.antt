@@ -1,6 +1,6 @@
 use Rattle.std.proofs.Common.{arith}
-use Rattle.http_hand.proofs.Talking.{nothing_written, written_more}
-use Rattle.http_hand.proofs.speaking.write_all.Goals as goal
+use Rattle.outside_api.proofs.Writes.{nothing_written, written_more}
+use Rattle.outside_api.proofs.writing.write_on.Goals as goal
 
 pub loop-at-init : goal.loop-at-init
 loop-at-init g c = record {

@@ -1,7 +1,7 @@
 -- So far the first bytes were taken.
 use Rattle.std.proofs.Common.{◌≤◌, ◌-◌, length, take}
 use Rattle.outside_api.specs.Pipes.{ToldBy, after_write}
-use Rattle.http_hand.proofs.speaking.write_all.Given as goal
+use Rattle.outside_api.proofs.writing.write_on.Given as goal
 
 abbrev pub invariant-loop-at : goal.invariant-loop-at
 invariant-loop-at g l = record {
