@@ -5,6 +5,7 @@ use crate::reaching::{Asked, UnheardSocket, unheard_socket};
 use compose_cli::Ended;
 use engine_plugs::MainHand;
 use engine_types::{Exchange, Outcome, Request, SeenFault};
+use exchange_log::{ExchangeLog, Kept};
 use hints::{attribute_hint, request_hint, say_hint, socket_hint, word_hint};
 use outside_files::Sink;
 use refusals::{ProjectRefusal, Refusal, WordsRefusal};
@@ -53,21 +54,23 @@ fn hint_behind<R>(
     )
 }
 
-/// The exchanges of all hands, hand by hand.
+/// The exchanges of all hands, hand by hand, but for looks at containers that were answered with a report.
 pub(crate) fn exchanges_of<'a, 'r, R>(
     alloc: Global,
     hands: &'a [MainHand<'r, R>],
 ) -> Result<Vec<&'a Exchange>, Memory> {
     let mut exchanges = Vec::new(alloc);
     for hand in hands {
-        for exchange in log_of(hand) {
-            exchanges.push(exchange)?;
+        for row in log_of(hand).rows() {
+            if let Kept::Whole(place) = row {
+                exchanges.push(place.get())?;
+            }
         }
     }
     Ok(exchanges)
 }
 
-fn log_of<'a, 'r, R>(hand: &'a MainHand<'r, R>) -> &'a [Exchange] {
+fn log_of<'a, 'r, R>(hand: &'a MainHand<'r, R>) -> &'a ExchangeLog {
     match hand {
         MainHand::Http(hand) => hand.hand.log(),
         MainHand::Memory(hand) => hand.log(),

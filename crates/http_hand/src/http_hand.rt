@@ -10,6 +10,7 @@ ghost use Rattle.http_hand.specs.HttpHands.{HasNoPast, at_place, no_engine};
 
 use crate::speaking::speak;
 use engine_types::{Exchange, Outcome, Request};
+use exchange_log::ExchangeLog;
 use outside_api::{Hand, Wire, placed};
 use std::alloc::Global;
 use tree_base::limits::MOST_EXCHANGES;
@@ -21,7 +22,7 @@ use wires::EvenWire;
 #[derive(Drop)]
 pub struct HttpHand<W: Wire> {
     wire: W,
-    log: ReservedList<Exchange>,
+    log: ExchangeLog,
     /// For each exchange, whether it opened a connection.
     opened: ReservedList<bool>,
     place: Option<u64>,
@@ -45,17 +46,17 @@ impl<W: EvenWire> HttpHand<W> {
     {
         HttpHand {
             wire,
-            log: ReservedList::new(alloc),
+            log: ExchangeLog::new(alloc),
             opened: ReservedList::new(alloc),
             place: None,
         }
     }
 
     /// Every exchange, in order. No memory.
-    pub fn log(&self) -> &[Exchange]
-        ensures { result.now ≡ ⟦<HttpHand<W> as Hand>⟧.log self.now }
+    pub fn log(&self) -> &ExchangeLog
+        ensures { result.now.items ≡ ⟦<HttpHand<W> as Hand>⟧.log self.now }
     {
-        self.log.as_slice()
+        &self.log
     }
 
     /// The wire that it speaks over. No memory.
@@ -65,8 +66,8 @@ impl<W: EvenWire> HttpHand<W> {
         &self.wire
     }
 
-    /// Takes room for one exchange more.
-    fn has_room(&mut self) -> bool
+    /// Takes room for one exchange more, of this request.
+    fn has_room(&mut self, alloc: Global, request: &Request) -> bool
         ensures wire { self.new.wire ≡ self.old.wire }
         ensures log { self.new.log.items ≡ self.old.log.items }
         ensures opened { self.new.opened.items ≡ self.old.opened.items }
@@ -78,7 +79,7 @@ impl<W: EvenWire> HttpHand<W> {
         if self.opened.len() >= MOST_EXCHANGES {
             return false;
         }
-        self.log.reserve(1).is_ok() && self.opened.reserve(1).is_ok()
+        self.log.reserve(alloc, request).is_ok() && self.opened.reserve(1).is_ok()
     }
 }
 
@@ -117,7 +118,7 @@ impl<W: EvenWire> Hand for HttpHand<W> {
             (W.past self.new.wire) (W.dialled self.old.wire) (W.dialled self.new.wire)
             (W.faults self.old.wire) (W.faults self.new.wire) }
     {
-        if !self.has_room() {
+        if !self.has_room(alloc, &request) {
             drop(request);
             return Outcome::Memory;
         }
@@ -128,7 +129,7 @@ impl<W: EvenWire> Hand for HttpHand<W> {
             request,
             outcome: kept,
         };
-        self.log.push(exchange).unwrap();
+        self.log.push(exchange);
         outcome
     }
 

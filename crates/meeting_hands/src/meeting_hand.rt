@@ -2,7 +2,8 @@ ghost use Rattle.std.specs.Prelude.{◌≡◌};
 ghost use Rattle.shared_hand.specs.SharedHands.{log_of};
 
 use crate::meeting::Meeting;
-use engine_types::{Exchange, Outcome, Request};
+use engine_types::{Outcome, Request};
+use exchange_log::ExchangeLog;
 use outside_api::Hand;
 use shared_hand::SharedHand;
 use std::alloc::Global;
@@ -22,8 +23,8 @@ pub struct MeetingHand<'r, R> {
 
 impl<'r, R> MeetingHand<'r, R> {
     /// Every exchange of this hand, in order. No memory.
-    pub fn log(&self) -> &[Exchange]
-        ensures { result.now ≡ log_of self.now.hand }
+    pub fn log(&self) -> &ExchangeLog
+        ensures { result.now.items ≡ log_of self.now.hand }
     {
         self.hand.log()
     }

@@ -6,11 +6,11 @@ ghost use Rattle.shared_hand.specs.Outcomes.{IsOfShared};
 
 use crate::shared_engine::SharedEngine;
 use engine_types::{Exchange, Outcome, Request};
+use exchange_log::ExchangeLog;
 use outside_api::{ClockCounts, Hand};
 use std::alloc::Global;
 use std::sync::{Arc, Mutex, Wait};
 use std::thread;
-use tree_base::ReservedList;
 
 /// A hand that shares an Engine in memory with others. It tells neither that Engine nor what it heard, loses nothing and counts no
 /// fault. It waits for the lock in each exchange, pause, look and reading of the clock, and never holds it in between.
@@ -18,7 +18,7 @@ use tree_base::ReservedList;
 pub struct SharedHand<'r, R> {
     rt: &'r R,
     pub shared: Arc<Mutex<SharedEngine>>,
-    log: ReservedList<Exchange>,
+    log: ExchangeLog,
     counts: ClockCounts,
 }
 
@@ -34,16 +34,16 @@ impl<'r, R> SharedHand<'r, R> {
         SharedHand {
             rt,
             shared,
-            log: ReservedList::new(alloc),
+            log: ExchangeLog::new(alloc),
             counts: ClockCounts::new(),
         }
     }
 
     /// Every exchange of this hand, in order. No memory.
-    pub fn log(&self) -> &[Exchange]
-        ensures { result.now ≡ log_of self.now }
+    pub fn log(&self) -> &ExchangeLog
+        ensures { result.now.items ≡ log_of self.now }
     {
-        self.log.as_slice()
+        &self.log
     }
 }
 
@@ -71,7 +71,7 @@ impl<'r, R: Wait + Sync> Hand for SharedHand<'r, R> {
         ensures outcome { IsOfShared request result }
         ensures shared { self.new.shared ≡ self.old.shared }
     {
-        if self.log.reserve(1).is_err() {
+        if self.log.reserve(alloc, &request).is_err() {
             drop(request);
             return Outcome::Memory;
         }
@@ -80,7 +80,7 @@ impl<'r, R: Wait + Sync> Hand for SharedHand<'r, R> {
             request,
             outcome: kept,
         };
-        self.log.push(exchange).unwrap();
+        self.log.push(exchange);
         outcome
     }
 

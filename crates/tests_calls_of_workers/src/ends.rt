@@ -1,7 +1,8 @@
 //! What comes of calls.
 
 use crate::calls::{Asked, called};
-use engine_types::{Exchange, Outcome, Reply, Request};
+use engine_types::{Outcome, Reply, Request};
+use exchange_log::{ExchangeLog, Kept};
 use meeting_hands::{Meeting, MeetingHand, MeetingPlug, use_name};
 use memory_engine::MemoryEngine;
 use refusals::{Part, Refusal};
@@ -71,13 +72,20 @@ fn looks_of<R>(looker: &Option<MeetingHand<'_, R>>) -> Option<usize> {
     }
 }
 
-fn listings(log: &[Exchange]) -> Option<usize> {
-    for exchange in log {
-        if !matches!(&exchange.request, Request::ListContainers { .. }) {
+fn listings(log: &ExchangeLog) -> Option<usize> {
+    for row in log.rows() {
+        if !is_listing(row) {
             return None;
         }
     }
     Some(log.len())
+}
+
+fn is_listing(row: &Kept) -> bool {
+    match row {
+        Kept::Whole(place) => matches!(&place.get().request, Request::ListContainers { .. }),
+        Kept::Look { .. } => false,
+    }
 }
 
 fn why_of(refusal: &Option<Refusal>) -> &'static str {
