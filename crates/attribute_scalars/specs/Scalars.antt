@@ -12,7 +12,7 @@ use Rattle.tree_base.specs.Answers.{◌>>=◌}
 use Rattle.tree_base.specs.declared.Tree.{Tree}
 use Rattle.tree_base.specs.declared.Tree.TheOpen.{Tree-F}
 use Rattle.attribute_types.specs.declared.form.ItemForm.{ItemForm}
-use Rattle.attribute_types.specs.declared.form.ItemForm.TheVariants.{Device, Exposed, Tmpfs}
+use Rattle.attribute_types.specs.declared.form.ItemForm.TheVariants.{Device, Exposed, SecurityOption, Tmpfs}
 use Rattle.attribute_types.specs.declared.form.WordSet.{WordSet}
 use Rattle.attribute_types.specs.declared.form.WordSet.TheVariants as words
 use Rattle.attribute_types.specs.declared.refusal.AttributeRefusal.TheVariants.{At}
@@ -73,6 +73,7 @@ words_of words.NetworkModes = codes "none" ∷ codes "host" ∷ codes "bridge" �
 words_of words.PullPolicies =
     codes "always" ∷ codes "never" ∷ codes "missing" ∷ codes "if_not_present" ∷ codes "build" ∷ []
 words_of words.Restarts = codes "no" ∷ codes "always" ∷ codes "unless-stopped" ∷ codes "on-failure" ∷ []
+words_of words.OwnNamespaces = []
 words_of words.MountTypes = codes "bind" ∷ codes "volume" ∷ codes "tmpfs" ∷ []
 words_of words.Protocols = codes "tcp" ∷ codes "udp" ∷ codes "sctp" ∷ []
 words_of words.Labels = codes "z" ∷ codes "Z" ∷ []
@@ -84,8 +85,14 @@ abbrev pub is_counted_restart : List ℕ → Bool
 is_counted_restart text =
     starts_with nat_eq text (codes "on-failure:") && is_some (num_of (drop 11 text))
 
--- one of the words; a restart may have its count
+-- a namespace that is another service's or container's (Compose Specification: `ipc`, `pid`)
+abbrev pub is_of_another : List ℕ → Bool
+is_of_another text =
+    starts_with nat_eq text (codes "service:") || starts_with nat_eq text (codes "container:")
+
+-- one of the words; a restart may have its count, and a namespace is any but another's
 abbrev pub is_word_of : WordSet → List ℕ → Bool
+is_word_of words.OwnNamespaces text = not (is_of_another text)
 is_word_of words.Restarts text = is_in (words_of words.Restarts) text || is_counted_restart text
 is_word_of set text = is_in (words_of set) text
 
@@ -125,8 +132,21 @@ abbrev pub begins_with_path : List ℕ → Bool
 begins_with_path [] = false
 begins_with_path (b ∷ bs) = not (b == 58)
 
--- a text of a list has the form of its attribute (Compose Specification: `devices`, `expose`, `tmpfs`)
+-- a profile of system calls as the Engine takes it: the word of one, or its JSON, and not a file's path
+abbrev pub is_profile : List ℕ → Bool
+is_profile text = is_in (codes "unconfined" ∷ codes "builtin" ∷ []) text || starts_with nat_eq text (codes "{")
+
+-- what stands behind a word, where a text begins with it, is such a profile
+abbrev pub has_profile : List ℕ → List ℕ → Bool
+has_profile text word = not (starts_with nat_eq text word) || is_profile (drop (length word) text)
+
+-- an option of security: any text, but of a profile of system calls one that the Engine takes
+abbrev pub is_security_option : List ℕ → Bool
+is_security_option text = has_profile text (codes "seccomp=") && has_profile text (codes "seccomp:")
+
+-- a text of a list has the form of its attribute (Compose Specification: `devices`, `expose`, `tmpfs`, `security_opt`)
 abbrev pub has_form : ItemForm → List ℕ → Bool
 has_form Device text = are_of_device text (cut_once 58 text)
 has_form Exposed text = are_of_exposed text (cut_once 47 text)
 has_form Tmpfs text = begins_with_path text
+has_form SecurityOption text = is_security_option text

@@ -11,7 +11,7 @@ ghost use Rattle.short_forms.specs.Ports.{is_protocol};
 ghost use Rattle.short_forms.specs.Sizes.{size_of};
 ghost use Rattle.tree_base.specs.declared.Tree.{out-Tree};
 ghost use Rattle.attribute_scalars.specs.Lists.{text_in};
-ghost use Rattle.attribute_scalars.specs.Scalars.{are_behind_host, are_permissions, begins_with_path, bool_of, has_form, has_no_colon, int_of, is_counted_restart, is_nonempty, is_permission, is_word_in, is_word_of, no_words, num_of, words_of, yes_words};
+ghost use Rattle.attribute_scalars.specs.Scalars.{are_behind_host, are_permissions, begins_with_path, bool_of, has_form, has_no_colon, has_profile, int_of, is_counted_restart, is_nonempty, is_of_another, is_permission, is_profile, is_security_option, is_word_in, is_word_of, no_words, num_of, words_of, yes_words};
 ghost use Rattle.attribute_types.specs.declared.form.ItemForm.{ItemForm};
 ghost use Rattle.attribute_types.specs.declared.form.WordSet.{WordSet};
 ghost use Rattle.attribute_scalars.specs.Walks.{is_in, is_null};
@@ -139,6 +139,7 @@ pub fn is_word_of(set: WordSet, text: &str) -> bool
         WordSet::NetworkModes => is_network_mode(text),
         WordSet::PullPolicies => is_pull_policy(text),
         WordSet::Restarts => is_restart(text) || is_counted_restart(text),
+        WordSet::OwnNamespaces => !is_of_another(text),
         WordSet::MountTypes => is_mount_type(text),
         WordSet::Protocols => is_port_protocol(text),
         WordSet::Labels => is_label(text),
@@ -150,6 +151,13 @@ fn is_network_mode(text: &str) -> bool
     ensures { result ≡ is_word_of WordSet.NetworkModes text.now }
 {
     matches!(text, "none" | "host" | "bridge")
+}
+
+/// Whether a namespace is another service's or container's.
+fn is_of_another(text: &str) -> bool
+    ensures { result ≡ is_of_another text.now }
+{
+    text.starts_with("service:") || text.starts_with("container:")
 }
 
 fn is_mount_type(text: &str) -> bool
@@ -230,6 +238,7 @@ pub fn has_form(form: ItemForm, text: &str) -> bool
         ItemForm::Device => is_device(text),
         ItemForm::Exposed => is_exposed(text),
         ItemForm::Tmpfs => begins_with_path(text.as_bytes()),
+        ItemForm::SecurityOption => is_security_option(text),
     }
 }
 
@@ -278,6 +287,28 @@ fn is_exposed(text: &str) -> bool
         None => target_of(text).is_some(),
         Some((port, protocol)) => target_of(port).is_some() && is_protocol(protocol),
     }
+}
+
+/// Whether an option of security names no file of a profile of system calls: the Engine takes the profile itself.
+fn is_security_option(text: &str) -> bool
+    ensures { result ≡ is_security_option text.now }
+{
+    has_profile(text, "seccomp=") && has_profile(text, "seccomp:")
+}
+
+fn has_profile(text: &str, word: &str) -> bool
+    ensures { result ≡ has_profile text.now word.now }
+{
+    match text.strip_prefix(word) {
+        Some(profile) => is_profile(profile),
+        None => true,
+    }
+}
+
+fn is_profile(text: &str) -> bool
+    ensures { result ≡ is_profile text.now }
+{
+    matches!(text, "unconfined" | "builtin") || text.starts_with("{")
 }
 
 fn begins_with_path(text: &[u8]) -> bool

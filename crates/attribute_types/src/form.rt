@@ -1,4 +1,4 @@
-/// Words of which an attribute has one (Compose Specification, at each attribute).
+/// Texts of which an attribute has one (Compose Specification, at each attribute).
 #[derive(Clone, Copy, Debug, PartialEq, Eq, Drop)]
 pub enum WordSet {
     /// Of `network_mode`.
@@ -7,6 +7,8 @@ pub enum WordSet {
     PullPolicies,
     /// Of `restart`, where `on-failure:N` stands beside them.
     Restarts,
+    /// Of `ipc` and `pid`: any text that doesn't begin with `service:` or `container:`.
+    OwnNamespaces,
     /// Of the `type` of a mount.
     MountTypes,
     /// Of the `protocol` of a port.
@@ -26,6 +28,8 @@ pub enum ItemForm {
     Exposed,
     /// `PATH[:OPTIONS]`.
     Tmpfs,
+    /// Any text but one that names the file of a profile of system calls.
+    SecurityOption,
 }
 
 /// What stands at an attribute, where no attribute stands below it.

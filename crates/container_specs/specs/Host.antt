@@ -1,5 +1,5 @@
 -- What a container is given of its host (Compose Specification, `devices`, `extra_hosts`, `ulimits`).
-use Rattle.std.specs.Prelude.{ℕ, List, [], ◌++◌, Option, Some, None, codes, map, unwrap_or}
+use Rattle.std.specs.Prelude.{ℕ, ◌==◌, List, [], ◌++◌, Option, Some, None, codes, length, map, unwrap_or, if◌then◌else◌}
 use Rattle.attribute_types.specs.Lookups.{texts_at, ulimits_at}
 use Rattle.attribute_types.specs.declared.attribute.Attribute.{Attribute}
 use Rattle.attribute_types.specs.declared.rows.Ulimit.{Ulimit}
@@ -8,9 +8,24 @@ use Rattle.engine_types.specs.declared.Ulimit as engine
 use Rattle.short_forms.specs.Cuts.{cut_once}
 use Rattle.container_specs.specs.Lists.{named_pairs, unless_empty}
 
+-- what a `]` ends, where nothing stands behind it
+abbrev pub closed_in : List ℕ → Option (List ℕ × List ℕ) → List ℕ
+closed_in address (Some (inner, behind)) = if length behind == 0 then inner else address
+closed_in address None = address
+
+-- what a `[` begins, where nothing stands before it
+abbrev pub opened_in : List ℕ → Option (List ℕ × List ℕ) → List ℕ
+opened_in address (Some (before, rest)) =
+    if length before == 0 then closed_in address (cut_once 93 rest) else address
+opened_in address None = address
+
+-- an address without the brackets that may stand around one of IPv6
+abbrev pub bare_address : List ℕ → List ℕ
+bare_address address = opened_in address (cut_once 91 address)
+
 -- a host with its address, of which null is the empty text
 abbrev pub host_of : List ℕ × Option (List ℕ) → List ℕ
-host_of pair = pair.0 ++ codes ":" ++ unwrap_or pair.1 []
+host_of pair = pair.0 ++ codes ":" ++ bare_address (unwrap_or pair.1 [])
 
 -- further hosts, in byte order of their names
 abbrev pub extra_hosts_of : List Attribute → Option (List (List ℕ))

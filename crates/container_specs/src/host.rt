@@ -1,7 +1,7 @@
 ghost use Rattle.std.specs.Prelude.{◌≡◌, ◌++◌, ◌∷◌, [], IfOk, OnOk, codes, map};
 ghost use Rattle.std.specs.Option.{option_map_or};
 ghost use Rattle.short_forms.specs.Cuts.{cut_once};
-ghost use Rattle.container_specs.specs.Host.{device_behind, device_of, devices_of, extra_hosts_of, host_of, limit_of, ulimits_of};
+ghost use Rattle.container_specs.specs.Host.{bare_address, closed_in, device_behind, device_of, devices_of, extra_hosts_of, host_of, limit_of, ulimits_of};
 ghost use Rattle.container_specs.specs.Lists.{named_pairs, unless_empty, vars_of};
 
 use crate::lists::{items_of, joined, text_of, unless_empty, vars_of};
@@ -42,9 +42,30 @@ fn put_host(
 {
     match pair {
         Some((name, address)) => {
-            hosts.push(joined(alloc, name.as_str(), ":", text_of(address))?)
+            let bare = bare_address(text_of(address));
+            hosts.push(joined(alloc, name.as_str(), ":", bare)?)
         }
         None => Ok(()),
+    }
+}
+
+/// An address without brackets around it: the Engine takes one of IPv6 as it is. No memory.
+fn bare_address(address: &str) -> &str
+    ensures { result.now ≡ bare_address address.now }
+{
+    match cut_text(address, '[') {
+        Some((before, rest)) if before.is_empty() => closed_in(address, rest),
+        _ => address,
+    }
+}
+
+/// What stands before the `]` that ends an address, of what stands behind its first bracket.
+fn closed_in<'a>(address: &'a str, rest: &'a str) -> &'a str
+    ensures { result.now ≡ closed_in address.now (cut_once 93 rest.now) }
+{
+    match cut_text(rest, ']') {
+        Some((inner, behind)) if behind.is_empty() => inner,
+        _ => address,
     }
 }
 
