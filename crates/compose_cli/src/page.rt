@@ -22,8 +22,9 @@ pub fn print_page<H, O: Sink, G: Sink>(
 ) -> Ended<H>
     requires keyed { IsKeyed asked.loaded.project }
     ensures nothing { SendsNothing result }
-    ensures printed { PrintsPage (page_for asked.options.command asked.loaded.project) result.refusal
-        (O.written out.old) (O.written out.new) (O.faults out.old) (O.faults out.new) }
+    ensures printed { PrintsPage (page_for asked.options.command asked.loaded.project)
+        result.refusal (O.written out.old) (O.written out.new) (O.faults out.old)
+        (O.faults out.new) }
     ensures status { result.status ≡ status_of result.refusal }
     ensures none { (result.refusal ≡ None) ↔ (result.status ≡ 0) }
     ensures line { SaysRefusal result.refusal (G.written err.old) (G.written err.new)

@@ -68,7 +68,8 @@ impl LogBook {
 
     /// Adds lines, or a full entry where they have no room.
     fn add(&mut self, who: u32, container: u32, lines: List<LogLine>) -> LogAnswer
-        requires { MayAdd (opening self.old) who (own (λ e. e.worker) who self.old.entries) container }
+        requires { MayAdd (opening self.old) who (own (λ e. e.worker) who self.old.entries)
+            container }
         ensures answer { result ≡ answered self.old.entries (calls.Add container lines) }
         ensures entry { self.new
             ≡ grown self.old (entered self.old.entries who (calls.Add container lines)) }
