@@ -3,4 +3,5 @@ pub mod Given
 pub mod KeptKeys
 pub mod Ordering
 pub mod Pairs
+pub mod Profiles
 pub mod Walks
