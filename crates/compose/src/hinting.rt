@@ -5,7 +5,7 @@ use crate::reaching::{Asked, UnheardSocket, unheard_socket};
 use compose_cli::Ended;
 use engine_plugs::MainHand;
 use engine_types::{Exchange, Outcome, Request, SeenFault};
-use exchange_log::{ExchangeLog, Kept};
+use exchange_log::ExchangeLog;
 use hints::{attribute_hint, request_hint, say_hint, socket_hint, word_hint};
 use outside_files::Sink;
 use refusals::{ProjectRefusal, Refusal, WordsRefusal};
@@ -61,10 +61,8 @@ pub(crate) fn exchanges_of<'a, 'r, R>(
 ) -> Result<Vec<&'a Exchange>, Memory> {
     let mut exchanges = Vec::new(alloc);
     for hand in hands {
-        for row in log_of(hand).rows() {
-            if let Kept::Whole(place) = row {
-                exchanges.push(place.get())?;
-            }
+        for exchange in log_of(hand).parts().0 {
+            exchanges.push(exchange)?;
         }
     }
     Ok(exchanges)

@@ -1,32 +1,34 @@
-ghost use Rattle.std.specs.Prelude.{◌≡◌, ◌++◌, ◌∷◌, ◌<◌, [], IfSome, IsTrue, OnOk, ◌↔◌, is_some, length, map};
-ghost use Rattle.exchange_log.specs.Kept.{exchange_of};
+ghost use Rattle.std.specs.Prelude.{◌≡◌, ◌++◌, ◌∷◌, ◌<◌, [], IfSome, IsTrue, OnOk, ◌↔◌, length};
+ghost use Rattle.exchange_log.specs.Kept.{among, exchange_of};
 
-use crate::kept::{ExchangePlace, Kept, SharedId};
+use crate::look::{Look, SharedId};
 use engine_types::{Exchange, Outcome, Reply, Request};
 use std::alloc::Global;
 use std::marker::Model;
 use tree_base::{Memory, ReservedList, Text, TextMap, TryCopy};
 
-/// A growing list of exchanges, of which contracts also see `spare`, how many pushes need no memory.
+/// A growing list of exchanges, of which contracts also see `spare`: where it isn't 0, the next exchange has room.
 #[derive(Drop)]
 pub struct ExchangeLog {
-    rows: ReservedList<Kept>,
+    whole: ReservedList<Exchange>,
+    looks: ReservedList<Look>,
     ids: TextMap<SharedId>,
-    place: Option<ExchangePlace>,
 }
 
 impl Model for ExchangeLog {
-    ghost use Rattle.std.specs.Prelude.{map};
+    ghost use Rattle.std.specs.Prelude.{length};
     ghost use Rattle.engine_types.specs.declared.Exchange.{Exchange};
     ghost use Rattle.tree_base.specs.Reserved.{Reserved};
-    ghost use Rattle.exchange_log.specs.Kept.{exchange_of, room};
+    ghost use Rattle.exchange_log.specs.Kept.{AreInOrder, among};
 
     ghost Value = { Reserved Exchange };
 
     ghost view = { λ log. record {
-      items = map exchange_of log.rows.items;
-      spare = room log.place log.rows.spare;
+      items = among 0 log.looks.items log.whole.items;
+      spare = log.whole.spare;
     } };
+
+    ghost invariant = { λ log. AreInOrder 0 log.looks.items (length log.whole.items) };
 }
 
 impl ExchangeLog {
@@ -35,31 +37,34 @@ impl ExchangeLog {
         ensures { result.items ≡ [] }
     {
         ExchangeLog {
-            rows: ReservedList::new(alloc),
+            whole: ReservedList::new(alloc),
+            looks: ReservedList::new(alloc),
             ids: TextMap::new(alloc),
-            place: None,
         }
     }
 
-    /// How the exchanges are kept, in order. No memory.
-    pub fn rows(&self) -> &[Kept]
-        ensures { map exchange_of result.now ≡ self.now.items }
+    /// The exchanges that are kept whole, in order, and the looks among them. No memory.
+    pub fn parts(&self) -> (&[Exchange], &[Look])
+        ensures { among 0 result.1.now result.0.now ≡ self.now.items }
     {
-        self.rows.as_slice()
+        (self.whole.as_slice(), self.looks.as_slice())
     }
 
     /// How many exchanges there are. No memory.
+    #[tactic(auto, using(crate::proofs::Among::counted))]
     pub fn len(&self) -> usize
         ensures { result ≡ length self.now.items }
     {
-        self.rows.len()
+        let whole = self.whole.as_slice();
+        let looks = self.looks.as_slice();
+        whole.len() + looks.len()
     }
 
     /// Whether there is no exchange. No memory.
     pub fn is_empty(&self) -> bool
         ensures { IsTrue result ↔ (self.now.items ≡ []) }
     {
-        self.rows.is_empty()
+        self.len() == 0
     }
 
     /// Takes the room of an exchange of this request.
@@ -67,54 +72,53 @@ impl ExchangeLog {
         ensures items { self.new.items ≡ self.old.items }
         ensures room { OnOk result (0 < self.new.spare) }
     {
-        self.rows.reserve(1)?;
-        if self.place.is_none() {
-            self.place = Some(ExchangePlace::new(alloc)?);
+        self.whole.reserve(1)?;
+        match request {
+            Request::Inspect { id } => {
+                self.looks.reserve(1)?;
+                know(alloc, &mut self.ids, id)
+            }
+            _ => Ok(()),
         }
-        know(alloc, &mut self.ids, request)
     }
 
     /// Puts an exchange last, for which there is room. No memory.
+    #[tactic(auto, using(crate::proofs::Among::put_whole, crate::proofs::Among::put_look, crate::proofs::Among::order_whole, crate::proofs::Among::order_look))]
     pub fn push(&mut self, exchange: Exchange)
         requires { 0 < self.old.spare }
         ensures { self.new.items ≡ self.old.items ++ exchange ∷ [] }
     {
-        match look_of(&self.ids, &exchange) {
-            Some(look) => {
-                drop(exchange);
-                self.rows.push(look).unwrap();
-            }
-            None => {
-                let place = self.place.take().unwrap();
-                self.rows
-                    .push(Kept::Whole(place.holding(exchange)))
-                    .unwrap();
-            }
+        let kept = match look_of(&self.ids, &exchange, self.whole.len()) {
+            Some(look) => self.looks.push(look).is_ok(),
+            None => false,
+        };
+        if kept {
+            drop(exchange);
+        } else {
+            self.whole.push(exchange).unwrap();
         }
     }
 }
 
-/// Keeps the id of a request that looks at a container, where it isn't kept yet.
-fn know(alloc: Global, ids: &mut TextMap<SharedId>, request: &Request) -> Result<(), Memory> {
-    match request {
-        Request::Inspect { id } => {
-            if ids.get(id).is_none() {
-                let shared = SharedId::new(alloc, id.copy(alloc)?)?;
-                drop(ids.put(id.copy(alloc)?, shared)?);
-            }
-            Ok(())
-        }
-        _ => Ok(()),
+/// Keeps the id of a container that is looked at, where it isn't kept yet.
+fn know(alloc: Global, ids: &mut TextMap<SharedId>, id: &Text) -> Result<(), Memory> {
+    if ids.get(id).is_none() {
+        let shared = SharedId::new(alloc, id.copy(alloc)?)?;
+        drop(ids.put(id.copy(alloc)?, shared)?);
     }
+    Ok(())
 }
 
-/// An exchange as a look, where it is one that was answered with a report, at an id that is kept. No memory.
-fn look_of(ids: &TextMap<SharedId>, exchange: &Exchange) -> Option<Kept>
-    ensures { IfSome result (λ look. exchange_of look ≡ exchange.now) }
+/// An exchange as a look behind so many whole ones, where it is a look that was answered with a report, at an id that is kept. No
+/// memory.
+fn look_of(ids: &TextMap<SharedId>, exchange: &Exchange, behind: usize) -> Option<Look>
+    ensures exchange { IfSome result (λ look. exchange_of look ≡ exchange.now) }
+    ensures place { IfSome result (λ look. look.behind ≡ behind) }
 {
     match &exchange.request {
         Request::Inspect { id } => match &exchange.outcome {
-            Outcome::Answered(Reply::State(report)) => Some(Kept::Look {
+            Outcome::Answered(Reply::State(report)) => Some(Look {
+                behind,
                 id: shared_id(ids, id)?,
                 report: *report,
             }),

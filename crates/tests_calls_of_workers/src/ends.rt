@@ -2,7 +2,7 @@
 
 use crate::calls::{Asked, called};
 use engine_types::{Outcome, Reply, Request};
-use exchange_log::{ExchangeLog, Kept};
+use exchange_log::ExchangeLog;
 use meeting_hands::{Meeting, MeetingHand, MeetingPlug, use_name};
 use memory_engine::MemoryEngine;
 use refusals::{Part, Refusal};
@@ -73,19 +73,16 @@ fn looks_of<R>(looker: &Option<MeetingHand<'_, R>>) -> Option<usize> {
 }
 
 fn listings(log: &ExchangeLog) -> Option<usize> {
-    for row in log.rows() {
-        if !is_listing(row) {
+    let (whole, looks) = log.parts();
+    if !looks.is_empty() {
+        return None;
+    }
+    for exchange in whole {
+        if !matches!(&exchange.request, Request::ListContainers { .. }) {
             return None;
         }
     }
-    Some(log.len())
-}
-
-fn is_listing(row: &Kept) -> bool {
-    match row {
-        Kept::Whole(place) => matches!(&place.get().request, Request::ListContainers { .. }),
-        Kept::Look { .. } => false,
-    }
+    Some(whole.len())
 }
 
 fn why_of(refusal: &Option<Refusal>) -> &'static str {

@@ -23,7 +23,7 @@ pub returns-clause-heard : goal.returns-clause-heard
 returns-clause-heard g c =
     let put = (rw c.unwrap.ensures at c.push.ensures.ok) ∙ ap (λ (l : List Bool). l ++ c.speak-outcome.result.1 ∷ []) c.has_room.ensures.opened in
     let exchange : Exchange = record { request = c.args.request; outcome = c.twice-outcome.result.1 } in
-    let logged = (rw c.unwrap-2.ensures at c.push-2.ensures.ok) ∙ ap (λ (l : List Exchange). l ++ exchange ∷ []) c.has_room.ensures.log in
+    let logged = c.push-2.ensures ∙ ap (λ (l : List Exchange). l ++ exchange ∷ []) c.has_room.ensures.log in
     heard_after c.speak-outcome.result.1 c.args.self.now.opened.items c.push.new.self.items c.args.request (bytes_of c.args.request) c.speak-outcome.result.0
     (g.W.Wire.past c.args.self.now.wire) (g.W.Wire.past c.speak-outcome.new.wire) (g.W.Wire.dialled c.args.self.now.wire) (g.W.Wire.dialled c.speak-outcome.new.wire)
     (g.W.Wire.faults c.args.self.now.wire) (g.W.Wire.faults c.speak-outcome.new.wire) c.args.self.now.log.items c.push-2.new.self.items exchange
