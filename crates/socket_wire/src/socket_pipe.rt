@@ -189,7 +189,11 @@ fn hold_calls_to(stream: &UnixStream, time: Duration) {
     drop(stream.set_write_timeout(Some(time)));
 }
 
-/// Whether a call ended since it waited for so long. No memory.
+/// Whether a call ended since it waited for so long, or since the process was stopped and goes on: the system ends calls that have such
+/// a limit then. No memory.
 fn is_wait(error: &io::Error) -> bool {
-    matches!(error.kind(), ErrorKind::WouldBlock | ErrorKind::TimedOut)
+    matches!(
+        error.kind(),
+        ErrorKind::WouldBlock | ErrorKind::TimedOut | ErrorKind::Interrupted
+    )
 }
