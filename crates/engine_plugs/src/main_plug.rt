@@ -34,7 +34,7 @@ pub struct MainPlug<'r, R> {
     host: &'r HostRuntime,
     rt: &'r R,
     wait_seconds: Option<u32>,
-    /// The call's deadline in milliseconds of the system's clock, once a hand over a socket was asked for.
+    /// The call's deadline in milliseconds of the system's clock, once a hand over a socket or a stream was asked for.
     deadline: Option<u64>,
     /// What its hands over sockets tell of their exchanges.
     board: Option<SharedBoard>,
@@ -138,7 +138,7 @@ impl<'r, R> MainPlug<'r, R> {
         }
     }
 
-    /// The call's deadline, which the first dial sets. No memory.
+    /// The call's deadline, which the first dial or stream sets. No memory.
     fn deadline(&mut self) -> Option<u64>
         ensures dials { self.new.dials ≡ self.old.dials }
         ensures dialled { self.new.dialled ≡ self.old.dialled }
@@ -280,6 +280,7 @@ impl<'r, R: Wait + Sync> Plug for MainPlug<'r, R> {
             Err(Memory) => DialAnswer::Memory,
         }
     }
+
     /// Connects to the socket of a target. Failed where that fails, and for an Engine in memory, which has no stream: then a fault is
     /// counted. Memory only where there is none to keep what was asked for, or for the stream's patience.
     fn stream(&mut self, alloc: Global, target: &Target) -> DialAnswer<SocketPipe<'r>> {
