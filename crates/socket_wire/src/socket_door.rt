@@ -10,11 +10,15 @@ ghost use Rattle.socket_wire.specs.WiresOfSockets.{no_past};
 use crate::socket_pipe::SocketPipe;
 use outside_api::{DialAnswer, Door, Pipe};
 use std::alloc::Global;
-use std::os::unix::net::UnixListener;
+use std::fs;
+use std::io::ErrorKind;
+use std::os::unix::fs::FileTypeExt;
+use std::os::unix::net::{UnixListener, UnixStream};
 use tree_base::Text;
 
 /// A Unix socket at a path, on which the connections of peers are taken in turn. It tells nothing of what was said, and counts its
-/// faults: how often no connection could be taken. The socket's file stays when the door is gone.
+/// faults: how often no connection could be taken. The socket's file stays when the door is gone, and the next door at that path takes
+/// its place.
 #[derive(Drop)]
 pub struct SocketDoor<'r> {
     rt: &'r HostRuntime,
@@ -25,22 +29,21 @@ pub struct SocketDoor<'r> {
 }
 
 impl<'r> SocketDoor<'r> {
-    /// A door at a new socket with this path, which took no connection yet; None where the socket can't be made. No memory.
+    /// A door at a new socket with this path, which took no connection yet; None where the socket can't be made: the path is empty or
+    /// has more than 107 bytes, a file stands there that is no socket, or somebody listens there. No memory.
     pub fn open(rt: &'r HostRuntime, path: &Text) -> Option<SocketDoor<'r>>
         ensures dialled { IfSome result (λ door. taken door ≡ 0) }
         ensures torn { IfSome result (λ door. torn_of door ≡ 0) }
         ensures faults { IfSome result (λ door. failed_takings door ≡ 0) }
     {
-        match UnixListener::bind(rt, path.as_str()) {
-            Ok(listener) => Some(SocketDoor {
-                rt,
-                listener,
-                dialled: 0,
-                torn: 0,
-                failed: 0,
-            }),
-            Err(_) => None,
-        }
+        let listener = listen(rt, path.as_str())?;
+        Some(SocketDoor {
+            rt,
+            listener,
+            dialled: 0,
+            torn: 0,
+            failed: 0,
+        })
     }
 
     /// Whether no connection could be taken at some time. No memory.
@@ -109,5 +112,42 @@ impl<'r> Door for SocketDoor<'r> {
         if pipe.has_failed() {
             self.torn += 1;
         }
+    }
+}
+
+/// A new socket at a path that listens, also in place of one that was left there; None where it can't be made. No memory.
+fn listen(rt: &HostRuntime, path: &str) -> Option<UnixListener> {
+    if path.is_empty() {
+        // The system would give it a name that nobody knows.
+        return None;
+    }
+    match UnixListener::bind(rt, path) {
+        Ok(listener) => Some(listener),
+        Err(error) if error.kind() == ErrorKind::AddrInUse && is_left(rt, path) => {
+            fs::remove_file(rt, path).ok()?;
+            UnixListener::bind(rt, path).ok()
+        }
+        Err(_) => None,
+    }
+}
+
+/// Whether a socket stands at a path at which nobody listens, as where a run was killed. No memory.
+fn is_left(rt: &HostRuntime, path: &str) -> bool {
+    is_socket(rt, path) && refuses(rt, path)
+}
+
+/// Whether a socket stands at a path itself, and not behind a link. No memory.
+fn is_socket(rt: &HostRuntime, path: &str) -> bool {
+    match fs::symlink_metadata(rt, path) {
+        Ok(metadata) => metadata.file_type().is_socket(),
+        Err(_) => false,
+    }
+}
+
+/// Whether a connection to the socket at a path is refused since nobody listens there. No memory.
+fn refuses(rt: &HostRuntime, path: &str) -> bool {
+    match UnixStream::connect(rt, path) {
+        Ok(_) => false,
+        Err(error) => error.kind() == ErrorKind::ConnectionRefused,
     }
 }
