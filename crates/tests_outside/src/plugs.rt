@@ -3,11 +3,13 @@
 ghost use Rattle.std.specs.Prelude.{◌<◌, ◌^◌};
 ghost use Rattle.std.specs.Option.{ForSome};
 
+use crate::sockets::own_path;
 use engine_hand::SilentPlug;
 use engine_plugs::MainPlug;
 use engine_types::{Outcome, Request, WireEnd};
 use outside_api::{DialAnswer, Hand, Plug, Target};
 use std::alloc::Global;
+use std::fs;
 use std::test::Fail;
 use tree_base::Text;
 
@@ -54,6 +56,26 @@ fn the_hands_of_the_program_speak_with_their_targets(rt: HostRuntime) -> Result<
         &Target::InMemory,
     );
     assert_eq!(rt; outcome, "answered");
+    Ok(())
+}
+
+#[test]
+fn the_plug_of_the_program_opens_streams_to_a_door(rt: HostRuntime) -> Result<(), Fail> {
+    let alloc = rt.alloc();
+    let path = own_path(&rt, "compose-plug")?;
+    let target = Target::Socket(path.copy(alloc)?);
+    let mut plug = MainPlug::new(&rt, &rt, None, None);
+    let before = matches!(plug.stream(alloc, &target), DialAnswer::Failed);
+    let door = plug.door(alloc, &path);
+    let beside = matches!(plug.door(alloc, &path), DialAnswer::Failed);
+    let stream = plug.stream(alloc, &target);
+    let in_memory = matches!(plug.stream(alloc, &Target::InMemory), DialAnswer::Failed);
+    fs::remove_file(&rt, path.as_str())?;
+    assert!(rt; before, "where no socket is");
+    assert!(rt; matches!(door, DialAnswer::Dialled(_)));
+    assert!(rt; beside, "where a door is open");
+    assert!(rt; matches!(stream, DialAnswer::Dialled(_)));
+    assert!(rt; in_memory, "an Engine in memory has no stream");
     Ok(())
 }
 

@@ -1,7 +1,7 @@
-//! The wire over a Unix socket, with both of its ends in one thread.
+//! The wire over a Unix socket and the door at one, with both ends of a connection in one thread.
 
-use outside_api::{DialAnswer, Pipe, PipeAnswer, SinkAnswer, Wire};
-use socket_wire::{Patience, SocketPipe, SocketWire};
+use outside_api::{DialAnswer, Door, Pipe, PipeAnswer, SinkAnswer, Wire};
+use socket_wire::{Patience, SocketDoor, SocketPipe, SocketWire, connect};
 use std::alloc::Global;
 use std::io::{Read, Write};
 use std::os::unix::net::{UnixListener, UnixStream};
@@ -11,7 +11,7 @@ use std::{env, fs, process};
 use tree_base::{Memory, Text};
 
 /// A path among the temporary files that is this process's own.
-fn own_path(rt: &HostRuntime, name: &str) -> Result<Text, Fail> {
+pub(crate) fn own_path(rt: &HostRuntime, name: &str) -> Result<Text, Fail> {
     let alloc = rt.alloc();
     let name = format!(in alloc; "{name}-{}", process::id(rt.process()))?;
     let path = env::temp_dir(rt)?.join(alloc, name.as_str())?;
@@ -120,5 +120,70 @@ fn a_peer_that_says_nothing_is_left_where_patience_is_over(rt: HostRuntime) -> R
         "a minute after the system began"
     );
     assert!(rt; said == SinkAnswer::Took(3), "between two looks");
+    Ok(())
+}
+
+#[test]
+fn a_door_hears_its_peer_and_that_it_went_away(rt: HostRuntime) -> Result<(), Fail> {
+    let alloc = rt.alloc();
+    let path = own_path(&rt, "compose-door")?;
+    let Some(mut door) = SocketDoor::open(&rt, &path) else {
+        panic!(rt; "no door");
+    };
+    let peer = connect(&rt, &path, None, None);
+    let answer = door.accept(alloc);
+    let removed = fs::remove_file(&rt, path.as_str());
+    let (Some(peer), DialAnswer::Dialled(mut pipe)) = (peer, answer) else {
+        panic!(rt; "no connection");
+    };
+    let heard = hears_the_end(&mut pipe, peer);
+    let fails = pipe.write(b"answer") == SinkAnswer::Failed;
+    door.close(pipe);
+    let is_whole = !door.has_failed();
+    drop(door);
+    removed?;
+    assert!(rt; heard);
+    assert!(rt; fails, "where the peer is gone");
+    assert!(rt;
+        is_whole,
+        "a connection that failed is no fault of the door"
+    );
+    Ok(())
+}
+
+/// Whether a connection hears what its peer says, and then that it goes away.
+fn hears_the_end(pipe: &mut SocketPipe, mut peer: SocketPipe) -> bool {
+    let mut room = [0u8; 8];
+    let asked = peer.write(b"ask") == SinkAnswer::Took(3);
+    drop(peer);
+    let heard = pipe.read(&mut room) == PipeAnswer::Got(3) && &room[..3] == b"ask".as_slice();
+    asked && heard && pipe.read(&mut room) == PipeAnswer::Got(0)
+}
+
+#[test]
+fn a_door_takes_the_place_of_a_socket_that_was_left(rt: HostRuntime) -> Result<(), Fail> {
+    let path = own_path(&rt, "compose-left")?;
+    let first = SocketDoor::open(&rt, &path);
+    let is_open = first.is_some();
+    let is_taken = SocketDoor::open(&rt, &path).is_none();
+    drop(first);
+    let is_open_again = SocketDoor::open(&rt, &path).is_some();
+    fs::remove_file(&rt, path.as_str())?;
+    assert!(rt; is_open);
+    assert!(rt; is_taken, "where somebody listens");
+    assert!(rt; is_open_again, "where a socket was left");
+    Ok(())
+}
+
+#[test]
+fn a_door_leaves_what_is_no_socket(rt: HostRuntime) -> Result<(), Fail> {
+    let path = own_path(&rt, "compose-file")?;
+    fs::write(&rt, path.as_str(), b"kept")?;
+    let is_shut = SocketDoor::open(&rt, &path).is_none();
+    let there = fs::exists(&rt, path.as_str());
+    fs::remove_file(&rt, path.as_str())?;
+    assert!(rt; is_shut);
+    assert!(rt; there?);
+    assert!(rt; SocketDoor::open(&rt, &Text::new(rt.alloc())).is_none());
     Ok(())
 }
