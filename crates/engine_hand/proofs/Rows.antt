@@ -51,4 +51,4 @@ fits (Request.RemoveVolume name) Reply.Done h = tt
 fits (Request.Image name) (Reply.ImageId id) h = tt
 fits (Request.Pull name) Reply.Pulled h = tt
 fits (Request.Pull name) (Reply.PullFailed message) h = tt
-fits request reply h = absurd h
+fits request reply h = absurd (cc h)

@@ -50,24 +50,20 @@ impl MemoryPlug {
 
     /// The same, which gives the connections of a wire as its streams, in order. No memory.
     pub fn with_streams(self, alloc: Global, wire: MemoryWire) -> MemoryPlug
-        ensures engine { ⟦<MemoryPlug as Plug>⟧.engine result
-            ≡ ⟦<MemoryPlug as Plug>⟧.engine self.entry }
-        ensures dials { ⟦<MemoryPlug as Plug>⟧.dials result
-            ≡ ⟦<MemoryPlug as Plug>⟧.dials self.entry }
+        ensures engine { ⟦<MemoryPlug as Plug>⟧.engine result ≡ ⟦<MemoryPlug as Plug>⟧.engine self }
+        ensures dials { ⟦<MemoryPlug as Plug>⟧.dials result ≡ ⟦<MemoryPlug as Plug>⟧.dials self }
         ensures dialled { ⟦<MemoryPlug as Plug>⟧.dialled result
-            ≡ ⟦<MemoryPlug as Plug>⟧.dialled self.entry }
+            ≡ ⟦<MemoryPlug as Plug>⟧.dialled self }
         ensures streams { ⟦<MemoryPlug as Plug>⟧.streams result ≡ [] }
         ensures opened { ⟦<MemoryPlug as Plug>⟧.opened result
             ≡ ⟦<MemoryWire as Wire>⟧.dialled wire }
         ensures talks { ⟦<MemoryPlug as Plug>⟧.talks result ≡ ⟦<MemoryWire as Wire>⟧.past wire }
-        ensures doors { ⟦<MemoryPlug as Plug>⟧.doors result
-            ≡ ⟦<MemoryPlug as Plug>⟧.doors self.entry }
+        ensures doors { ⟦<MemoryPlug as Plug>⟧.doors result ≡ ⟦<MemoryPlug as Plug>⟧.doors self }
         ensures doors_opened { ⟦<MemoryPlug as Plug>⟧.doors_opened result
-            ≡ ⟦<MemoryPlug as Plug>⟧.doors_opened self.entry }
+            ≡ ⟦<MemoryPlug as Plug>⟧.doors_opened self }
         ensures received { ⟦<MemoryPlug as Plug>⟧.received result
-            ≡ ⟦<MemoryPlug as Plug>⟧.received self.entry }
-        ensures faults { ⟦<MemoryPlug as Plug>⟧.faults result
-            ≡ ⟦<MemoryPlug as Plug>⟧.faults self.entry }
+            ≡ ⟦<MemoryPlug as Plug>⟧.received self }
+        ensures faults { ⟦<MemoryPlug as Plug>⟧.faults result ≡ ⟦<MemoryPlug as Plug>⟧.faults self }
     {
         let mut plug = self;
         plug.streams = MemoryStreams::new(alloc, wire);
@@ -77,23 +73,18 @@ impl MemoryPlug {
     /// The same, which gives this door once, that took no connection yet. No memory.
     pub fn with_door(self, alloc: Global, door: MemoryDoor) -> MemoryPlug
         requires { IsNew door }
-        ensures engine { ⟦<MemoryPlug as Plug>⟧.engine result
-            ≡ ⟦<MemoryPlug as Plug>⟧.engine self.entry }
-        ensures dials { ⟦<MemoryPlug as Plug>⟧.dials result
-            ≡ ⟦<MemoryPlug as Plug>⟧.dials self.entry }
+        ensures engine { ⟦<MemoryPlug as Plug>⟧.engine result ≡ ⟦<MemoryPlug as Plug>⟧.engine self }
+        ensures dials { ⟦<MemoryPlug as Plug>⟧.dials result ≡ ⟦<MemoryPlug as Plug>⟧.dials self }
         ensures dialled { ⟦<MemoryPlug as Plug>⟧.dialled result
-            ≡ ⟦<MemoryPlug as Plug>⟧.dialled self.entry }
+            ≡ ⟦<MemoryPlug as Plug>⟧.dialled self }
         ensures streams { ⟦<MemoryPlug as Plug>⟧.streams result
-            ≡ ⟦<MemoryPlug as Plug>⟧.streams self.entry }
-        ensures opened { ⟦<MemoryPlug as Plug>⟧.opened result
-            ≡ ⟦<MemoryPlug as Plug>⟧.opened self.entry }
-        ensures talks { ⟦<MemoryPlug as Plug>⟧.talks result
-            ≡ ⟦<MemoryPlug as Plug>⟧.talks self.entry }
+            ≡ ⟦<MemoryPlug as Plug>⟧.streams self }
+        ensures opened { ⟦<MemoryPlug as Plug>⟧.opened result ≡ ⟦<MemoryPlug as Plug>⟧.opened self }
+        ensures talks { ⟦<MemoryPlug as Plug>⟧.talks result ≡ ⟦<MemoryPlug as Plug>⟧.talks self }
         ensures doors { ⟦<MemoryPlug as Plug>⟧.doors result ≡ [] }
         ensures doors_opened { ⟦<MemoryPlug as Plug>⟧.doors_opened result ≡ 0 }
         ensures received { ⟦<MemoryPlug as Plug>⟧.received result ≡ Some [] }
-        ensures faults { ⟦<MemoryPlug as Plug>⟧.faults result
-            ≡ ⟦<MemoryPlug as Plug>⟧.faults self.entry }
+        ensures faults { ⟦<MemoryPlug as Plug>⟧.faults result ≡ ⟦<MemoryPlug as Plug>⟧.faults self }
     {
         let mut plug = self;
         plug.doors = MemoryDoors::new(alloc, door);
