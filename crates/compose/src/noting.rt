@@ -6,7 +6,7 @@ use crate::reaching::Asked;
 use compose_cli::Ended;
 use compose_words::{Command, Options, read_words};
 use engine_plugs::MainHand;
-use hints::{looks_for_file, run_note, say_note, unread_note};
+use notes::{looks_for_file, run_note, say_note, unread_note};
 use outside_files::Sink;
 use progress_board::Progress;
 use std::alloc::Global;

@@ -1,7 +1,6 @@
 pub mod Attributes
 pub mod Lines
 pub mod Near
-pub mod Notes
 pub mod Requests
 pub mod Sockets
 pub mod Told

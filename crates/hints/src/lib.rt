@@ -3,14 +3,11 @@
 //! A word of the command line that is none is told, with a known one near it, as is an attribute that is none; the name of a
 //! container or network of which a request told the id, and who is still on a network; what is wrong with a socket. Contracts give
 //! each text exactly, by what words, paths, requests and the exchanges of a run are. There is no hint where nothing is known.
-//!
-//! Notes say, behind all lines of a call, what it left that its reader may not know of: a file that isn't read, containers that stay.
 #![tactic(auto)]
 
 mod attributes;
 mod line;
 mod near;
-mod notes;
 mod requests;
 mod sockets;
 mod told;
@@ -18,7 +15,6 @@ mod words;
 
 pub use attributes::attribute_hint;
 pub use line::{hint_line, say_hint};
-pub use notes::{looks_for_file, note_line, run_note, say_note, unread_note};
 pub use requests::request_hint;
 pub use sockets::{SocketState, socket_hint};
 pub use words::word_hint;

@@ -1,7 +1,0 @@
-use Rattle.std.proofs.Common.{◌≡◌, ◌++◌, take}
-use Rattle.std.specs.Prelude.{flat_map}
-use Rattle.hints.specs.Notes.{name_unknown}
-use Rattle.hints.proofs.notes.push_names.Given as goal
-
-abbrev pub invariant-loop-row : goal.invariant-loop-row
-invariant-loop-row l = l.names ≡ l.initial.names ++ flat_map (name_unknown l.removed) (take l.row-index l.rows)
