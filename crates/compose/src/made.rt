@@ -3,12 +3,13 @@ ghost use Rattle.asked_project.specs.Asking.{options_asked};
 ghost use Rattle.compose.specs.Ends.{IsStatusOf};
 
 use crate::hinting::say_hint_on;
-use crate::noting::say_notes_on;
+use crate::noting::{say_notes_on, says_notes};
 use crate::progress::board_of;
 use crate::reaching::Asked;
 use crate::seconds::wait_seconds;
 use compose_cli::Ended;
 use engine_plugs::MainPlug;
+use kept_files::KeptFiles;
 use outside_files::{DiskFiles, OutSink};
 use progress_board::{ClearedSink, another, clear};
 use repeated_runs::{Attempts, compose_main};
@@ -29,7 +30,9 @@ pub(crate) fn status_of_call<R: Threads + Wait + Sync>(
     ensures { IfErr (options_asked words.now variables.now) (λ refusal.
         IsStatusOf refusal result) }
 {
-    let mut files = DiskFiles::new(host.alloc(), host);
+    let files = DiskFiles::new(host.alloc(), host);
+    // What is read is kept where notes are said, since a pipe can't be read again.
+    let mut files = KeptFiles::new(host.alloc(), files, says_notes(host, variables));
     // Where memory is wanted for the words, the call itself says so.
     let seconds = wait_seconds(host.alloc(), words).unwrap_or(None);
     let board = board_of(host, variables);
@@ -63,7 +66,7 @@ pub(crate) fn status_of_call<R: Threads + Wait + Sync>(
         directory,
     };
     say_hint_on(host, asked, &last, &mut err);
-    say_notes_on(host, asked, &last, &mut err);
+    say_notes_on(host, asked, &last, files.into_kept(), &mut err);
     status_in(last)
 }
 

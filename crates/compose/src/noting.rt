@@ -1,17 +1,22 @@
 ghost use Rattle.std.specs.Prelude.{◌<◌, ◌^◌, length};
 
+use crate::again::{LoadedAgain, load_again, project_again, services_in, unset_names};
 use crate::hinting::exchanges_of;
 use crate::progress::progress_here;
 use crate::reaching::Asked;
 use compose_cli::Ended;
 use compose_words::{Command, Options, read_words};
 use engine_plugs::MainHand;
-use notes::{looks_for_file, run_note, say_note, unread_note};
+use kept_files::Kept;
+use notes::{
+    attribute_notes, looks_for_file, orphan_note, run_note, say_note, unread_note, unset_note,
+};
 use outside_files::Sink;
 use progress_board::Progress;
+use refusals::Refusal;
 use std::alloc::Global;
 use std::fs;
-use tree_base::{Memory, Text};
+use tree_base::{Env, Memory, Text};
 
 /// The names under which a project's file is looked for, where none is given.
 const DEFAULT_NAMES: [&str; 4] = [
@@ -29,27 +34,115 @@ const OVERRIDE_NAMES: [&str; 4] = [
     "docker-compose.override.yaml",
 ];
 
+/// Whether notes are said: where the program says what it is at.
+pub(crate) fn says_notes(host: &HostRuntime, variables: &Env) -> bool {
+    progress_here(host, variables) != Progress::Quiet
+}
+
 /// Writes notes behind all lines of a call, where it says what it is at. The call's status is what it is, whatever comes of them.
 pub(crate) fn say_notes_on<R, G: Sink>(
     host: &HostRuntime,
     asked: Asked<'_>,
     ended: &Ended<MainHand<'_, R>>,
+    kept: Option<Kept>,
     err: &mut G,
 )
     requires { length asked.words.now < 2 ^ 32 }
 {
-    if progress_here(host, asked.variables) == Progress::Quiet {
+    if !says_notes(host, asked.variables) {
         return;
     }
     let Ok(options) = read_words(host.alloc(), asked.words) else {
         return;
     };
-    if let Ok(Some(note)) = file_note(host, &options) {
-        say_note(host.alloc(), &note, err);
+    say_if_any(host.alloc(), file_note(host, &options), err);
+    if let Some(mut again) = loaded_again(host.alloc(), asked, &options, ended, kept) {
+        say_unset(host.alloc(), &mut again, err);
+        say_on_project(host.alloc(), &options, &again, ended, err);
     }
-    if let Ok(Some(note)) = note_behind(host.alloc(), &options.command, ended) {
-        say_note(host.alloc(), &note, err);
+    say_if_any(
+        host.alloc(),
+        note_behind(host.alloc(), &options.command, ended),
+        err,
+    );
+}
+
+fn say_if_any<G: Sink>(alloc: Global, note: Result<Option<Text>, Memory>, err: &mut G) {
+    if let Ok(Some(note)) = note {
+        say_note(alloc, &note, err);
     }
+}
+
+/// What the call loaded, once more, where all that it read is kept.
+fn loaded_again<R>(
+    alloc: Global,
+    asked: Asked<'_>,
+    options: &Options,
+    ended: &Ended<MainHand<'_, R>>,
+    kept: Option<Kept>,
+) -> Option<LoadedAgain> {
+    if !has_loaded(&ended.refusal) {
+        drop(kept);
+        return None;
+    }
+    load_again(alloc, asked, options, kept?)
+}
+
+/// Whether a call that was refused with this, if anything, has loaded its files.
+fn has_loaded(refusal: &Option<Refusal>) -> bool {
+    match refusal {
+        Some(Refusal::Words(_) | Refusal::NotBuilt(_) | Refusal::Load(_) | Refusal::Memory) => {
+            false
+        }
+        _ => true,
+    }
+}
+
+/// Writes a note on each variable that is unset and has no default.
+fn say_unset<G: Sink>(alloc: Global, again: &mut LoadedAgain, err: &mut G) {
+    let Ok(names) = unset_names(alloc, again) else {
+        return;
+    };
+    for name in names.keys() {
+        if let Ok(note) = unset_note(alloc, name) {
+            say_note(alloc, &note, err);
+        }
+    }
+}
+
+/// Writes notes on attributes that have no effect, and on orphans that stay.
+fn say_on_project<R, G: Sink>(
+    alloc: Global,
+    options: &Options,
+    again: &LoadedAgain,
+    ended: &Ended<MainHand<'_, R>>,
+    err: &mut G,
+) {
+    let Some(project) = project_again(alloc, options, &again.loaded) else {
+        return;
+    };
+    if let Ok(notes) = attribute_notes(alloc, project.services.as_slice()) {
+        for note in notes.as_slice() {
+            say_note(alloc, note, err);
+        }
+    }
+    let note = left_by_up(alloc, &options.command, &project.name, again, ended);
+    say_if_any(alloc, note, err);
+}
+
+/// The note on orphans that an `up` left.
+fn left_by_up<R>(
+    alloc: Global,
+    command: &Command,
+    project: &Text,
+    again: &LoadedAgain,
+    ended: &Ended<MainHand<'_, R>>,
+) -> Result<Option<Text>, Memory> {
+    let Some(services) = services_in(&again.loaded.tree) else {
+        return Ok(None);
+    };
+    let exchanges = exchanges_of(alloc, ended.hands.as_slice())?;
+    orphan_note(alloc, command, project, services, exchanges.as_slice())
 }
 
 /// The note on a file beside the default one, where the call looks for that one.
