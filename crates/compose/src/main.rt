@@ -18,6 +18,7 @@ mod process;
 mod progress;
 mod reaching;
 mod seconds;
+mod volumes;
 
 ghost use Rattle.std.specs.Prelude.{◌<◌, ◌^◌, length};
 

@@ -4,6 +4,7 @@ use crate::again::{LoadedAgain, load_again, project_again, services_in, unset_na
 use crate::hinting::exchanges_of;
 use crate::progress::progress_here;
 use crate::reaching::Asked;
+use crate::volumes::note_on_volumes;
 use compose_cli::Ended;
 use compose_words::{Command, Options, read_words};
 use engine_plugs::MainHand;
@@ -58,7 +59,7 @@ pub(crate) fn say_notes_on<R, G: Sink>(
     say_if_any(host.alloc(), file_note(host, &options), err);
     if let Some(mut again) = loaded_again(host.alloc(), asked, &options, ended, kept) {
         say_unset(host.alloc(), &mut again, err);
-        say_on_project(host.alloc(), &options, &again, ended, err);
+        say_on_project(host, asked, &options, &again, ended, err);
     }
     say_if_any(
         host.alloc(),
@@ -110,14 +111,18 @@ fn say_unset<G: Sink>(alloc: Global, again: &mut LoadedAgain, err: &mut G) {
     }
 }
 
-/// Writes notes on attributes that have no effect, and on orphans that stay.
+/// Writes notes on attributes that have no effect, on orphans that stay, and behind a run that ended well on volumes of others.
 fn say_on_project<R, G: Sink>(
-    alloc: Global,
+    host: &HostRuntime,
+    asked: Asked<'_>,
     options: &Options,
     again: &LoadedAgain,
     ended: &Ended<MainHand<'_, R>>,
     err: &mut G,
-) {
+)
+    requires { length asked.words.now < 2 ^ 32 }
+{
+    let alloc = host.alloc();
     let Some(project) = project_again(alloc, options, &again.loaded) else {
         return;
     };
@@ -128,6 +133,10 @@ fn say_on_project<R, G: Sink>(
     }
     let note = left_by_up(alloc, &options.command, &project.name, again, ended);
     say_if_any(alloc, note, err);
+    if ended.refusal.is_none() {
+        let note = note_on_volumes(host, asked, &options.command, &project);
+        say_if_any(alloc, note, err);
+    }
 }
 
 /// The note on orphans that an `up` left.

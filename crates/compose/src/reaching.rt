@@ -46,7 +46,7 @@ pub(crate) fn unheard_socket(
 }
 
 /// The Engine that words and variables ask for, where they ask for one.
-fn target_of(
+pub(crate) fn target_of(
     alloc: Global,
     words: &List<Text>,
     variables: &Env,
