@@ -2,3 +2,5 @@ mod Served
 mod Observed
 mod Next
 mod OneJournal
+mod MemoryRules
+mod OneVolume

@@ -1,2 +1,4 @@
 pub mod Allowed
 pub mod Laws
+pub mod MemoryRules
+pub mod OneVolume

@@ -5,4 +5,4 @@
 
 mod laws;
 
-pub use laws::one_journal;
+pub use laws::{memory_is_determined, one_journal, volume_comes_up};
