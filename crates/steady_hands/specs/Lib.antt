@@ -1,0 +1,3 @@
+pub mod LoneHands
+pub mod Steady
+pub mod SteadyHands
