@@ -1,0 +1,11 @@
+pub mod Exchanging
+pub mod Faults
+pub mod Gathering
+pub mod Going
+pub mod Lines
+pub mod Meeting
+pub mod Others
+pub mod PartEntries
+pub mod Refusals
+pub mod Seating
+pub mod TaskLists

@@ -1,0 +1,10 @@
+pub mod Adding
+pub mod Crew
+pub mod Ending
+pub mod Fetching
+pub mod Laws
+pub mod Listing
+pub mod Logged
+pub mod Met
+pub mod Refusing
+pub mod Slots
