@@ -2,6 +2,7 @@
 use Rattle.std.proofs.Common.{◌≡◌, ◌∙◌, ℕ, zero, suc, ◌+◌, ◌%◌, ◌<◌, ◌≤◌, ◌==◌, Bool, true, false, not, List, [], ◌∷◌, ◌++◌, Option, Some, None, Result, Ok, Err, drop, get_or, length, map, refl, sym, ap, subst, inl, inr, take, append_assoc, arith}
 use Rattle.std.proofs.lemmas.List.{append-nil, drop_all, length-map, take_all}
 use Rattle.std.specs.Prelude.{◌||◌, IfSome}
+use mathlib.Core.List.{IsPrefix}
 use Rattle.engine_types.specs.declared.Declared.{Declared}
 use Rattle.engine_types.specs.declared.Listed.{Listed}
 use Rattle.tree_base.specs.Limits.{most_log_slots, most_workers}
@@ -24,6 +25,7 @@ use Rattle.logs_run.specs.Refusing.{IsLeastFault, RefusedBy}
 use Rattle.logs_run.specs.Slots.{AreAscending, own_tasks, tasks}
 use Rattle.logs_run.proofs.Exchanging.{log_still}
 use Rattle.logs_run.proofs.Faults.{first_least, least_append, slots_of}
+use Rattle.logs_run.proofs.Going.{all_later}
 use Rattle.logs_run.proofs.TaskLists.{ascend_some, below_slots, each_append, each_filter, each_one, tasks_ascend}
 
 or_assoc : (a b c : Bool) → ((a || b) || c) ≡ (a || (b || c))
@@ -48,9 +50,9 @@ ascend_first [] ys h = tt
 ascend_first (x ∷ xs) ys (one, more) = (each_one (λ (t : Task). x.slot < t.slot) xs ys one, ascend_first xs ys more)
 
 -- the fetches of a worker are of its first tasks
-pub fetched_first : (P : List Task → Type 0) (w workers : ℕ) (all : List Task) (short : Bool) (mine : List LogEntry) (a b : Account) (h : HasFetched w (own_tasks workers w all) short mine a b)
+pub fetched_first : (P : List Task → Type 0) (history : List LogEntry) (w workers : ℕ) (all : List Task) (short : Bool) (mine : List LogEntry) (a b : Account) (h : HasFetched history w (own_tasks workers w all) short mine a b)
     → ((xs ys : List Task) → P (xs ++ ys) → P xs) → P (own_tasks workers w all) → P (slots_of h.fetches)
-fetched_first P w workers all short mine a b h first own_has = first (slots_of h.fetches) h.asked.0 (subst P (sym h.asked.1) own_has)
+fetched_first P history w workers all short mine a b h first own_has = first (slots_of h.fetches) h.asked.0 (subst P (sym h.asked.1) own_has)
 
 -- a member as it was seated, and what it has fetched
 pub record HasServed (turns : Opened Book) (all : List Task) (workers n : ℕ) (old new : Seat) (met : Met) (before after : Account) : Type 0 where
@@ -83,16 +85,16 @@ slots_append (x ∷ xs) ys = ap (λ (l : List Task). x.task ∷ l) (slots_append
 
 more_gathered : (turns : Opened Book) (all : List Task) (workers slots n : ℕ) (entries : List LogEntry) (old new : Seat) (met : Met) (before after : Account) (olds news : List Account) (mets : List Met)
     → AreAscending all → Each (λ (t : Task). t.slot < slots) all → HasServed turns all workers n old new met before after
-    → own (λ e. e.worker) new.view.number entries ≡ new.view.mine → HaveGathered all workers slots (n + 1) entries olds news mets
+    → IsPrefix new.view.seen entries → own (λ e. e.worker) new.view.number entries ≡ new.view.mine → HaveGathered all workers slots (n + 1) entries olds news mets
     → HaveGathered all workers slots n entries (before ∷ olds) (after ∷ news) (met ∷ mets)
-more_gathered turns all workers slots n entries old new met before after olds news mets asc below served mine r = record {
+more_gathered turns all workers slots n entries old new met before after olds news mets asc below served seen mine r = record {
   fetches = served.fetched.fetched.fetches ++ r.fetches;
   short = met.short || r.short;
   fetched = (met.short, r.short, r.fetches, done, r.fetched, refl, refl);
   is_short = λ m. r.is_short (both m met) ∙ or_assoc m.short met.short r.short;
   within = subst (λ (l : List Task). Each (λ (t : Task). t.slot < slots) l) (slots_append served.fetched.fetched.fetches r.fetches)
       (each_append (λ (t : Task). t.slot < slots) (slots_of served.fetched.fetched.fetches) (slots_of r.fetches)
-      (fetched_first (λ ts. Each (λ (t : Task). t.slot < slots) ts) n workers all met.short new.view.mine before after served.fetched.fetched (each_one (λ (t : Task). t.slot < slots))
+      (fetched_first (λ ts. Each (λ (t : Task). t.slot < slots) ts) new.view.seen n workers all met.short new.view.mine before after served.fetched.fetched (each_one (λ (t : Task). t.slot < slots))
       (each_filter (λ (t : Task). t.slot < slots) (λ (t : Task). t.slot % workers == n) all below)) r.within);
   least = λ m fs calm_all h.
       subst (λ (l : List Fetch). IsLeastFault l (met_with (both m met) mets).fault) (append_assoc fs served.fetched.fetched.fetches r.fetches)
@@ -102,9 +104,9 @@ more_gathered turns all workers slots n entries old new met before after olds ne
 }
   where
     ascend : AreAscending (slots_of served.fetched.fetched.fetches)
-    ascend = fetched_first (λ ts. AreAscending ts) n workers all met.short new.view.mine before after served.fetched.fetched ascend_first (ascend_some (λ (t : Task). t.slot % workers == n) all asc)
+    ascend = fetched_first (λ ts. AreAscending ts) new.view.seen n workers all met.short new.view.mine before after served.fetched.fetched ascend_first (ascend_some (λ (t : Task). t.slot % workers == n) all asc)
 
-    done : HasFetched n (own_tasks workers n all) met.short (own (λ e. e.worker) n entries) before after
+    done : HasFetched entries n (own_tasks workers n all) met.short (own (λ e. e.worker) n entries) before after
     done = record {
       fetches = served.fetched.fetched.fetches;
       asked = served.fetched.fetched.asked;
@@ -112,8 +114,9 @@ more_gathered turns all workers slots n entries old new met before after olds ne
       sent = served.fetched.fetched.sent;
       log = served.fetched.fetched.log;
       caused = served.fetched.fetched.caused;
-      left = subst (λ (l : List LogEntry). AllLeave n (not met.short) served.fetched.fetched.fetches l)
-          (sym (ap (λ (k : ℕ). own (λ e. e.worker) k entries) (sym (served.fetched.number ∙ served.number)) ∙ mine)) served.fetched.fetched.left;
+      left = subst (λ (l : List LogEntry). AllLeave entries n (not met.short) served.fetched.fetched.fetches l)
+          (sym (ap (λ (k : ℕ). own (λ e. e.worker) k entries) (sym (served.fetched.number ∙ served.number)) ∙ mine))
+          (all_later new.view.seen entries n (not met.short) served.fetched.fetched.fetches new.view.mine seen served.fetched.fetched.left);
     }
 
 -- the least fault is of a slot that was asked for
@@ -215,15 +218,16 @@ module _ {M H : Type 0} (seat : M → Seat) (hand : M → H) (met : M → Met) (
       subst (λ (j : ℕ). HasFetchedAs turns all workers j (seat x) (seat y) (met y) (tell (hand x)) (tell (hand y))) (let here : n + 0 ≡ n = omega arith in here) (have 0 x (omega arith))
 
   pub gathered : (turns : Opened Book) (all : List Task) (workers slots n : ℕ) (entries : List LogEntry) (xs ys : List M) → length ys ≡ length xs → AreAscending all → Each (λ (t : Task). t.slot < slots) all
-      → AreLined turns n (map seat xs) → HaveAll turns all workers n xs ys → Each (λ (s : Seat). own (λ e. e.worker) s.view.number entries ≡ s.view.mine) (map seat ys)
+      → AreLined turns n (map seat xs) → HaveAll turns all workers n xs ys → Each (λ (s : Seat). IsPrefix s.view.seen entries) (map seat ys)
+      → Each (λ (s : Seat). own (λ e. e.worker) s.view.number entries ≡ s.view.mine) (map seat ys)
       → HaveGathered all workers slots n entries (map tell (map hand xs)) (map tell (map hand ys)) (map met ys)
-  gathered turns all workers slots n entries [] [] same asc below lined have mine = none_gathered all workers slots n entries
-  gathered turns all workers slots n entries [] (y ∷ ys) same asc below lined have mine = absurd (omega (arith, same))
-  gathered turns all workers slots n entries (x ∷ xs) [] same asc below lined have mine = absurd (omega (arith, same))
-  gathered turns all workers slots n entries (x ∷ xs) (y ∷ ys) same asc below lined have mine =
+  gathered turns all workers slots n entries [] [] same asc below lined have seen mine = none_gathered all workers slots n entries
+  gathered turns all workers slots n entries [] (y ∷ ys) same asc below lined have seen mine = absurd (omega (arith, same))
+  gathered turns all workers slots n entries (x ∷ xs) [] same asc below lined have seen mine = absurd (omega (arith, same))
+  gathered turns all workers slots n entries (x ∷ xs) (y ∷ ys) same asc below lined have seen mine =
       more_gathered turns all workers slots n entries (seat x) (seat y) (met y) (tell (hand x)) (tell (hand y)) (map tell (map hand xs)) (map tell (map hand ys)) (map met ys) asc below
-      (record { plain = lined.0; number = lined.1; fetched = here_first turns all workers n x y xs ys have }) mine.0
-      (gathered turns all workers slots (n + 1) entries xs ys (omega (arith, same)) asc below lined.2 (later turns all workers n x y xs ys have) mine.1)
+      (record { plain = lined.0; number = lined.1; fetched = here_first turns all workers n x y xs ys have }) seen.0 mine.0
+      (gathered turns all workers slots (n + 1) entries xs ys (omega (arith, same)) asc below lined.2 (later turns all workers n x y xs ys have) seen.1 mine.1)
 
   -- the seats are lined up as before
   pub lined_still : (turns : Opened Book) (all : List Task) (workers n : ℕ) (xs ys : List M) → length ys ≡ length xs → AreLined turns n (map seat xs) → HaveAll turns all workers n xs ys → AreLined turns n (map seat ys)
@@ -272,10 +276,14 @@ module _ {M H : Type 0} (seat : M → Seat) (hand : M → H) (met : M → Met) (
       → HaveGathered (tasks declared rows) (length slice) (length declared.slots) 0 book.entries (map tell (map hand xs)) (map tell (map hand ws)) (map met ws)
   gathered_here turns declared rows xs slice ws ys book olds same long filled object lined have ended =
       gathered turns (tasks declared rows) (length slice) (length declared.slots) 0 book.entries xs ws (long ∙ ap (λ (l : List M). length l) same) (tasks_ascend declared rows) (below_slots declared rows) lined
-      (subst (λ (l : List M). HaveAll turns (tasks declared rows) (length slice) 0 l ws) same (from_first turns (tasks declared rows) (length slice) slice ws have)) mine
+      (subst (λ (l : List M). HaveAll turns (tasks declared rows) (length slice) 0 l ws) same (from_first turns (tasks declared rows) (length slice) slice ws have)) seen mine
     where
       entries_are : book.entries ≡ ended.history
       entries_are = ended.entries ∙ ap (λ (b : Book). b.entries ++ ended.history) object
+
+      seen : Each (λ (s : Seat). IsPrefix s.view.seen book.entries) (map seat ws)
+      seen = subst (λ (es : List LogEntry). Each (λ (s : Seat). IsPrefix s.view.seen es) (map seat ws)) (sym entries_are)
+          (subst (λ (l : List M). Each (λ (s : Seat). IsPrefix s.view.seen ended.history) (map seat l)) filled ended.begins)
 
       mine : Each (λ (s : Seat). own (λ e. e.worker) s.view.number book.entries ≡ s.view.mine) (map seat ws)
       mine = subst (λ (es : List LogEntry). Each (λ (s : Seat). own (λ e. e.worker) s.view.number es ≡ s.view.mine) (map seat ws)) (sym entries_are)

@@ -25,6 +25,7 @@ use Rattle.logs_run.specs.Fetching.{AllLeave, Fetch, Leaves, exchange_of, is_who
 use Rattle.logs_run.specs.Met.{HasFetchedAs, IsFirstFault, MayFetch, Meets, Notes}
 use Rattle.logs_run.specs.Slots.{AreAscending, own_tasks}
 use Rattle.logs_run.proofs.Exchanging.{grows_append, grows_one, log_still}
+use Rattle.logs_run.proofs.PartEntries.{parts_more}
 use Rattle.logs_run.proofs.TaskLists.{each_filter, each_map, left_from, less_before, own_less, own_more, taken_next}
 
 -- tasks were fetched up to a place, all whole
@@ -39,7 +40,7 @@ pub record HasFetchedTo (turns : Opened Book) (all : List Task) (workers w i : �
   pub sent : list_all (λ (f : Fetch). not (is_memory f.outcome)) fetches ≡ true
   pub log : GrowsBy (map exchange_of fetches) before.log after.log
   pub caused : AreCaused (map exchange_of fetches) before after
-  pub leaves : AllLeave w true fetches new.view.mine
+  pub leaves : AllLeave new.view.seen w true fetches new.view.mine
   pub going : met.short ≡ false
   pub fault : IsFirstFault fetches met.fault
 
@@ -68,13 +69,26 @@ pub none_of : (w n slot : ℕ) (es : List LogEntry) → (n ≡ slot → ⊥) →
 none_of w n slot [] other h = refl
 none_of w n slot (e ∷ es) other (one, more) = none_in e slot (of_container slot es) (λ same. other (sym one.1 ∙ same)) (none_of w n slot es other more)
 
-pub none_left : (w slot : ℕ) (last : Bool) (fetches : List Fetch) (es : List LogEntry) → Each (λ (f : Fetch). f.task.slot ≡ slot → ⊥) fetches → AllLeave w last fetches es → of_container slot es ≡ []
-none_left w slot last [] es others h = ap (λ (l : List LogEntry). of_container slot l) h
-none_left w slot last (f ∷ fs) es (one, more) (first, rest, is, leaves, behind) =
+pub none_left : (history : List LogEntry) (w slot : ℕ) (last : Bool) (fetches : List Fetch) (es : List LogEntry) → Each (λ (f : Fetch). f.task.slot ≡ slot → ⊥) fetches → AllLeave history w last fetches es → of_container slot es ≡ []
+none_left history w slot last [] es others h = ap (λ (l : List LogEntry). of_container slot l) h
+none_left history w slot last (f ∷ fs) es (one, more) (first, rest, is, leaves, behind) =
     ap (λ (l : List LogEntry). of_container slot l) is
     ∙ filter-append (λ (e : LogEntry). e.container == slot) first rest
     ∙ ap (λ (l : List LogEntry). l ++ of_container slot rest) (none_of w f.task.slot slot first one leaves.own)
-    ∙ none_left w slot last fs rest more behind
+    ∙ none_left history w slot last fs rest more behind
+
+-- what is left stays so in a history that goes on
+leaves_later : (history more : List LogEntry) (w : ℕ) (whole : Bool) (f : Fetch) (es : List LogEntry) → IsPrefix history more → Leaves history w whole f es → Leaves more w whole f es
+leaves_later history more w whole f es goes l = record {
+  own = l.own;
+  framed = λ bytes frames is. let found = l.framed bytes frames is in (found.0, parts_more history more w f.task.slot found.0 es goes found.1, found.2, found.3);
+  unframed = l.unframed;
+}
+
+pub all_later : (history more : List LogEntry) (w : ℕ) (last : Bool) (fs : List Fetch) (es : List LogEntry) → IsPrefix history more → AllLeave history w last fs es → AllLeave more w last fs es
+all_later history more w last [] es goes h = h
+all_later history more w last (f ∷ fs) es goes (first, rest, is, leaves, behind) =
+    (first, rest, is, leaves_later history more w (is_whole last fs) f first goes leaves, all_later history more w last fs rest goes behind)
 
 whole_true : (fs : List Fetch) → is_whole true fs ≡ true
 whole_true [] = refl
@@ -84,14 +98,14 @@ whole_behind : (last : Bool) (fs : List Fetch) (f : Fetch) → is_whole last (fs
 whole_behind last [] f = refl
 whole_behind last (g ∷ fs) f = refl
 
-leave_more : (w : ℕ) (last : Bool) (fs : List Fetch) (f : Fetch) (es added : List LogEntry) → AllLeave w true fs es → Leaves w last f added → AllLeave w last (fs ++ f ∷ []) (es ++ added)
-leave_more w last [] f es added none leaves = (added, [], ap (λ (l : List LogEntry). l ++ added) none ∙ sym (append-nil added), leaves, refl)
-leave_more w last (g ∷ fs) f es added (first, rest, is, one, more) leaves = (
+leave_more : (history : List LogEntry) (w : ℕ) (last : Bool) (fs : List Fetch) (f : Fetch) (es added : List LogEntry) → AllLeave history w true fs es → Leaves history w last f added → AllLeave history w last (fs ++ f ∷ []) (es ++ added)
+leave_more history w last [] f es added none leaves = (added, [], ap (λ (l : List LogEntry). l ++ added) none ∙ sym (append-nil added), leaves, refl)
+leave_more history w last (g ∷ fs) f es added (first, rest, is, one, more) leaves = (
   first,
   rest ++ added,
   ap (λ (l : List LogEntry). l ++ added) is ∙ append_assoc first rest added,
-  subst (λ (t : Bool). Leaves w t g first) (whole_true fs ∙ sym (whole_behind last fs f)) one,
-  leave_more w last fs f rest added more leaves,
+  subst (λ (t : Bool). Leaves history w t g first) (whole_true fs ∙ sym (whole_behind last fs f)) one,
+  leave_more history w last fs f rest added more leaves,
 )
 
 first_stays : (fs : List Fetch) (f : Fetch) (x : Fault) → IsFirstFault fs (Some x) → IsFirstFault (fs ++ f ∷ []) (Some x)
@@ -151,7 +165,7 @@ module _ (turns : Opened Book) (all : List Task) (workers w i : ℕ) (task : Tas
         let less = less_before (take i all) (drop (i + 1) all) task (subst (λ (l : List Task). AreAscending l) whole_is ascend) in
         let some = each_filter (λ (t : Task). t.slot < task.slot) (λ (t : Task). t.slot % workers == w) (take i all) less in
         let tasks_less = subst (λ (l : List Task). Each (λ (t : Task). t.slot < task.slot) l) (sym was.asked) some in
-        none_left w task.slot true was.fetches seat.view.mine
+        none_left seat.view.seen w task.slot true was.fetches seat.view.mine
         (others was.fetches (each_map (λ (t : Task). t.slot < task.slot) (λ (f : Fetch). f.task) was.fetches tasks_less)) was.leaves
       where
         others : (fs : List Fetch) → Each (λ (f : Fetch). f.task.slot < task.slot) fs → Each (λ (f : Fetch). f.task.slot ≡ task.slot → ⊥) fs
@@ -180,9 +194,11 @@ module _ (turns : Opened Book) (all : List Task) (workers w i : ℕ) (task : Tas
       caused_is = subst (λ (l : List Exchange). AreCaused l a c) (sym exchanges_are)
           (caused-append (map exchange_of was.fetches) (exchange_of meets.fetch ∷ []) a b c was.caused (caused-one (exchange_of meets.fetch) b c meets.caused))
 
-      leaves_are : (last : Bool) → Leaves seat.view.number last meets.fetch meets.added → AllLeave w last (was.fetches ++ meets.fetch ∷ []) new.view.mine
-      leaves_are last leaves = subst (λ (l : List LogEntry). AllLeave w last (was.fetches ++ meets.fetch ∷ []) l) (sym meets.grows.mine)
-          (leave_more w last was.fetches meets.fetch seat.view.mine meets.added was.leaves (subst (λ (n : ℕ). Leaves n last meets.fetch meets.added) (was.number ∙ was.own) leaves))
+      leaves_are : (last : Bool) → Leaves new.view.seen seat.view.number last meets.fetch meets.added → AllLeave new.view.seen w last (was.fetches ++ meets.fetch ∷ []) new.view.mine
+      leaves_are last leaves = subst (λ (l : List LogEntry). AllLeave new.view.seen w last (was.fetches ++ meets.fetch ∷ []) l) (sym meets.grows.mine)
+          (leave_more new.view.seen w last was.fetches meets.fetch seat.view.mine meets.added
+          (all_later seat.view.seen new.view.seen w true was.fetches seat.view.mine meets.grows.seen was.leaves)
+          (subst (λ (n : ℕ). Leaves new.view.seen n last meets.fetch meets.added) (was.number ∙ was.own) leaves))
 
       -- the task was fetched whole
       pub goes_past : met_new.short ≡ false → HasFetchedTo turns all workers w (i + 1) old new met_new a c
@@ -197,7 +213,7 @@ module _ (turns : Opened Book) (all : List Task) (workers w i : ℕ) (task : Tas
         sent = list_all-append (λ (f : Fetch). not (is_memory f.outcome)) was.fetches (meets.fetch ∷ []) ∙ rw (was.sent, meets.sent going) refl;
         log = log_is;
         caused = caused_is;
-        leaves = leaves_are true (subst (λ (t : Bool). Leaves seat.view.number t meets.fetch meets.added) (sym (still_whole met_new.short going)) meets.leaves);
+        leaves = leaves_are true (subst (λ (t : Bool). Leaves new.view.seen seat.view.number t meets.fetch meets.added) (sym (still_whole met_new.short going)) meets.leaves);
         going = going;
         fault = first_more was.fetches meets.fetch met.fault met_new.fault was.fault (meets.noted going);
       }
@@ -246,7 +262,7 @@ ends_whole turns all workers w i old new met a b past was = record {
     sent = λ h. was.sent;
     log = was.log;
     caused = was.caused;
-    left = subst (λ (t : Bool). AllLeave w t was.fetches new.view.mine) (still_whole met.short was.going) was.leaves;
+    left = subst (λ (t : Bool). AllLeave new.view.seen w t was.fetches new.view.mine) (still_whole met.short was.going) was.leaves;
   };
   fault = λ h. was.fault;
 }

@@ -37,22 +37,22 @@ same_bytes : (outcome : Outcome) (xs ys : List ℕ) → bytes_told outcome ≡ S
 same_bytes outcome xs ys a b = let same : Some xs ≡ Some ys = sym a ∙ b in cc
 
 -- a fetch that left nothing, and isn't whole
-leaves_none : (w : ℕ) (fetch : Fetch) → Leaves w false fetch []
-leaves_none w fetch = record {
+leaves_none : (history : List LogEntry) (w : ℕ) (fetch : Fetch) → Leaves history w false fetch []
+leaves_none history w fetch = record {
   own = tt;
   framed = λ bytes frames is. ([], tt, (entries begun bytes fetch.task.slot (parts_of frames), refl), λ h. absurd cc);
   unframed = λ h. refl;
 }
 
 -- a fetch whose bytes are no frames leaves nothing
-leaves_bare : (w : ℕ) (whole : Bool) (fetch : Fetch) → ((bytes : List ℕ) (frames : List Frame) → IsFramed fetch bytes frames → ⊥) → Leaves w whole fetch []
-leaves_bare w whole fetch bare = record { own = tt; framed = λ bytes frames is. absurd (bare bytes frames is); unframed = λ h. refl }
+leaves_bare : (history : List LogEntry) (w : ℕ) (whole : Bool) (fetch : Fetch) → ((bytes : List ℕ) (frames : List Frame) → IsFramed fetch bytes frames → ⊥) → Leaves history w whole fetch []
+leaves_bare history w whole fetch bare = record { own = tt; framed = λ bytes frames is. absurd (bare bytes frames is); unframed = λ h. refl }
 
 -- the fetch of an outcome
 abbrev fetch_of : Task → Outcome → Fetch
 fetch_of task outcome = record { task = task; outcome = outcome }
 
-module _ (w : ℕ) (task : Task) (outcome : Outcome) (bytes : List ℕ) (told : bytes_told outcome ≡ Some bytes) where
+module _ (history : List LogEntry) (w : ℕ) (task : Task) (outcome : Outcome) (bytes : List ℕ) (told : bytes_told outcome ≡ Some bytes) where
   framed_so : (P : List ℕ → List Frame → Type 0) (frames : List Frame) → IsReply bytes frames → P bytes frames → (others : List ℕ) (gs : List Frame) → IsFramed (fetch_of task outcome) others gs → P others gs
   framed_so P frames reply h others gs is =
       let same : bytes ≡ others = same_bytes outcome bytes others told is.told in
@@ -60,20 +60,20 @@ module _ (w : ℕ) (task : Task) (outcome : Outcome) (bytes : List ℕ) (told : 
       subst (λ (b : List ℕ). P b gs) same (subst (λ (f : List Frame). P bytes f) fs h)
 
   -- of a reply that is frames all parts
-  leaves_all : (frames : List Frame) (added : List LogEntry) → IsReply bytes frames → AreParts w task.slot (entries begun bytes task.slot (parts_of frames)) added → Leaves w true (fetch_of task outcome) added
+  leaves_all : (frames : List Frame) (added : List LogEntry) → IsReply bytes frames → AreParts history w task.slot (entries begun bytes task.slot (parts_of frames)) added → Leaves history w true (fetch_of task outcome) added
   leaves_all frames added reply are = record {
-    own = parts_own w task.slot (entries begun bytes task.slot (parts_of frames)) added are;
-    framed = framed_so (λ b fs. (parts : List (List LogLine)) × AreParts w task.slot parts added × IsPrefix parts (entries begun b task.slot (parts_of fs)) × (true ≡ true → parts ≡ entries begun b task.slot (parts_of fs)))
+    own = parts_own history w task.slot (entries begun bytes task.slot (parts_of frames)) added are;
+    framed = framed_so (λ b fs. (parts : List (List LogLine)) × AreParts history w task.slot parts added × IsPrefix parts (entries begun b task.slot (parts_of fs)) × (true ≡ true → parts ≡ entries begun b task.slot (parts_of fs)))
         frames reply (entries begun bytes task.slot (parts_of frames), are, prefix_self (entries begun bytes task.slot (parts_of frames)), λ h. refl);
     unframed = λ h. absurd (h bytes frames (record { told = told; reply = reply }));
   }
 
   -- or the first ones
-  leaves_some : (frames : List Frame) (parts : List (List LogLine)) (added : List LogEntry) → IsReply bytes frames → AreParts w task.slot parts added
-      → IsPrefix parts (entries begun bytes task.slot (parts_of frames)) → Leaves w false (fetch_of task outcome) added
+  leaves_some : (frames : List Frame) (parts : List (List LogLine)) (added : List LogEntry) → IsReply bytes frames → AreParts history w task.slot parts added
+      → IsPrefix parts (entries begun bytes task.slot (parts_of frames)) → Leaves history w false (fetch_of task outcome) added
   leaves_some frames parts added reply are first = record {
-    own = parts_own w task.slot parts added are;
-    framed = framed_so (λ b fs. (ps : List (List LogLine)) × AreParts w task.slot ps added × IsPrefix ps (entries begun b task.slot (parts_of fs)) × (false ≡ true → ps ≡ entries begun b task.slot (parts_of fs)))
+    own = parts_own history w task.slot parts added are;
+    framed = framed_so (λ b fs. (ps : List (List LogLine)) × AreParts history w task.slot ps added × IsPrefix ps (entries begun b task.slot (parts_of fs)) × (false ≡ true → ps ≡ entries begun b task.slot (parts_of fs)))
         frames reply (parts, are, first, λ h. absurd cc);
     unframed = λ h. absurd (h bytes frames (record { told = told; reply = reply }));
   }
@@ -109,9 +109,9 @@ module _ (task : Task) (old new : Met) (going : old.short ≡ false) (v w : Seat
     caused = caused;
     sent = λ h. bytes_came outcome bytes came;
     added = adds.added;
-    leaves = subst (λ (t : Bool). Leaves v.number (not t) (fetch_of task outcome) adds.added) (sym (ap (λ (m : Met). m.short) notes ∙ going)) (leaves_all v.number task outcome bytes came frames adds.added reply adds.are);
+    leaves = subst (λ (t : Bool). Leaves w.seen v.number (not t) (fetch_of task outcome) adds.added) (sym (ap (λ (m : Met). m.short) notes ∙ going)) (leaves_all w.seen v.number task outcome bytes came frames adds.added reply adds.are);
     grows = adds.grows;
-    noted = λ h. noted_none (fetch_of task outcome) old.fault new.fault (ap (λ (m : Met). m.fault) notes) (good_reply v.number task outcome bytes came frames reply);
+    noted = λ h. noted_none (fetch_of task outcome) old.fault new.fault (ap (λ (m : Met). m.fault) notes) (good_reply w.seen v.number task outcome bytes came frames reply);
   }
   meets_bytes outcome bytes (Err (refusals.BadFrame at)) caused came (bad, same) notes = record {
     fetch = fetch_of task outcome;
@@ -119,7 +119,7 @@ module _ (task : Task) (old new : Met) (going : old.short ≡ false) (v w : Seat
     caused = caused;
     sent = λ h. bytes_came outcome bytes came;
     added = [];
-    leaves = leaves_bare v.number (not new.short) (fetch_of task outcome) (bad_bare v.number task outcome bytes came at bad);
+    leaves = leaves_bare w.seen v.number (not new.short) (fetch_of task outcome) (bad_bare w.seen v.number task outcome bytes came at bad);
     grows = subst (λ (x : SeatView). Grows v x []) (sym same) (grows_none v);
     noted = λ h. noted_some (fetch_of task outcome) old.fault new.fault (Reason.Unframed at) (ap (λ (m : Met). m.fault) notes) (bytes, came, bad);
   }
@@ -129,7 +129,7 @@ module _ (task : Task) (old new : Met) (going : old.short ≡ false) (v w : Seat
     caused = caused;
     sent = λ h. bytes_came outcome bytes came;
     added = [];
-    leaves = subst (λ (t : Bool). Leaves v.number (not t) (fetch_of task outcome) []) (sym (ap (λ (m : Met). m.short) notes)) (leaves_none v.number (fetch_of task outcome));
+    leaves = subst (λ (t : Bool). Leaves w.seen v.number (not t) (fetch_of task outcome) []) (sym (ap (λ (m : Met). m.short) notes)) (leaves_none w.seen v.number (fetch_of task outcome));
     grows = subst (λ (x : SeatView). Grows v x []) (sym same) (grows_none v);
     noted = λ h. absurd (true_false new.short (ap (λ (m : Met). m.short) notes) h);
   }
@@ -139,8 +139,8 @@ module _ (task : Task) (old new : Met) (going : old.short ≡ false) (v w : Seat
     caused = caused;
     sent = λ h. bytes_came outcome bytes came;
     added = adds.added;
-    leaves = subst (λ (t : Bool). Leaves v.number (not t) (fetch_of task outcome) adds.added) (sym (ap (λ (m : Met). m.short) notes))
-        (leaves_some v.number task outcome bytes came frames adds.parts adds.added reply adds.are adds.first);
+    leaves = subst (λ (t : Bool). Leaves w.seen v.number (not t) (fetch_of task outcome) adds.added) (sym (ap (λ (m : Met). m.short) notes))
+        (leaves_some w.seen v.number task outcome bytes came frames adds.parts adds.added reply adds.are adds.first);
     grows = adds.grows;
     noted = λ h. absurd (true_false new.short (ap (λ (m : Met). m.short) notes) h);
   }
@@ -153,7 +153,7 @@ module _ (task : Task) (old new : Met) (going : old.short ≡ false) (v w : Seat
     caused = asks.caused;
     sent = λ h. absurd (true_false new.short (ap (λ (m : Met). m.short) notes) h);
     added = [];
-    leaves = subst (λ (t : Bool). Leaves v.number (not t) (fetch_of task asks.outcome) []) (sym (ap (λ (m : Met). m.short) notes)) (leaves_none v.number (fetch_of task asks.outcome));
+    leaves = subst (λ (t : Bool). Leaves w.seen v.number (not t) (fetch_of task asks.outcome) []) (sym (ap (λ (m : Met). m.short) notes)) (leaves_none w.seen v.number (fetch_of task asks.outcome));
     grows = subst (λ (x : SeatView). Grows v x []) (sym same) (grows_none v);
     noted = λ h. absurd (true_false new.short (ap (λ (m : Met). m.short) notes) h);
   }
@@ -164,7 +164,7 @@ module _ (task : Task) (old new : Met) (going : old.short ≡ false) (v w : Seat
     caused = asks.caused;
     sent = λ h. asks.tells.1;
     added = [];
-    leaves = leaves_bare v.number (not new.short) (fetch_of task asks.outcome) (λ bytes frames is. let bytes_none : Some bytes ≡ None = sym is.told ∙ asks.tells.0 in absurd cc);
+    leaves = leaves_bare w.seen v.number (not new.short) (fetch_of task asks.outcome) (λ bytes frames is. let bytes_none : Some bytes ≡ None = sym is.told ∙ asks.tells.0 in absurd cc);
     grows = subst (λ (x : SeatView). Grows v x []) (sym same) (grows_none v);
     noted = λ h. noted_some (fetch_of task asks.outcome) old.fault new.fault (Reason.Failed request other) (ap (λ (m : Met). m.fault) notes) (asks.tells.2, asks.tells.3, asks.tells.0);
   }

@@ -1,9 +1,10 @@
 -- The entries of a reply's parts, one after the other.
 use Rattle.std.proofs.Common.{◌≡◌, ◌∙◌, ℕ, zero, suc, ◌+◌, ◌*◌, ◌/◌, ◌<◌, ◌≤◌, Bool, true, false, cond, List, [], ◌∷◌, ◌++◌, length, length-append, take, drop, refl, sym, ap, subst, inl, inr, append_assoc, arith}
-use Rattle.std.proofs.lemmas.Bool.{eq-eqb}
+use Rattle.std.proofs.lemmas.Bool.{cases_lt, eq-eqb, le-leb}
 use Rattle.std.proofs.lemmas.List.{append-nil, drop_all, length-drop, take_all}
 use Rattle.std.proofs.lemmas.List.Elements.{All-drop, All-take, filter-append}
-use Rattle.std.specs.Prelude.{◌==◌}
+use Rattle.std.specs.Prelude.{◌==◌, nat_le}
+use mathlib.Core.List.{IsPrefix}
 use Rattle.turn_ledger.specs.Own.{Each, own}
 use Rattle.turn_ledger.specs.Seats.{Opened}
 use Rattle.turn_ledger.specs.Turning.{Acts}
@@ -15,13 +16,13 @@ use Rattle.log_frames.specs.Cutting.{after, begun, ended, rest_lines}
 use Rattle.log_frames.specs.Laws.{entries}
 use Rattle.log_frames.specs.Parts.{in_parts, part_size, parts_of}
 use Rattle.log_frames.specs.Sides.{Sides}
-use Rattle.log_book.specs.Books.{Book, most_parts, of_container, opening}
+use Rattle.log_book.specs.Books.{Book, bytes_in, bytes_of, most_log_bytes, most_parts, of_container, opening}
 use Rattle.log_book.specs.Calls.{Gives, MayCall, fits, part_entry}
 use Rattle.log_book.specs.declared.entries.LogAnswer.{LogAnswer}
 use Rattle.log_book.specs.declared.entries.LogCall.{LogCall}
 use Rattle.log_book.specs.declared.entries.LogEntry.{LogEntry}
 use Rattle.logs_run.specs.Adding.{AddsAll, AddsEntry, AddsSome, Grows, HasNone, MayAddTo, SeatView}
-use Rattle.logs_run.specs.Fetching.{AreParts, IsPart}
+use Rattle.logs_run.specs.Fetching.{AreParts, ArePast, IsPart}
 
 pub grows_none : (v : SeatView) → Grows v v []
 grows_none v = record { number = refl; left = refl; joined = refl; seen = prefix_self v.seen; mine = sym (append-nil v.mine) }
@@ -35,17 +36,41 @@ grows_on a b c xs ys one more = record {
   mine = more.mine ∙ ap (λ (l : List LogEntry). l ++ ys) one.mine ∙ append_assoc a.mine xs ys;
 }
 
-part_has : (w slot : ℕ) (lines : List LogLine) (t : Bool) → IsPart w slot lines (part_entry w slot lines t)
-part_has w slot lines true = record { worker = refl; container = refl; has = inl (refl, refl) }
-part_has w slot lines false = record { worker = refl; container = refl; has = inr (refl, refl) }
+-- past what a book holds
+over_so : (n : ℕ) → nat_le n most_log_bytes ≡ false → most_log_bytes < n
+over_so n is = elim (cases_lt most_log_bytes n) [
+  | inl over ↦ over
+  | inr fit ↦ absurd (let both : true ≡ false = sym (le-leb n most_log_bytes fit) ∙ is in cc both)
+]
+
+part_has : (history : List LogEntry) (w slot : ℕ) (lines : List LogLine) (t : Bool) → (t ≡ false → ArePast history lines (part_entry w slot lines false)) → IsPart history w slot lines (part_entry w slot lines t)
+part_has history w slot lines true past = record { worker = refl; container = refl; has = inl (refl, refl) }
+part_has history w slot lines false past = record { worker = refl; container = refl; has = inr (refl, refl, past refl) }
+
+-- the same in a history that goes on
+pub part_more : (history more : List LogEntry) (w slot : ℕ) (lines : List LogLine) (e : LogEntry) → IsPrefix history more → IsPart history w slot lines e → IsPart more w slot lines e
+part_more history more w slot lines e goes p = record {
+  worker = p.worker;
+  container = p.container;
+  has = elim p.has [
+    | inl h ↦ inl h
+    | inr h ↦ inr (h.0, h.1, (h.2.0, prefix_trans (h.2.0 ++ e ∷ []) history more h.2.1 goes, h.2.2))
+  ];
+}
+
+pub parts_more : (history more : List LogEntry) (w slot : ℕ) (done : List (List LogLine)) (added : List LogEntry) → IsPrefix history more → AreParts history w slot done added → AreParts more w slot done added
+parts_more history more w slot [] [] goes h = tt
+parts_more history more w slot [] (x ∷ es) goes h = absurd h
+parts_more history more w slot (ls ∷ done) [] goes h = absurd h
+parts_more history more w slot (ls ∷ done) (x ∷ es) goes (one, rest) = (part_more history more w slot ls x goes one, parts_more history more w slot done es goes rest)
 
 -- a call adds one part
 pub adds_entry : (q : Book) (v w : SeatView) (slot : ℕ) (lines : List LogLine) (answer : LogAnswer)
-    → Acts (λ (book : Book). book.entries) (λ book. opening book) (λ (e : LogEntry). e.worker) (λ opened before n call told e. Gives before n call told e) q v (LogCall.Add slot lines) answer w
+    → q.entries ≡ [] → Acts (λ (book : Book). book.entries) (λ book. opening book) (λ (e : LogEntry). e.worker) (λ opened before n call told e. Gives before n call told e) q v (LogCall.Add slot lines) answer w
     → AddsEntry lines slot v w
-adds_entry q v w slot lines answer a = record {
+adds_entry q v w slot lines answer empty a = record {
   entry = a.1;
-  is = subst (λ (e : LogEntry). IsPart v.number slot lines e) (sym a.6.1) (part_has v.number slot lines (fits (q.entries ++ a.0) lines));
+  is = subst (λ (e : LogEntry). IsPart w.seen v.number slot lines e) (sym a.6.1) (part_has w.seen v.number slot lines (fits (q.entries ++ a.0) lines) past);
   grows = record {
     number = ap (λ (x : SeatView). x.number) a.3;
     left = ap (λ (x : SeatView). x.left) a.3;
@@ -54,6 +79,22 @@ adds_entry q v w slot lines answer a = record {
     mine = ap (λ (x : SeatView). x.mine) a.3;
   };
 }
+  where
+    seen_is : w.seen ≡ a.0 ++ a.1 ∷ []
+    seen_is = ap (λ (x : SeatView). x.seen) a.3
+
+    none_before : fits (q.entries ++ a.0) lines ≡ false → fits a.0 lines ≡ false
+    none_before h = subst (λ (es : List LogEntry). fits (es ++ a.0) lines ≡ false) empty h
+
+    entry_is : fits (q.entries ++ a.0) lines ≡ false → a.1 ≡ part_entry v.number slot lines false
+    entry_is h = a.6.1 ∙ ap (λ (t : Bool). part_entry v.number slot lines t) h
+
+    past : fits (q.entries ++ a.0) lines ≡ false → ArePast w.seen lines (part_entry v.number slot lines false)
+    past h = (
+      a.0,
+      ([], append-nil (a.0 ++ part_entry v.number slot lines false ∷ []) ∙ ap (λ (e : LogEntry). a.0 ++ e ∷ []) (sym (entry_is h)) ∙ sym seen_is),
+      over_so (bytes_of a.0 + bytes_in lines) (none_before h),
+    )
 
 -- a worker may make the call, by its own entries
 pub may_call : (turns : Opened Book) (v : SeatView) (slot : ℕ) (lines : List LogLine) → turns.object.entries ≡ [] → MayAddTo turns v slot → length (of_container slot v.mine) < most_parts
@@ -64,24 +105,24 @@ may_call turns v slot lines empty may fewer = record {
   fewer = subst (λ (es : List LogEntry). length (of_container slot (own (λ e. e.worker) v.number es ++ v.mine)) < most_parts) (sym empty) fewer;
 }
 
-pub parts_put : (w slot : ℕ) (done : List (List LogLine)) (added : List LogEntry) (lines : List LogLine) (e : LogEntry) → AreParts w slot done added → IsPart w slot lines e
-    → AreParts w slot (done ++ lines ∷ []) (added ++ e ∷ [])
-parts_put w slot [] [] lines e h is = (is, tt)
-parts_put w slot [] (x ∷ es) lines e h is = absurd h
-parts_put w slot (ls ∷ done) [] lines e h is = absurd h
-parts_put w slot (ls ∷ done) (x ∷ es) lines e (one, more) is = (one, parts_put w slot done es lines e more is)
+pub parts_put : (history : List LogEntry) (w slot : ℕ) (done : List (List LogLine)) (added : List LogEntry) (lines : List LogLine) (e : LogEntry) → AreParts history w slot done added → IsPart history w slot lines e
+    → AreParts history w slot (done ++ lines ∷ []) (added ++ e ∷ [])
+parts_put history w slot [] [] lines e h is = (is, tt)
+parts_put history w slot [] (x ∷ es) lines e h is = absurd h
+parts_put history w slot (ls ∷ done) [] lines e h is = absurd h
+parts_put history w slot (ls ∷ done) (x ∷ es) lines e (one, more) is = (one, parts_put history w slot done es lines e more is)
 
-pub as_many : (w slot : ℕ) (done : List (List LogLine)) (added : List LogEntry) → AreParts w slot done added → length added ≡ length done
-as_many w slot [] [] h = refl
-as_many w slot [] (x ∷ es) h = absurd h
-as_many w slot (ls ∷ done) [] h = absurd h
-as_many w slot (ls ∷ done) (x ∷ es) (one, more) = ap (λ (n : ℕ). suc n) (as_many w slot done es more)
+pub as_many : (history : List LogEntry) (w slot : ℕ) (done : List (List LogLine)) (added : List LogEntry) → AreParts history w slot done added → length added ≡ length done
+as_many history w slot [] [] h = refl
+as_many history w slot [] (x ∷ es) h = absurd h
+as_many history w slot (ls ∷ done) [] h = absurd h
+as_many history w slot (ls ∷ done) (x ∷ es) (one, more) = ap (λ (n : ℕ). suc n) (as_many history w slot done es more)
 
-pub parts_own : (w slot : ℕ) (done : List (List LogLine)) (added : List LogEntry) → AreParts w slot done added → Each (λ (e : LogEntry). (e.worker ≡ w) × (e.container ≡ slot)) added
-parts_own w slot [] [] h = tt
-parts_own w slot [] (x ∷ es) h = absurd h
-parts_own w slot (ls ∷ done) [] h = absurd h
-parts_own w slot (ls ∷ done) (x ∷ es) (one, more) = ((one.worker, one.container), parts_own w slot done es more)
+pub parts_own : (history : List LogEntry) (w slot : ℕ) (done : List (List LogLine)) (added : List LogEntry) → AreParts history w slot done added → Each (λ (e : LogEntry). (e.worker ≡ w) × (e.container ≡ slot)) added
+parts_own history w slot [] [] h = tt
+parts_own history w slot [] (x ∷ es) h = absurd h
+parts_own history w slot (ls ∷ done) [] h = absurd h
+parts_own history w slot (ls ∷ done) (x ∷ es) (one, more) = ((one.worker, one.container), parts_own history w slot done es more)
 
 kept_in : (t : Bool) (e : LogEntry) (xs ys : List LogEntry) → t ≡ true → xs ≡ ys → cond t (e ∷ xs) xs ≡ e ∷ ys
 kept_in t e xs ys h g = rw h (ap (λ (l : List LogEntry). e ∷ l) g)
@@ -115,7 +156,7 @@ pub record Underway (bytes : List ℕ) (frames : List Frame) (slot size : ℕ) (
   pub count : length done + room ≡ 8
   pub few : length left ≤ times room size
   pub rest : done ++ entries sides bytes slot (in_parts room size left) ≡ entries begun bytes slot (parts_of frames)
-  pub are : AreParts old.number slot done added
+  pub are : AreParts v.seen old.number slot done added
   pub grows : Grows old v added
 
 eighths : (n : ℕ) → n ≤ times 8 ((n + 7) / 8)
@@ -184,7 +225,9 @@ module _ (bytes : List ℕ) (frames : List Frame) (slot size : ℕ) (old v : Sea
         few = let long = length-drop size left in let all : length left ≤ size + times (suc room) size = few in omega (arith, long, all);
         rest = append_assoc u.done (ended sides bytes slot (take size left) ∷ []) (entries (after sides bytes (take size left)) bytes slot (in_parts (suc room) size (drop size left)))
             ∙ ap (λ (l : List (List LogLine)). u.done ++ l) (sym (first_of sides bytes slot room size left more)) ∙ rest;
-        are = parts_put old.number slot u.done u.added (ended sides bytes slot (take size left)) adds.entry u.are (subst (λ (n : ℕ). IsPart n slot (ended sides bytes slot (take size left)) adds.entry) u.grows.number adds.is);
+        are = parts_put w.seen old.number slot u.done u.added (ended sides bytes slot (take size left)) adds.entry
+            (parts_more v.seen w.seen old.number slot u.done u.added adds.grows.seen u.are)
+            (subst (λ (n : ℕ). IsPart w.seen n slot (ended sides bytes slot (take size left)) adds.entry) u.grows.number adds.is);
         grows = grows_on old v w u.added (adds.entry ∷ []) u.grows adds.grows;
       }
 
@@ -200,7 +243,7 @@ module _ (bytes : List ℕ) (frames : List Frame) (slot size : ℕ) (old v : Sea
   pub ends_bare : length left ≡ 0 → AddsAll bytes frames slot old v
   ends_bare none = record {
     added = u.added;
-    are = subst (λ (ps : List (List LogLine)). AreParts old.number slot ps u.added) whole u.are;
+    are = subst (λ (ps : List (List LogLine)). AreParts v.seen old.number slot ps u.added) whole u.are;
     grows = u.grows;
   }
     where
@@ -220,9 +263,11 @@ module _ (bytes : List ℕ) (frames : List Frame) (slot size : ℕ) (old v : Sea
       by zero few rest = let none : length left ≤ 0 = few in absurd (omega (arith, none, some))
       by (suc room) few rest = record {
         added = u.added ++ adds.entry ∷ [];
-        are = subst (λ (ps : List (List LogLine)). AreParts old.number slot ps (u.added ++ adds.entry ∷ []))
+        are = subst (λ (ps : List (List LogLine)). AreParts w.seen old.number slot ps (u.added ++ adds.entry ∷ []))
             (ap (λ (l : List (List LogLine)). u.done ++ l) (sym (last_of sides bytes slot room size left some fits_one)) ∙ rest)
-            (parts_put old.number slot u.done u.added (ended sides bytes slot left ++ rest_lines (after sides bytes left) slot) adds.entry u.are (subst (λ (n : ℕ). IsPart n slot (ended sides bytes slot left ++ rest_lines (after sides bytes left) slot) adds.entry) u.grows.number adds.is));
+            (parts_put w.seen old.number slot u.done u.added (ended sides bytes slot left ++ rest_lines (after sides bytes left) slot) adds.entry
+            (parts_more v.seen w.seen old.number slot u.done u.added adds.grows.seen u.are)
+            (subst (λ (n : ℕ). IsPart w.seen n slot (ended sides bytes slot left ++ rest_lines (after sides bytes left) slot) adds.entry) u.grows.number adds.is));
         grows = grows_on old v w u.added (adds.entry ∷ []) u.grows adds.grows;
       }
 
@@ -238,8 +283,8 @@ module _ (bytes : List ℕ) (frames : List Frame) (slot size : ℕ) (old v : Sea
       long = ap (λ (es : List LogEntry). length (of_container slot es)) u.grows.mine
           ∙ ap (λ (es : List LogEntry). length es) (filter-append (λ (e : LogEntry). e.container == slot) old.mine u.added)
           ∙ ap (λ (es : List LogEntry). length (es ++ of_container slot u.added)) none
-          ∙ ap (λ (es : List LogEntry). length es) (all_of old.number slot u.added (parts_own old.number slot u.done u.added u.are))
-          ∙ as_many old.number slot u.done u.added u.are
+          ∙ ap (λ (es : List LogEntry). length es) (all_of old.number slot u.added (parts_own v.seen old.number slot u.done u.added u.are))
+          ∙ as_many v.seen old.number slot u.done u.added u.are
 
       by : (room : ℕ) → length u.done + room ≡ 8 → length left ≤ times room size → length (of_container slot v.mine) < most_parts
       by zero count few = let none_left : length left ≤ 0 = few in absurd (omega (arith, none_left, some))

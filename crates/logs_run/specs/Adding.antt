@@ -45,7 +45,7 @@ pub record Grows (old new : SeatView) (added : List LogEntry) : Type 0 where
 -- a worker added one part
 pub record AddsEntry (lines : List LogLine) (slot : ℕ) (old new : SeatView) : Type 0 where
   pub entry : LogEntry
-  pub is : IsPart old.number slot lines entry
+  pub is : IsPart new.seen old.number slot lines entry
   pub grows : Grows old new (entry ∷ [])
 
 -- a worker added the first parts of a reply's frames
@@ -53,13 +53,14 @@ pub record AddsSome (bytes : List ℕ) (frames : List Frame) (slot : ℕ) (old n
   pub parts : List (List LogLine)
   pub first : IsPrefix parts (entries begun bytes slot (parts_of frames))
   pub added : List LogEntry
-  pub are : AreParts old.number slot parts added
+  pub are : AreParts new.seen old.number slot parts added
   pub grows : Grows old new added
 
 -- a worker added all parts of a reply's frames
 pub record AddsAll (bytes : List ℕ) (frames : List Frame) (slot : ℕ) (old new : SeatView) : Type 0 where
   pub added : List LogEntry
-  pub are : AreParts old.number slot (entries begun bytes slot (parts_of frames)) added
+  pub are : AreParts new.seen old.number slot
+      (entries begun bytes slot (parts_of frames)) added
   pub grows : Grows old new added
 
 -- a worker added the parts of a reply's frames, not all of them where memory was wanted

@@ -21,9 +21,9 @@ texts_in err es = texts_of err (lines_in (map (λ e. e.lines) es))
 -- entry is full and the fetch is whole they are exactly these, each once
 abbrev pub LinesAreTheReplys : Type 0
 LinesAreTheReplys =
-    (w : ℕ) (whole : Bool) (fetch : Fetch) (es : List LogEntry) (bytes : List ℕ)
+    (history : List LogEntry) (w : ℕ) (whole : Bool) (fetch : Fetch) (es : List LogEntry) (bytes : List ℕ)
     (frames : List Frame) (err : Bool)
-    → Leaves w whole fetch es → IsFramed fetch bytes frames
+    → Leaves history w whole fetch es → IsFramed fetch bytes frames
     → AreSome (texts_in err es) (lines_of bytes frames err)
     × (whole ≡ true → list_any (λ e. e.full) es ≡ false
     → texts_in err es ≡ lines_of bytes frames err)
@@ -37,6 +37,7 @@ NoOtherLines =
     → HaveFetched book.workers all book.entries 0 olds news fetches short
     → ((fetch : Fetch) → Has fetch fetches
     → (whole : Bool) × (short ≡ false → whole ≡ true)
-    × Leaves (fetch.task.slot % book.workers) whole fetch (of_container fetch.task.slot book.entries))
+    × Leaves book.entries (fetch.task.slot % book.workers) whole fetch
+    (of_container fetch.task.slot book.entries))
     × ((slot : ℕ) → ((fetch : Fetch) → Has fetch fetches → fetch.task.slot ≡ slot → ⊥)
     → of_container slot book.entries ≡ [])

@@ -50,7 +50,8 @@ abbrev pub HaveFetched : ℕ → List Task → List LogEntry → ℕ → List Ac
 HaveFetched workers all entries w [] [] fetches short = (fetches ≡ []) × (short ≡ false)
 HaveFetched workers all entries w (before ∷ olds) (after ∷ news) fetches short =
     (one : Bool) × (more : Bool) × (rest : List Fetch)
-    × (done : HasFetched w (own_tasks workers w all) one (own (λ e. e.worker) w entries) before after)
+    × (done : HasFetched entries w (own_tasks workers w all) one
+    (own (λ e. e.worker) w entries) before after)
     × HaveFetched workers all entries (w + 1) olds news rest more
     × (fetches ≡ done.fetches ++ rest) × (short ≡ (one || more))
 HaveFetched workers all entries w [] (after ∷ news) fetches short = ⊥

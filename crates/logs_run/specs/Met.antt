@@ -81,7 +81,7 @@ pub record Meets (task : Task) (old new : Met) (seat after : SeatView) (before t
   pub caused : IsCausedIn (exchange_of fetch) before told
   pub sent : new.short ≡ false → is_memory fetch.outcome ≡ false
   pub added : List LogEntry
-  pub leaves : Leaves seat.number (not new.short) fetch added
+  pub leaves : Leaves after.seen seat.number (not new.short) fetch added
   pub grows : Grows seat after added
   pub noted : new.short ≡ false → Notes fetch old.fault new.fault
 
@@ -104,5 +104,6 @@ pub record HasFetchedAs (turns : Opened Book) (all : List Task) (workers w : ℕ
   pub number : new.view.number ≡ old.view.number
   pub left : new.view.left ≡ old.view.left
   pub joined : new.view.joined ≡ old.view.joined
-  pub fetched : HasFetched w (own_tasks workers w all) met.short new.view.mine before after
+  pub fetched : HasFetched new.view.seen w (own_tasks workers w all) met.short new.view.mine
+      before after
   pub fault : met.short ≡ false → IsFirstFault fetched.fetches met.fault
