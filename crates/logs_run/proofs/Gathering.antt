@@ -13,7 +13,7 @@ use Rattle.log_book.specs.Books.{Book, IsBook, opening}
 use Rattle.log_book.specs.declared.entries.LogEntry.{LogEntry}
 use Rattle.logs_run.specs.declared.fetching.Fault.{Fault}
 use Rattle.logs_run.specs.declared.fetching.Met.{Met}
-use Rattle.logs_run.specs.declared.logged.LogsRefusal.{LogsRefusal}
+use Rattle.engine_types.specs.declared.LogsRefusal.{LogsRefusal}
 use Rattle.logs_run.specs.declared.tasks.Task.{Task}
 use Rattle.logs_run.specs.Crew.{AreCalm, AreFresh, AreLined, HaveEnded, IsPlain, Seat, both, calm, met_by, met_with}
 use Rattle.logs_run.specs.Ending.{Has}

@@ -5,22 +5,17 @@ use Rattle.engine_types.specs.declared.Declared.{Declared}
 use Rattle.engine_types.specs.declared.Listed.{Listed}
 use Rattle.engine_types.specs.declared.Request.{Request}
 use Rattle.engine_types.specs.declared.Slot.{Slot}
-use Rattle.run_model.specs.Ending.{outcome_status}
+use Rattle.run_model.specs.Ending.{logs_refusal_status}
 use Rattle.log_frames.specs.Frames.{IsBadAt}
 use Rattle.log_book.specs.declared.entries.LogEntry.{LogEntry}
-use Rattle.logs_run.specs.declared.logged.LogsRefusal.{LogsRefusal}
+use Rattle.engine_types.specs.declared.LogsRefusal.{LogsRefusal}
 use Rattle.logs_run.specs.Fetching.{Fetch, bytes_told}
 use Rattle.logs_run.specs.Slots.{container_of, has_terminal}
 
 -- the exit status of a refusal; 0 without one
 abbrev pub logs_status : Option LogsRefusal → ℕ
 logs_status None = 0
-logs_status (Some (LogsRefusal.TooManySlots count)) = 8
-logs_status (Some (LogsRefusal.Terminal slot)) = 2
-logs_status (Some (LogsRefusal.Frames slot at)) = 7
-logs_status (Some LogsRefusal.LogsFull) = 8
-logs_status (Some (LogsRefusal.Request request outcome)) = outcome_status outcome
-logs_status (Some LogsRefusal.Memory) = 9
+logs_status (Some refusal) = logs_refusal_status refusal
 
 -- the slot at a place is this one
 abbrev pub IsSlot : Declared → ℕ → Slot → Type 0

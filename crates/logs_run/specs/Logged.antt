@@ -10,7 +10,7 @@ use Rattle.engine_types.specs.declared.Request.{Request}
 use Rattle.outside_api.specs.Accounts.{Account, IsCausedIn}
 use Rattle.log_book.specs.Books.{IsBook}
 use Rattle.log_book.specs.declared.entries.LogEntry.{LogEntry}
-use Rattle.logs_run.specs.declared.logged.LogsRefusal.{LogsRefusal}
+use Rattle.engine_types.specs.declared.LogsRefusal.{LogsRefusal}
 use Rattle.logs_run.specs.declared.tasks.Task.{Task}
 use Rattle.logs_run.specs.Ending.{IsRefusal}
 use Rattle.logs_run.specs.Fetching.{Fetch, HasFetched}

@@ -8,7 +8,7 @@ use Rattle.log_book.specs.declared.entries.LogEntry.{LogEntry}
 use Rattle.logs_run.specs.declared.fetching.Fault.{Fault}
 use Rattle.logs_run.specs.declared.fetching.Met.{Met}
 use Rattle.logs_run.specs.declared.fetching.Reason.{Reason}
-use Rattle.logs_run.specs.declared.logged.LogsRefusal.{LogsRefusal}
+use Rattle.engine_types.specs.declared.LogsRefusal.{LogsRefusal}
 use Rattle.logs_run.specs.Ending.{AreSound, AreSoundBelow, Has, IsRefusal, IsRefusedAt, IsSlot}
 use Rattle.logs_run.specs.Fetching.{Fetch}
 use Rattle.logs_run.specs.Met.{IsGood, IsReason}

@@ -7,12 +7,12 @@ ghost use Rattle.logs_run.specs.Refusing.{IsFaultRefusal, IsFirstTerminal, IsTer
 ghost use Rattle.logs_run.specs.Slots.{container_of, has_terminal};
 
 use crate::fetching::{Fault, Met, Reason};
-use crate::logged::{Logged, LogsRefusal};
+use crate::logged::Logged;
 use crate::tasks::{container_of, has_terminal};
-use engine_types::{Declared, Listed, Slot};
+use engine_types::{Declared, Listed, LogsRefusal, Slot};
 use log_book::LogEntry;
 use outside_api::Hand;
-use run_lookups::outcome_status;
+use run_lookups::logs_refusal_status;
 use std::alloc::Global;
 use tree_base::{List, Memory, TryCopy};
 
@@ -42,12 +42,7 @@ fn status_of(refusal: Option<&LogsRefusal>) -> u8
 {
     match refusal {
         None => 0,
-        Some(LogsRefusal::TooManySlots { .. }) => 8,
-        Some(LogsRefusal::Terminal { .. }) => 2,
-        Some(LogsRefusal::Frames { .. }) => 7,
-        Some(LogsRefusal::LogsFull) => 8,
-        Some(LogsRefusal::Request { outcome, .. }) => outcome_status(outcome),
-        Some(LogsRefusal::Memory) => 9,
+        Some(refusal) => logs_refusal_status(refusal),
     }
 }
 

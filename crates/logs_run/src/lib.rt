@@ -18,5 +18,5 @@ mod tasks;
 mod whole_run;
 
 pub use laws::{lines_are_the_replys, no_other_lines};
-pub use logged::{Logged, LogsRefusal};
+pub use logged::Logged;
 pub use whole_run::logs_run;

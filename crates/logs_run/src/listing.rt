@@ -2,8 +2,7 @@ ghost use Rattle.std.specs.Prelude.{◌≡◌, Some, None, IfErr, IfOk};
 ghost use Rattle.outside_api.specs.Accounts.{account};
 ghost use Rattle.logs_run.specs.Logged.{IsListingRefusal, Lists, rows_told};
 
-use crate::logged::LogsRefusal;
-use engine_types::{Declared, Listed, Outcome, Reply, Request};
+use engine_types::{Declared, Listed, LogsRefusal, Outcome, Reply, Request};
 use outside_api::Hand;
 use std::alloc::Global;
 use tree_base::{List, Memory, TryCopy};

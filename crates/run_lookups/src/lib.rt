@@ -28,4 +28,4 @@ pub use printed::shown;
 pub use removal::goes;
 pub use replies::{is_good, is_well};
 pub use states::is_live;
-pub use statuses::{outcome_status, seen_status};
+pub use statuses::{logs_refusal_status, outcome_status, seen_status, stream_status};

@@ -4,6 +4,7 @@ use Rattle.std.specs.List.{list_any, list_all}
 use Rattle.std.specs.Option.{option_map_or, option_or}
 use Rattle.engine_types.specs.declared.Condition.{Condition}
 use Rattle.engine_types.specs.declared.Entry.{Entry}
+use Rattle.engine_types.specs.declared.LogsRefusal.{LogsRefusal}
 use Rattle.engine_types.specs.declared.Need.{Need}
 use Rattle.engine_types.specs.declared.Outcome.{Outcome}
 use Rattle.engine_types.specs.declared.Report.{Report}
@@ -11,6 +12,7 @@ use Rattle.engine_types.specs.declared.Request.{Request}
 use Rattle.engine_types.specs.declared.RunFault.{RunFault}
 use Rattle.engine_types.specs.declared.SeenEnd.{SeenEnd}
 use Rattle.engine_types.specs.declared.SeenFault.{SeenFault}
+use Rattle.engine_types.specs.declared.StreamFault.{StreamFault}
 use Rattle.engine_types.specs.declared.WireEnd.{WireEnd}
 use Rattle.run_model.specs.Conditions.{counts, goal_of, has_failed, is_blocked, is_goal_open, is_pending, report_of}
 use Rattle.run_model.specs.Journals.{Holding, Nothing, Setup, Watch, Work, ended_as, has_left, holding, is_badly, is_ending, is_well, standing}
@@ -151,6 +153,23 @@ seen_status (SeenFault.NotSent request) = 7
 seen_status (SeenFault.TooManyActions count) = 8
 seen_status SeenFault.Memory = 9
 seen_status fault = 3
+
+-- the status of logs that aren't all there
+abbrev pub logs_refusal_status : LogsRefusal → ℕ
+logs_refusal_status (LogsRefusal.TooManySlots count) = 8
+logs_refusal_status (LogsRefusal.Terminal slot) = 2
+logs_refusal_status (LogsRefusal.Frames slot at) = 7
+logs_refusal_status LogsRefusal.LogsFull = 8
+logs_refusal_status (LogsRefusal.Request request outcome) = outcome_status outcome
+logs_refusal_status LogsRefusal.Memory = 9
+
+-- the status of what ended a stream of events
+abbrev pub stream_status : StreamFault → ℕ
+stream_status (StreamFault.Refused status) = 3
+stream_status (StreamFault.Wire cause) = lost_status cause
+stream_status (StreamFault.BadEvent at) = 7
+stream_status (StreamFault.TooLong at) = 8
+stream_status StreamFault.Closed = 7
 
 -- the exit status of a run that is refused so
 abbrev pub fault_status : RunFault → ℕ

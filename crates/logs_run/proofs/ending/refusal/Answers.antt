@@ -1,6 +1,6 @@
 use Rattle.std.proofs.Common.{Option, subst, sym}
 use Rattle.logs_run.specs.Refusing.{RefusedBy}
-use Rattle.logs_run.specs.declared.logged.LogsRefusal.{LogsRefusal}
+use Rattle.engine_types.specs.declared.LogsRefusal.{LogsRefusal}
 use Rattle.logs_run.proofs.Refusals.{refused_by}
 use Rattle.logs_run.proofs.ending.refusal.Goals as goal
 

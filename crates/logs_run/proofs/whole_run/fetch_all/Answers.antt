@@ -1,7 +1,7 @@
 use Rattle.std.proofs.Common.{Some, [], ap, map, arith}
 use Rattle.std.proofs.lemmas.List.{length-map}
 use Rattle.outside_api.specs.Accounts.{account}
-use Rattle.logs_run.specs.declared.logged.LogsRefusal.{LogsRefusal}
+use Rattle.engine_types.specs.declared.LogsRefusal.{LogsRefusal}
 use Rattle.logs_run.proofs.Gathering.{logged_so, nobody}
 use Rattle.logs_run.proofs.whole_run.fetch_all.Goals as goal
 

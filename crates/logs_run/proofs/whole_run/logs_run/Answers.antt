@@ -2,7 +2,7 @@ use Rattle.std.proofs.Common.{◌∙◌, List, Result, ap, map, subst, arith}
 use Rattle.engine_types.specs.declared.Listed.{Listed}
 use Rattle.outside_api.specs.Accounts.{account}
 use Rattle.logs_run.specs.Listing.{ListsWith}
-use Rattle.logs_run.specs.declared.logged.LogsRefusal.{LogsRefusal}
+use Rattle.engine_types.specs.declared.LogsRefusal.{LogsRefusal}
 use Rattle.logs_run.proofs.Gathering.{clocks_listed, listed_badly, listed_well}
 use Rattle.logs_run.proofs.whole_run.logs_run.Goals as goal
 
