@@ -1,0 +1,12 @@
+pub mod Asking
+pub mod Comes
+pub mod Ends
+pub mod Goals
+pub mod Laws
+pub mod Lines
+pub mod Looks
+pub mod Reports
+pub mod Streams
+pub mod Taking
+pub mod Watching
+pub mod Ways
