@@ -1,33 +1,31 @@
 -- What a wait comes to, by what ended it.
-use Rattle.std.proofs.Common.{◌≡◌, ◌∙◌, ◌++◌, ◌+◌, ◌<◌, ◌≤◌, ◌&&◌, ◌||◌, ◌⊎◌, inl, inr, sym, Bool, true, false, cond, ℕ, zero, suc, List, [], ◌∷◌, Option, Some, None, Result, Ok, Err, length, map, take, slice_get, refl, ap, subst, arith}
+use Rattle.std.proofs.Common.{◌≡◌, ◌∙◌, ◌+◌, ◌≤◌, ◌&&◌, ◌||◌, ◌⊎◌, inl, inr, sym, Bool, true, false, cond, ℕ, suc, List, [], ◌∷◌, Option, Some, None, Result, Ok, Err, length, map, take, slice_get, refl, ap, subst, arith}
 use Rattle.std.specs.Prelude.{find, nat_lt}
 use Rattle.std.specs.Option.{is_some, option_map}
 use Rattle.std.proofs.lemmas.Bool.{le-ltb}
-use Rattle.std.proofs.lemmas.List.{append-nil, take_all}
+use Rattle.std.proofs.lemmas.List.{take_all}
 use Rattle.engine_types.specs.declared.Declared.{Declared}
-use Rattle.engine_types.specs.declared.Engine.{Engine}
 use Rattle.engine_types.specs.declared.Exchange.{Exchange}
 use Rattle.engine_types.specs.declared.Listed.{Listed}
 use Rattle.engine_types.specs.declared.Report.{Report}
 use Rattle.engine_types.specs.declared.StreamFault.{StreamFault}
 use Rattle.engine_types.specs.declared.WireEnd.{WireEnd}
-use Rattle.event_watch.specs.Events.{events}
 use Rattle.http_request.specs.Events.{events_request}
 use Rattle.http_response.specs.Hearing.{Heard, Hears}
 use Rattle.http_response.specs.declared.OpenBody.{OpenBody}
 use Rattle.outside_api.specs.Pipes.{Talk, ToldBy, after_write}
-use Rattle.outside_api.specs.Standings.{Makes, Standing, account_of}
+use Rattle.outside_api.specs.Standings.{Standing, account_of}
 use Rattle.outside_files.specs.Counts.{Rose}
 use Rattle.response_rules.specs.Json.{given}
 use Rattle.tree_base.specs.Limits.{most_stream_bytes}
 use Rattle.wait_run.specs.Asking.{IsWait}
-use Rattle.wait_run.specs.Comes.{Comes, EndsAs, EndsSo, IsSaid, IsShort, IsStreamed, IsUnopened, Waits}
+use Rattle.wait_run.specs.Comes.{EndsAs, EndsSo, IsSaid, IsStreamed, IsUnopened, Waits}
 use Rattle.wait_run.specs.Ends.{CameTo, failed_by, fails_goal, first_failing, last_refused, name_at, refusal_of}
 use Rattle.wait_run.specs.Goals.{failing_report, is_settled_now}
 use Rattle.wait_run.specs.Looks.{absent, look, requests, rows_in}
 use Rattle.wait_run.specs.Reports.{all_met, has_ended, is_refused, is_settled, lacks_one, met_in, reported, said_in, some_failed}
 use Rattle.wait_run.specs.Streams.{IsOpenStream, OpensBy, ReadsTo, SendsBy}
-use Rattle.wait_run.specs.Watching.{EndsFrom, StreamsTo, Watches, WatchesTo}
+use Rattle.wait_run.specs.Watching.{EndsFrom, Watches, WatchesTo}
 use Rattle.wait_run.specs.Ways.{EndsBy, EndsListing, IsRefusedBy, Way, looks_of}
 use Rattle.wait_run.specs.declared.goals.Failing.{Failing}
 use Rattle.wait_run.specs.declared.goals.Goals.{Goals}

@@ -1,10 +1,10 @@
 -- The laws above the definitions of a wait.
 use Rattle.std.proofs.Common.{◌≡◌, ◌∙◌, ◌++◌, ◌+◌, ◌<◌, ◌≤◌, ◌&&◌, ◌||◌, ◌⊎◌, inl, inr, sym, Bool, true, false, cond, ℕ, zero, suc, List, [], ◌∷◌, Option, Some, None, length, map, take, slice_get, append_assoc, eq-eqb, refl, ap, subst, arith}
-use Rattle.std.specs.Prelude.{◌==◌, filter, find, min, nat_le, nat_lt}
+use Rattle.std.specs.Prelude.{◌==◌, filter, find, nat_le, nat_lt}
 use Rattle.std.specs.List.{list_all, list_any}
-use Rattle.std.specs.Option.{is_none, is_some, option_map, option_map_or, unwrap_or}
+use Rattle.std.specs.Option.{is_none, is_some, option_map, unwrap_or}
 use Rattle.std.proofs.lemmas.Bool.{cases_lt, eqb-true}
-use Rattle.std.proofs.lemmas.List.{length-append, length-take, take-append-le}
+use Rattle.std.proofs.lemmas.List.{length-take, take-append-le}
 use Rattle.engine_types.specs.declared.Declared.{Declared}
 use Rattle.engine_types.specs.declared.Exchange.{Exchange}
 use Rattle.engine_types.specs.declared.Listed.{Listed}
@@ -20,13 +20,12 @@ use Rattle.response_rules.specs.Json.{given}
 use Rattle.run_model.specs.Conditions.{is_failed_verdict, is_met_verdict, judge}
 use Rattle.run_model.specs.Numbers.{numbers_from, places}
 use Rattle.run_model.specs.declared.Verdict.{Verdict}
-use Rattle.wait_run.specs.Asking.{IsWait}
 use Rattle.wait_run.specs.Comes.{Comes}
-use Rattle.wait_run.specs.Ends.{failed_by, fails_goal, first_failing, last_refused, name_at, refusal_of, refusal_status, refused_by, status_of}
+use Rattle.wait_run.specs.Ends.{failed_by, fails_goal, first_failing, last_refused, name_at, refusal_status, refused_by, status_of}
 use Rattle.wait_run.specs.Goals.{met_now}
-use Rattle.wait_run.specs.Laws.{GoalsAreMetOnce, GoodEndsMeetAll, MeetsAll, MoreEventsOnlyAdd}
+use Rattle.wait_run.specs.Laws.{GoalsAreMetOnce, GoodEndsMeetAll, MoreEventsOnlyAdd}
 use Rattle.wait_run.specs.Looks.{absent, look, looks, requests, rows_by, rows_in}
-use Rattle.wait_run.specs.Reports.{all_met, goal_at, has_ended, is_refused, is_settled, lacks_one, met_in, reported, said_in, some_failed, verdict_on}
+use Rattle.wait_run.specs.Reports.{all_met, goal_at, is_refused, is_settled, lacks_one, met_in, reported, said_in, some_failed, verdict_on}
 use Rattle.wait_run.specs.Ways.{looks_of}
 use Rattle.wait_run.specs.declared.refusal.WaitRefusal.{WaitRefusal}
 use Rattle.wait_run.specs.declared.waited.Waited.{Waited}

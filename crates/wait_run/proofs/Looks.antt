@@ -1,5 +1,5 @@
 -- A look at a slot's container, by what the goals hold.
-use Rattle.std.proofs.Common.{◌≡◌, ◌∙◌, ◌++◌, ◌+◌, ◌<◌, ◌≤◌, ◌^◌, ◌⊎◌, inl, inr, sym, Bool, true, false, cond, ℕ, zero, suc, List, [], ◌∷◌, Option, Some, None, length, slice_get, refl, ap, subst, arith}
+use Rattle.std.proofs.Common.{◌≡◌, ◌∙◌, ◌+◌, ◌<◌, ◌≤◌, ◌^◌, ◌⊎◌, inl, inr, sym, Bool, true, false, cond, ℕ, zero, suc, List, [], ◌∷◌, Some, None, length, slice_get, refl, ap, subst, arith}
 use Rattle.std.specs.Prelude.{filter}
 use Rattle.std.specs.Option.{is_none, unwrap_or}
 use Rattle.std.proofs.lemmas.Bool.{cases_lt}
@@ -15,7 +15,7 @@ use Rattle.run_model.specs.Conditions.{report_of}
 use Rattle.run_model.specs.Numbers.{numbers_from, places}
 use Rattle.wait_run.specs.Ends.{refused_by}
 use Rattle.wait_run.specs.Goals.{goal_row, is_settled_now, reported_on}
-use Rattle.wait_run.specs.Looks.{absent, container_at, look}
+use Rattle.wait_run.specs.Looks.{container_at, look}
 use Rattle.wait_run.specs.Reports.{reported}
 use Rattle.wait_run.specs.Ways.{EndsBy, Way, looks_of}
 use Rattle.wait_run.specs.declared.goals.Goal.{Goal}

@@ -1,5 +1,5 @@
 -- The request for the events, and the head of the stream.
-use Rattle.std.proofs.Common.{◌≡◌, ◌++◌, ◌≤◌, ◌==◌, sym, Bool, false, ℕ, List, [], Option, Some, None, Result, Ok, Err, length, take, refl, ap, subst}
+use Rattle.std.proofs.Common.{◌≡◌, ◌≤◌, ◌==◌, sym, false, ℕ, List, [], Option, Some, None, Result, Ok, Err, length, take, refl, ap, subst}
 use Rattle.std.proofs.lemmas.List.{append-nil, take_all}
 use Rattle.engine_types.specs.declared.StreamFault.{StreamFault}
 use Rattle.engine_types.specs.declared.WireEnd.{WireEnd}
@@ -8,7 +8,7 @@ use Rattle.http_response.specs.declared.OpenBody.{OpenBody}
 use Rattle.http_response.specs.declared.ResponseEnd.{ResponseEnd}
 use Rattle.outside_api.specs.Pipes.{Talk, ToldBy, after_write}
 use Rattle.tree_base.specs.Limits.{most_stream_bytes}
-use Rattle.wait_run.specs.Streams.{OpensBy, OpensStreamBy, ReadsTo}
+use Rattle.wait_run.specs.Streams.{OpensStreamBy, ReadsTo}
 use Rattle.wait_run.specs.declared.refusal.WaitRefusal.{WaitRefusal}
 
 pub sent_none : (bytes : List ℕ) (told : Option Talk) → ToldBy (after_write (take 0 bytes)) told told

@@ -1,6 +1,6 @@
 -- Lists over places in which what holds of one place turns.
-use Rattle.std.proofs.Common.{◌≡◌, ◌∙◌, ◌++◌, ◌+◌, ◌<◌, ◌≤◌, ◌-◌, ◌⊎◌, ◌||◌, ◌&&◌, inl, inr, sym, Bool, true, false, cond, ℕ, zero, suc, List, [], ◌∷◌, Option, Some, None, length, map, get_or, set, slice_get, refl, ap, arith}
-use Rattle.std.specs.Prelude.{◌==◌, filter, filter_map, find, not}
+use Rattle.std.proofs.Common.{◌≡◌, ◌∙◌, ◌++◌, ◌+◌, ◌<◌, ◌≤◌, ◌⊎◌, ◌||◌, ◌&&◌, inl, inr, sym, Bool, true, false, cond, ℕ, zero, suc, List, [], ◌∷◌, Option, Some, length, set, slice_get, refl, ap, arith}
+use Rattle.std.specs.Prelude.{◌==◌, filter, filter_map, not}
 use Rattle.std.specs.List.{cons_option}
 use Rattle.std.specs.List.{list_all, list_any}
 use Rattle.std.proofs.lemmas.Bool.{cases_lt, eqb-false, eqb-true, ne_eqb}

@@ -1,5 +1,5 @@
 -- What the parts of an exchange are for a wait, and a slot that has no container.
-use Rattle.std.proofs.Common.{◌≡◌, ◌∙◌, ◌⊎◌, inl, inr, ◌<◌, ℕ, Bool, true, false, List, Option, Some, None, Err, length, slice_get, refl, ap, subst, sym}
+use Rattle.std.proofs.Common.{◌≡◌, ◌∙◌, ◌⊎◌, inl, inr, ◌<◌, ℕ, true, false, List, Option, Some, None, Err, length, slice_get, refl, ap, subst}
 use Rattle.std.specs.Option.{option_map}
 use Rattle.engine_types.specs.declared.Declared.{Declared}
 use Rattle.engine_types.specs.declared.Listed.{Listed}

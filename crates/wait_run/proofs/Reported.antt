@@ -1,7 +1,7 @@
 -- The goals of all slots behind one report more.
-use Rattle.std.proofs.Common.{◌≡◌, ◌∙◌, ◌++◌, ◌+◌, ◌<◌, ◌≤◌, ◌-◌, ◌^◌, ◌&&◌, ◌||◌, sym, Bool, true, false, cond, ℕ, zero, suc, List, [], ◌∷◌, Option, Some, None, length, map, set, slice_get, take, eq-eqb, refl, ap, subst, arith}
+use Rattle.std.proofs.Common.{◌≡◌, ◌∙◌, ◌++◌, ◌+◌, ◌<◌, ◌≤◌, ◌^◌, ◌&&◌, ◌||◌, sym, Bool, true, false, cond, ℕ, zero, suc, List, [], ◌∷◌, Option, Some, None, length, set, slice_get, take, eq-eqb, refl, ap, subst, arith}
 use Rattle.std.specs.Prelude.{◌==◌, filter, filter_map, find, not}
-use Rattle.std.specs.List.{cons_option, list_all, list_any}
+use Rattle.std.specs.List.{cons_option}
 use Rattle.std.specs.Option.{is_some, option_map, option_or}
 use Rattle.std.proofs.lemmas.Bool.{eqb-true}
 use Rattle.std.proofs.lemmas.List.{length-append, take-append-le, take_all}
@@ -12,7 +12,7 @@ use Rattle.engine_types.specs.declared.Condition.{Condition}
 use Rattle.engine_types.specs.declared.Declared.{Declared}
 use Rattle.engine_types.specs.declared.Listed.{Listed}
 use Rattle.engine_types.specs.declared.Report.{Report}
-use Rattle.event_watch.specs.Verdicts.{both, next_verdict}
+use Rattle.event_watch.specs.Verdicts.{both}
 use Rattle.response_rules.specs.Json.{given}
 use Rattle.run_model.specs.Conditions.{is_failed_verdict, is_met_verdict, judge}
 use Rattle.run_model.specs.Numbers.{numbers_from, places}

@@ -3,7 +3,6 @@ use Rattle.std.proofs.Common.{◌≡◌, ◌∙◌, ◌++◌, ◌≤◌, append_
 use Rattle.std.specs.List.{cons_option}
 use Rattle.std.specs.Option.{option_map, unwrap_or}
 use Rattle.std.specs.Prelude.{find}
-use Rattle.std.proofs.lemmas.List.{length-append, take-append-le}
 use Rattle.engine_types.specs.declared.Declared.{Declared}
 use Rattle.engine_types.specs.declared.Exchange.{Exchange}
 use Rattle.engine_types.specs.declared.Listed.{Listed}
@@ -14,8 +13,8 @@ use Rattle.event_watch.specs.declared.Event.{Event}
 use Rattle.event_watch.proofs.Further.{events_stay}
 use Rattle.run_model.specs.Conditions.{report_of}
 use Rattle.run_model.specs.Numbers.{places}
-use Rattle.wait_run.specs.Looks.{look, looks, owns, requests, rows_by, rows_in}
-use Rattle.wait_run.specs.Reports.{reported, said_in}
+use Rattle.wait_run.specs.Looks.{look, looks, owns, requests, rows_in}
+use Rattle.wait_run.specs.Reports.{reported}
 
 cons_append : {A : Type 0} → (o : Option A) (xs ys : List A) → cons_option o xs ++ ys ≡ cons_option o (xs ++ ys)
 cons_append None xs ys = refl

@@ -1,6 +1,6 @@
 -- A stream of events, read piece by piece.
-use Rattle.std.proofs.Common.{◌≡◌, ◌∙◌, ◌++◌, ◌+◌, ◌<◌, ◌≤◌, ◌^◌, ◌||◌, ◌⊎◌, inl, inr, sym, Bool, true, false, ℕ, zero, suc, List, [], ◌∷◌, Option, Some, None, Result, Ok, Err, length, slice_get, refl, ap, subst, append_assoc, arith}
-use Rattle.std.specs.Prelude.{filter_map, find}
+use Rattle.std.proofs.Common.{◌≡◌, ◌∙◌, ◌++◌, ◌+◌, ◌<◌, ◌≤◌, ◌||◌, ◌⊎◌, inl, inr, sym, Bool, true, false, ℕ, List, [], ◌∷◌, Option, Some, None, Result, Ok, Err, length, slice_get, refl, ap, subst, append_assoc, arith}
+use Rattle.std.specs.Prelude.{find}
 use Rattle.std.specs.List.{cons_option}
 use Rattle.std.proofs.lemmas.Bool.{cases_lt}
 use Rattle.std.proofs.lemmas.List.{append-nil, length-append}
@@ -13,9 +13,8 @@ use Rattle.event_watch.specs.Reading.{FeedsBy, HasRead, waiting}
 use Rattle.event_watch.specs.declared.Event.{Event}
 use Rattle.event_watch.specs.declared.EventReader.{EventReader}
 use Rattle.event_watch.specs.declared.EventRefusal.{EventRefusal}
-use Rattle.event_watch.specs.declared.LineFault.{LineFault}
 use Rattle.event_watch.proofs.Standing.{stands_told}
-use Rattle.http_response.specs.Bodies.{ContinuesWithin, GivesBy, IsOpenWithin}
+use Rattle.http_response.specs.Bodies.{ContinuesWithin, GivesBy}
 use Rattle.http_response.specs.Hearing.{Heard, Hears}
 use Rattle.http_response.specs.Reading.{EndsByWithin}
 use Rattle.http_response.specs.declared.OpenBody.{OpenBody}
@@ -26,7 +25,7 @@ use Rattle.outside_files.specs.Counts.{Rose}
 use Rattle.response_rules.specs.Responses.{IsResponseWithin}
 use Rattle.run_model.specs.Numbers.{places}
 use Rattle.tree_base.specs.Limits.{most_stream_bytes}
-use Rattle.wait_run.specs.Comes.{EndsSo, IsStreamed}
+use Rattle.wait_run.specs.Comes.{IsStreamed}
 use Rattle.wait_run.specs.Goals.{is_settled_now}
 use Rattle.wait_run.specs.Looks.{looks, owns}
 use Rattle.wait_run.specs.Streams.{IsOpenStream, ReadsTo}
@@ -36,7 +35,7 @@ use Rattle.wait_run.specs.declared.goals.Goals.{Goals}
 use Rattle.wait_run.specs.declared.refusal.WaitRefusal.{WaitRefusal}
 use Rattle.wait_run.proofs.Places.{got_before, got_last, length_numbers}
 use Rattle.wait_run.proofs.Stays.{later_looks, looks_stay}
-use Rattle.wait_run.proofs.Ways.{way_ended, way_on, way_short}
+use Rattle.wait_run.proofs.Ways.{way_on, way_short}
 use Rattle.wait_run.proofs.Within.{given_within}
 
 -- ---- what is heard

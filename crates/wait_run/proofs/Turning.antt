@@ -1,16 +1,11 @@
 -- What one report more changes: the verdict on its own slot, and on no other.
-use Rattle.std.proofs.Common.{◌≡◌, ◌∙◌, ◌++◌, ◌+◌, ◌<◌, ◌≤◌, ◌-◌, sym, Bool, true, false, cond, ℕ, zero, suc, List, [], ◌∷◌, Option, Some, None, length, map, refl, ap, arith}
-use Rattle.std.specs.Prelude.{◌==◌, filter, not}
-use Rattle.std.specs.List.{list_all, list_any}
+use Rattle.std.proofs.Common.{◌≡◌, ◌∙◌, ◌++◌, Bool, true, false, cond, ℕ, List, [], ◌∷◌, map, ap}
+use Rattle.std.specs.Prelude.{◌==◌, filter}
 use Rattle.std.proofs.lemmas.List.{append-nil, map-append}
 use Rattle.std.proofs.lemmas.List.Elements.{filter-append}
-use Rattle.engine_types.specs.declared.Condition.{Condition}
 use Rattle.engine_types.specs.declared.Declared.{Declared}
 use Rattle.engine_types.specs.declared.Report.{Report}
 use Rattle.event_watch.specs.Verdicts.{judged, next_verdict}
-use Rattle.run_model.specs.Conditions.{is_failed_verdict, is_met_verdict}
-use Rattle.run_model.specs.Numbers.{numbers_from}
-use Rattle.run_model.specs.declared.Verdict.{Verdict}
 use Rattle.wait_run.proofs.Verdicts.{judged_more}
 use Rattle.wait_run.specs.Reports.{goal_at, verdict_on}
 

@@ -1,6 +1,6 @@
 -- A wait, look by look.
 use Rattle.std.proofs.Common.{◌≡◌, ◌∙◌, ◌++◌, ◌+◌, ◌<◌, ◌≤◌, ◌⊎◌, ◌&&◌, ◌||◌, inl, inr, sym, Bool, true, false, cond, ℕ, zero, suc, List, [], ◌∷◌, Option, Some, None, length, map, take, slice_get, refl, ap, subst, arith}
-use Rattle.std.specs.Prelude.{filter_map, find, min, nat_le, nat_lt}
+use Rattle.std.specs.Prelude.{filter_map, find, nat_le, nat_lt}
 use Rattle.std.specs.List.{cons_option}
 use Rattle.std.specs.Option.{is_none, is_some, option_map, unwrap_or}
 use Rattle.std.proofs.lemmas.Bool.{cases_lt, le-leb, le-ltb, lt-leb, lt-ltb}
@@ -21,10 +21,10 @@ use Rattle.run_model.specs.Conditions.{judge, report_of}
 use Rattle.run_model.specs.Numbers.{numbers_from, places}
 use Rattle.wait_run.specs.Asking.{IsWait}
 use Rattle.wait_run.specs.Ends.{fails_goal, last_refused, refused_by}
-use Rattle.wait_run.specs.Goals.{AreGoals, failing_report, goal_row, is_settled_now, met_now, reported_on}
-use Rattle.wait_run.specs.Looks.{absent, look, looks, owns, requests, rows_by, rows_in}
+use Rattle.wait_run.specs.Goals.{AreGoals, goal_row, is_settled_now, met_now, reported_on}
+use Rattle.wait_run.specs.Looks.{absent, look, looks, owns, requests, rows_by}
 use Rattle.wait_run.specs.Reports.{all_met, goal_at, has_ended, is_refused, is_settled, lacks_one, met_in, reported, said_in, some_failed, verdict_on}
-use Rattle.wait_run.specs.Ways.{EndsBy, IsRefusedBy, Way, looks_of}
+use Rattle.wait_run.specs.Ways.{EndsBy, Way, looks_of}
 use Rattle.wait_run.specs.declared.goals.Goals.{Goals}
 use Rattle.wait_run.specs.declared.refusal.WaitRefusal.{WaitRefusal}
 use Rattle.wait_run.proofs.Making.{makes_append}

@@ -1,6 +1,6 @@
 -- What a wait keeps of its slots while it looks at them.
 use Rattle.std.specs.Prelude.{◌≡◌, ℕ, ◌<◌, ◌≤◌, ◌+◌, ◌-◌, ◌^◌, ◌||◌, ◌==◌, Bool, not, find, List, [], ◌∷◌, ◌++◌, Option, Some, None, Result, Ok, Err, if◌then◌else◌, filter, length, slice_get, slice_set}
-use Rattle.std.specs.Option.{is_some, is_none, option_map, unwrap_or}
+use Rattle.std.specs.Option.{is_some, is_none, option_map}
 use Rattle.engine_types.specs.declared.Condition.{Condition}
 use Rattle.engine_types.specs.declared.Declared.{Declared}
 use Rattle.engine_types.specs.declared.Listed.{Listed}

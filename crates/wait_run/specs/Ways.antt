@@ -1,5 +1,5 @@
 -- How far a wait has come with its hand, and how it ends.
-use Rattle.std.specs.Prelude.{◌≡◌, ◌⊎◌, ℕ, ◌<◌, Bool, false, true, find, List, [], ◌∷◌, Option, Some, None, Result, Ok, Err, length, map, take}
+use Rattle.std.specs.Prelude.{◌≡◌, ◌⊎◌, ℕ, ◌<◌, false, true, find, List, [], ◌∷◌, Some, None, Result, Ok, Err, length, map, take}
 use Rattle.std.specs.Option.{is_some, option_map}
 use Rattle.engine_types.specs.declared.Declared.{Declared}
 use Rattle.engine_types.specs.declared.Exchange.{Exchange}

@@ -1,5 +1,5 @@
 -- One slot more is looked at.
-use Rattle.std.proofs.Common.{◌≡◌, [], inl, arith}
+use Rattle.std.proofs.Common.{[], inl, arith}
 use Rattle.std.proofs.lemmas.Result.{err_from_is_err_and}
 use Rattle.wait_run.proofs.Looks.{slot_next, slot_there, slots_done}
 use Rattle.wait_run.proofs.Ways.{way_short}

@@ -1,5 +1,5 @@
 -- The request is written whole, or a part of it, or none was made.
-use Rattle.std.proofs.Common.{◌≡◌, ◌≤◌, ◌<◌, ◌∙◌, ℕ, List, ap, inl, inr, length, refl, subst, take, arith}
+use Rattle.std.proofs.Common.{◌≡◌, ◌<◌, ◌∙◌, ℕ, List, ap, inl, inr, length, refl, subst, take, arith}
 use Rattle.std.proofs.lemmas.Result.{err_from_is_err_and}
 use Rattle.http_request.specs.Events.{events_request}
 use Rattle.outside_api.specs.Pipes.{ToldBy, after_write}

@@ -1,5 +1,5 @@
 -- Each slot was looked at, and the watch went on; or a look ended the wait.
-use Rattle.std.proofs.Common.{◌≤◌, ℕ, [], arith}
+use Rattle.std.proofs.Common.{[], arith}
 use Rattle.std.proofs.lemmas.Result.{err_from_is_err_and}
 use Rattle.outside_api.specs.Standings.{standing}
 use Rattle.wait_run.proofs.Streaming.{reads_streams, watch_ended}

@@ -1,5 +1,5 @@
 -- The stream was opened, or its head ended the wait.
-use Rattle.std.proofs.Common.{◌≤◌, ℕ, arith}
+use Rattle.std.proofs.Common.{arith}
 use Rattle.outside_api.specs.Standings.{standing}
 use Rattle.wait_run.proofs.Ending.{unopened_so}
 use Rattle.wait_run.proofs.Opening.{opened_reads}

@@ -1,5 +1,5 @@
 -- The containers were listed and looked at, or the listing ended the wait.
-use Rattle.std.proofs.Common.{◌≤◌, ℕ, arith}
+use Rattle.std.proofs.Common.{arith}
 use Rattle.outside_api.specs.Standings.{standing}
 use Rattle.wait_run.proofs.Ending.{listing_so, watches_so}
 use Rattle.wait_run.proofs.wait.wait_open.Goals as goal

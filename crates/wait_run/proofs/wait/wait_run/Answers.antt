@@ -1,5 +1,5 @@
 -- The request was written, and the wait went on; or a part of it was.
-use Rattle.std.proofs.Common.{◌≤◌, ℕ, arith}
+use Rattle.std.proofs.Common.{arith}
 use Rattle.outside_api.specs.Standings.{standing}
 use Rattle.wait_run.proofs.Ending.{asked_so, unasked_so}
 use Rattle.wait_run.proofs.wait.wait_run.Goals as goal

@@ -1,5 +1,5 @@
 -- The next piece of a stream, as the body's reader and the events' reader answer.
-use Rattle.std.proofs.Common.{◌≡◌, ◌++◌, ◌<◌, ◌≤◌, ◌^◌, ℕ, List, Ok, Err, true, false, length, sym, subst, rules, arith}
+use Rattle.std.proofs.Common.{◌≡◌, ◌++◌, ◌<◌, ◌^◌, Ok, Err, true, false, length, sym, subst, rules, arith}
 use Rattle.event_watch.specs.Reading.{FeedsBy}
 use Rattle.http_response.specs.declared.ResponseEnd.{ResponseEnd}
 use Rattle.tree_base.specs.Limits.{most_stream_bytes}

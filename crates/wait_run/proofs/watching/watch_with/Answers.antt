@@ -1,5 +1,5 @@
 -- A piece more is read, and its events are looked behind; or the watch ends.
-use Rattle.std.proofs.Common.{◌≡◌, ◌∙◌, sym, arith}
+use Rattle.std.proofs.Common.{◌∙◌, sym, arith}
 use Rattle.std.proofs.lemmas.Result.{err_from_is_err_and}
 use Rattle.outside_api.specs.Standings.{standing}
 use Rattle.wait_run.proofs.Pieces.{watch_fed, watch_looked, watch_more, watch_over}
