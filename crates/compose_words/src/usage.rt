@@ -22,8 +22,7 @@ Options, before or behind the command; a value is the next word, or stands behin
 const TAIL: &str = "
 compose --help and compose --version print this text and the version.
 
-Built so far: config, up and down, with all their options. The other commands are read, and then
-refused by the line `not built: words`.
+A command that isn't built yet is read, and then refused by the line `not built: words`.
 
 Exit statuses:
   0  done
