@@ -7,7 +7,6 @@
 //! the status is that of the refusal whose line is written. The process itself tells nothing: there they say nothing.
 #![tactic(auto)]
 
-mod again;
 mod directory;
 mod ends;
 mod given;

@@ -1,6 +1,5 @@
 ghost use Rattle.std.specs.Prelude.{◌<◌, ◌^◌, length};
 
-use crate::again::{LoadedAgain, load_again, project_again, services_in, unset_names};
 use crate::hinting::exchanges_of;
 use crate::progress::progress_here;
 use crate::reaching::Asked;
@@ -9,6 +8,7 @@ use compose_cli::Ended;
 use compose_words::{Command, Options, read_words};
 use engine_plugs::MainHand;
 use kept_files::Kept;
+use load_again::{LoadedAgain, load_again, project_again, services_in, unset_names};
 use notes::{
     attribute_notes, looks_for_file, orphan_note, run_note, say_note, unread_note, unset_note,
 };
@@ -60,6 +60,8 @@ pub(crate) fn say_notes_on<R, G: Sink>(
     if let Some(mut again) = loaded_again(host.alloc(), asked, &options, ended, kept) {
         say_unset(host.alloc(), &mut again, err);
         say_on_project(host, asked, &options, &again, ended, err);
+        // By calls, here and below: else all drops would be proved at each way out.
+        drop(again);
     }
     say_if_any(
         host.alloc(),
@@ -86,7 +88,7 @@ fn loaded_again<R>(
         drop(kept);
         return None;
     }
-    load_again(alloc, asked, options, kept?)
+    load_again(alloc, asked.variables, asked.directory, options, kept?)
 }
 
 /// Whether a call that was refused with this, if anything, has loaded its files.
@@ -137,6 +139,7 @@ fn say_on_project<R, G: Sink>(
         let note = note_on_volumes(host, asked, &options.command, &project);
         say_if_any(alloc, note, err);
     }
+    drop(project);
 }
 
 /// The note on orphans that an `up` left.

@@ -1,83 +1,16 @@
-use crate::reaching::Asked;
-use active_services::profiles_given;
-use compose_words::Options;
+use crate::again::LoadedAgain;
 use dotenv::{EnvRefusal, read_env};
-use include_extends::{LoadRequest, Loaded, load};
-use kept_files::Kept;
-use normal_form::project_of;
-use outside_files::{FileAnswer, Files, MemoryFiles};
+use outside_files::{FileAnswer, Files};
 use std::alloc::Global;
-use tree_base::{Env, List, Map, Memory, Text, TextMap, Tree, TryCopy};
-use typed_project::Project;
+use tree_base::{Env, List, Memory, Text, TextMap, Tree, TryCopy};
 use unset_variables::put_unset;
 use yaml_lines::scan;
-
-/// What a call loaded, as its kept files give it once more.
-#[derive(Drop)]
-pub(crate) struct LoadedAgain {
-    pub(crate) loaded: Loaded,
-    files: MemoryFiles,
-}
-
-/// Loads once more what options ask for, of the files that were kept. None where that is refused.
-pub(crate) fn load_again(
-    alloc: Global,
-    asked: Asked<'_>,
-    options: &Options,
-    kept: Kept,
-) -> Option<LoadedAgain> {
-    let Ok(request) = request_for(alloc, asked, options) else {
-        return None;
-    };
-    let mut files = MemoryFiles::new(alloc, kept, List::new(alloc));
-    match load(alloc, &mut files, &request) {
-        Ok(loaded) => Some(LoadedAgain { loaded, files }),
-        Err(_) => None,
-    }
-}
-
-/// What options, variables and the working directory ask to be loaded.
-fn request_for(alloc: Global, asked: Asked<'_>, options: &Options) -> Result<LoadRequest, Memory> {
-    Ok(LoadRequest {
-        files: options.files.copy(alloc)?,
-        project_directory: options.directory.copy(alloc)?,
-        env_files: options.env_files.copy(alloc)?,
-        env: asked.variables.copy(alloc)?,
-        cwd: asked.directory.copy(alloc)?,
-    })
-}
-
-/// The project of what was loaded. None where it is refused.
-pub(crate) fn project_again(alloc: Global, options: &Options, loaded: &Loaded) -> Option<Project> {
-    let Ok(profiles) = profiles_given(alloc, &options.profiles, &loaded.env) else {
-        return None;
-    };
-    match project_of(alloc, options.project.as_ref(), &profiles, loaded) {
-        Ok(project) => Some(project),
-        Err(_) => None,
-    }
-}
-
-/// The services of a tree under their keys, those that no profile enables among them.
-pub(crate) fn services_in(tree: &Tree) -> Option<&Map> {
-    match tree {
-        Tree::Map(top) => entries_of(top.get().find("services")?),
-        _ => None,
-    }
-}
-
-fn entries_of(tree: &Tree) -> Option<&Map> {
-    match tree {
-        Tree::Map(entries) => Some(entries.get()),
-        _ => None,
-    }
-}
 
 /// The names of the variables that Compose files take though they are unset and nothing stands in for them, each once.
 ///
 /// Those that the call names are read under the variables of the load. Another one, which they extend or include, may see
 /// more: those of env files. So of these only what no env file of the load sets counts.
-pub(crate) fn unset_names(alloc: Global, again: &mut LoadedAgain) -> Result<TextMap<bool>, Memory> {
+pub fn unset_names(alloc: Global, again: &mut LoadedAgain) -> Result<TextMap<bool>, Memory> {
     let mut names = TextMap::new(alloc);
     let own = again.loaded.files.copy(alloc)?;
     for path in own.as_slice() {
