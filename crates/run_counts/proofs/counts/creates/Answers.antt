@@ -1,0 +1,13 @@
+use Rattle.std.proofs.Common.{◌∙◌, rules, tests}
+use Rattle.std.proofs.lemmas.Iterator.{YieldsList-from_slice}
+use Rattle.std.proofs.lemmas.Iterator.Consumers.{YieldsList-from_filter, count_from_yields_List}
+use Rattle.std.proofs.lemmas.List.Sums.{length-filter}
+use Rattle.engine_types.specs.declared.Exchange.{Exchange}
+use Rattle.run_counts.specs.Counts.{is_create}
+use Rattle.run_counts.proofs.counts.creates.Goals as goal
+
+pub returns : goal.returns
+returns c =
+    count_from_yields_List c.filter.result _ c.count.ensures.ran
+    (YieldsList-from_filter _ (λ (exchange : Exchange). is_create exchange.request) (YieldsList-from_slice c.args.log.now cc) c.filter.ensures.closure (λ x b q k. search (rules, tests)))
+    ∙ length-filter (λ (exchange : Exchange). is_create exchange.request) c.args.log.now
