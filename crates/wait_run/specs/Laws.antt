@@ -16,13 +16,14 @@ GoalsAreMetOnce = (declared : Declared) (said : List (ℕ × Report)) (i j s : �
     → slice_get (met_in declared said) i ≡ Some s → slice_get (met_in declared said) j ≡ Some s
     → i ≡ j
 
--- a wait that nothing refuses has met all goals, and says so of each slot; and its status is 0 only there
+-- a wait has met all goals, and says so of each slot
 pub record MeetsAll (declared : Declared) (body : List ℕ) (made : List Exchange) (waited : Waited)
     : Type 0 where
   pub met : all_met declared (said_in declared body made) ≡ true
   pub told : (s : ℕ) → s < length declared.slots
       → (i : ℕ) × (slice_get waited.met i ≡ Some s)
 
+-- a wait whose status is 0 has
 abbrev pub GoodEndsMeetAll : Type 0
 GoodEndsMeetAll = (declared : Declared) (body : List ℕ) (made : List Exchange)
     (end : Option StreamFault) (waited : Waited) → Comes declared body made end waited
