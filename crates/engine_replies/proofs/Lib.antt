@@ -1,0 +1,11 @@
+mod Back
+mod Kept
+mod Listing
+mod Ordered
+mod Plain
+mod Pulling
+mod ReadBack
+mod ReplyValues
+mod Statuses
+mod Tables
+mod Whole
